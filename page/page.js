@@ -347,13 +347,21 @@ function tag(name, attributes, ...content) {
 const label = (attributes, text) => tag("text", attributes, escaped(text));
 const title = (text) => tag("title", {}, escaped(text));
 const colourOf = (thread) => `thread-${thread % 8}`;
-const chipOf = (thread) => tag("span", { class: `chip ${colourOf(thread)}` }, `t${thread}`);
+const letterOf = (thread) => (thread < 26 ? String.fromCharCode(65 + Number(thread)) : String(thread));
+const chipOf = (thread) => tag("span", { class: `who ${colourOf(thread)}` }, letterOf(thread));
+const holderOf = (lock) => letterOf(Number(lock.slice(1)));
 const keyText = (key) => String(key).replace("-inf", "−∞").replace("+inf", "+∞");
 const said = (value) => (value.endsWith("*") ? `${value.slice(0, -1)}, marked` : keyText(value));
 const counted = (count, word) => `${count} ${word}${count === 1 ? "" : "s"}`;
 const callText = (call) => `${call.operation}(${call.key})`;
 const openReply = "true"; // an open call that stands in the order has changed the set
-return { escaped, tag, label, title, colourOf, chipOf, keyText, said, counted, callText, openReply };
+
+function inLetters(text) {
+  const letters = (numbers) => numbers.replace(/\d+/g, (number) => letterOf(Number(number)));
+  const some = text.replace(/\b(?:the )?threads (\d+(?:, \d+)*(?:,? and \d+)?)/gi, (_, numbers) => letters(numbers));
+  return some.replace(/\bthread (\d+)/gi, (_, number) => letterOf(Number(number))).replace(/\bt(\d+)\b/g, (_, number) => letterOf(Number(number)));
+}
+return { escaped, tag, label, title, colourOf, letterOf, chipOf, holderOf, keyText, said, counted, callText, openReply, inLetters };
 })();
 
 // run/trace.js
@@ -665,7 +673,7 @@ return { ROW_HEIGHT, widthOf, placeLabels, SIGNS_IN_WORDS, signOf, labelWidth };
 
 // draw/history.js
 const $draw_history = (() => {
-const { callText, colourOf, label, tag, title } = $run_markup;
+const { callText, colourOf, label, letterOf, tag, title } = $run_markup;
 const { labelWidth, placeLabels, ROW_HEIGHT, signOf, SIGNS_IN_WORDS } = $draw_labels;
 const HISTORY_LEFT = 50;
 const HISTORY_RIGHT = 16;
@@ -733,13 +741,11 @@ function scaleOf(trace, count, width, hides = false) {
   };
 }
 
-const heightOfCalls = (trace, width) => scaleOf(trace, 0, width).height;
-
 const isReached = (call, count) => call.at <= count && (call.changes || (call.ended !== null && call.ended <= count));
 
 function drawLane(scale, thread) {
   const y = scale.y(thread);
-  const badge = tag("rect", { x: 2, y: y - 10, width: 38, height: 20, rx: 4 }) + label({ x: 21, y: y + 5 }, `t${thread}`);
+  const badge = tag("rect", { x: 2, y: y - 10, width: 38, height: 20, rx: 4 }) + label({ x: 21, y: y + 5 }, letterOf(thread));
   return (
     tag("line", { class: "lane", x1: HISTORY_LEFT - 6, x2: scale.edge, y1: y, y2: y }) +
     tag("g", { class: `badge ${colourOf(thread)}` }, badge)
@@ -749,7 +755,7 @@ function drawLane(scale, thread) {
 function callInWords(call, now) {
   const isOpen = call.ended === null || call.ended > now;
   const events = isOpen && now < Infinity ? `from event ${call.begun} on` : `events ${call.begun} to ${call.ended ?? "the end"}`;
-  return `call ${call.id}: t${call.thread} ${callText(call)} ${isOpen ? "pending" : call.reply}, ${events}`;
+  return `call ${call.id}: ${letterOf(call.thread)} ${callText(call)} ${isOpen ? "pending" : call.reply}, ${events}`;
 }
 
 function drawBar(call, scale) {
@@ -820,7 +826,7 @@ function drawCalls(trace, scale) {
   const signs = scale.areWhole ? "" : label({ class: "note", x: 2, y: height - 4 }, SIGNS_IN_WORDS);
   return tag("svg", frame, ...lanes, drawCursor(scale, height, scale.y(0) - scale.bar / 2 - 2), ...stems, ...bars, ...points, signs);
 }
-return { HISTORY_LEFT, scaleOf, heightOfCalls, isReached, drawCursor, drawCalls };
+return { HISTORY_LEFT, scaleOf, isReached, drawCursor, drawCalls };
 })();
 
 // draw/contents.js
@@ -857,7 +863,7 @@ function drawWindow(scale, total, x) {
 
 function nameOfContents({ lacks }) {
   if (lacks === null) return label({ class: "name", x: 6, y: 17 }, "set");
-  const lines = ["set by", "points"].map((words, line) => label({ class: "name", x: 2, y: 10 + 12 * line }, words));
+  const lines = ["set as", "told"].map((words, line) => label({ class: "name", x: 2, y: 10 + 12 * line }, words));
   return tag("g", {}, title(`${BY_POINTS}; the list may have other keys`), ...lines);
 }
 const BY_POINTS = "the set by the linearization points of the calls";
@@ -894,560 +900,709 @@ function drawOrder(trace, count, hides = false) {
 return { drawContents, drawOrder };
 })();
 
-// run/outcomes.js
-const $run_outcomes = (() => {
-const { LISTS } = $made_rows;
-const { chipOf, keyText, said } = $run_markup;
-const { keyNumber, keysInChain, linkTarget, ownerOf } = $run_state;
-const { firstOpeningNode } = $run_trace;
-const isLock = (word) => word.endsWith(".lock");
-const mono = (text) => `<b class="mono">${text}</b>`;
-const isDone = (event) => event.deed === "store" || (event.deed === "exchange" && event.saw === event.from);
-const isFailed = (event) => event.deed === "exchange" && event.saw !== event.from;
-const ownerIn = (word) => word.split(".")[0];
-const isLinkOf = (event) => event.word?.endsWith(".link");
-const lockNames = (words) => `the lock${words.length > 1 ? "s" : ""} of ${words.map(ownerIn).join(" and ")}`;
-const setsMark = (event) => isLinkOf(event) && event.to?.endsWith("*") === true;
+// made/code.js
+const $made_code = (() => {
+// The proved loops of the lists as they stand in crates/, with the rows of its list's table that each line makes, by page/build: for
+// show alone.
 
-function marksOf(trace) {
-  if (trace.marks !== undefined) return trace.marks;
-  trace.marks = new Map();
-  for (const event of trace.starred.map((number) => trace.event(number))) {
-    if (setsMark(event) && isDone(event)) trace.marks.set(ownerIn(event.word), event);
-  }
-  return trace.marks;
-}
-
-function wholeName({ trace, event }, name) {
-  const whose = isOpeningNode(trace, name) ? "the node of an opening key" : `${chipOf(ownerOf(trace, name))}'s node`;
-  const mark = marksOf(trace).get(name);
-  if (mark === undefined || mark.number > event.number) return `${name}</b>, ${whose}`;
-  return `${name}</b>, ${whose}, which ${chipOf(mark.thread)} marked at event ${mark.number}`;
-}
-
-const hasInChain = (state, key) => keysInChain(state).includes(Number(key));
-
-const OUTCOMES = {
-  change({ trace, state, event, held, hadKey }) {
-    const { put, took } = event;
-    const had = trace.lacks !== null && hadKey;
-    const hasNow = (key) => trace.lacks !== null && hasInChain(state, key);
-    if (put !== undefined) {
-      if (had) return `<b>This should add ${put} to the set, but ${put} is in it already.</b>`;
-      if (trace.lacks === null || hasNow(put)) return `<b>This adds ${put} to the set</b>, in slot ${held.used} of ${trace.quota}.`;
-      return `<b>This should add ${put} to the set, but its node is not in the chain: ${put} is lost.</b>`;
+const CODE = {
+  "crates/lset_loops/src/coarse.rt": [
+    { name: "walk", first: 15, steps: [{"line": 22, "rows": [2]}, {"line": 24, "rows": [3]}, {"line": 28, "rows": [4]}], calls: [], text: `
+/// Walks from the head to the first key that is not below that of the call.
+fn walk<P: Pause, N: Rounds>(caller: &Caller<CoarseList, P>, place: &mut TableSeat) -> Option<Found>
+    requires { AtHead caller.now.origin caller.now.slots place.old }
+    ensures { IfSome result (λ f. StopsAt caller.now.origin caller.now.slots f place.new) }
+{
+    let key = caller.key;
+    let mut pred = Node::head();
+    let mut curr = Node::behind(caller.load_link(place, pred)); // row 2
+    for round in 0..N::MOST {
+        let word = caller.load_key(place, curr); // row 3
+        if word >= key {
+            return Some(Found { pred, curr, word });
+        }
+        let link = caller.load_link(place, curr); // row 4
+        pred = curr;
+        curr = Node::behind(link);
     }
-    if (took === undefined) return "";
-    if (trace.lacks !== null && !had) return `<b>This should remove ${took} from the set, but ${took} is not in it any more.</b>`;
-    return hasNow(took) ? `<b>This should remove ${took} from the set, but the chain still has it.</b>` : `<b>This removes ${took} from the set.</b>`;
-  },
-
-  mark({ state, event }) {
-    if (!setsMark(event) || !isDone(event)) return "";
-    const owner = ownerIn(event.word);
-    return state.chain().includes(owner) ? `${owner} is still in the chain.` : `${owner} is not in the chain any more.`;
-  },
-
-  unlink(moment) {
-    const { state, event, before, wasInChain } = moment;
-    const gone = before.curr;
-    if (!wasInChain || !isLinkOf(event) || !isDone(event) || gone === "tail" || gone === ownerIn(event.word)) return "";
-    if (linkTarget(state.nodes[gone].link) !== event.to || state.chain().includes(gone)) return "";
-    return `<b>This unlinks ${wholeName(moment, gone)}.`;
-  },
-
-  leftInChain({ state, event, before }) {
-    if (!isFailed(event) || event.answer === undefined) return "";
-    if (!state.chain().includes(before.curr)) return `${before.curr} is not in the chain any more.`;
-    return `<b>${before.curr} stays in the chain, marked,</b> for a later walk to unlink.`;
-  },
-
-  validation({ event, held, row }) {
-    if (row?.invalid === undefined || held.pc !== row.invalid || held.reply !== "none") return "";
-    const owner = ownerIn(event.word);
-    let reason = `${owner} leads to ${said(event.saw)} now, not to ${held.curr}`;
-    if (event.saw.endsWith("*")) reason = `${owner} is marked`;
-    if (event.word.endsWith(".key")) reason = `the second walk is past the key of ${held.pred} and has not found it`;
-    return `<b>The validation fails:</b> ${reason}. It will unlock both nodes and start again.`;
-  },
-
-  valid({ held, row }) {
-    if (row?.invalid === undefined || !row.then.includes("decide on")) return "";
-    return held.pc === row.invalid && held.reply === "none" ? "" : "The validation succeeds.";
-  },
-
-  again({ event, held, row }) {
-    if (row?.again === undefined || held.pc !== row.again || event.answer !== undefined) return "";
-    const reason = event.saw?.endsWith("*") && event.deed === "load" ? `${ownerIn(event.word)} is marked: it` : "It";
-    return `<b>${reason} starts its walk again${/with the same slot/.test(row.book) ? ", with the same slot" : ""}.</b>`;
-  },
-
-  markMet({ trace, state, event, held, row }) {
-    if (event.deed !== "load" || !event.saw.endsWith("*") || [row?.invalid, row?.again].includes(held.pc)) return "";
-    const owner = ownerIn(event.word);
-    const where = state.chain().includes(owner) ? "and still" : "and no longer";
-    if (event.answer !== undefined) return `<b>${owner} is marked</b>, ${where} in the chain.`;
-    if (event.changes.curr !== undefined) return `${owner} is marked: the walk passes over it.`;
-    const next = LISTS[trace.kind].rows[held.pc]?.step ?? "";
-    if (next.startsWith("exchange pred.link")) return `<b>${owner} is marked:</b> the next step tries to unlink it.`;
-    if (!next.startsWith("exchange curr.link")) return "";
-    return `<b>${owner} is marked already:</b> the next step will fail.`;
-  },
-
-  walk({ trace, event, held, row }) {
-    if (event.deed !== "load" || row === undefined) return "";
-    if (row.below !== undefined) return walkAtKey(event, held);
-    if (row.then.includes("node = next(s)")) return `The second walk reaches ${held.node}.`;
-    if (row.then.includes("node is pred")) return secondWalkAtKey(held, row);
-    if (!row.then.includes("curr = next(s)")) return "";
-    const opening = isOpeningNode(trace, held.curr) ? ", the node of an opening key" : "";
-    return `The walk reaches ${held.curr}${opening}.`;
-  },
-
-  decision({ trace, event, held, before }) {
-    const { adds, removes } = LISTS[trace.kind];
-    if (event.answer !== undefined || held.reply !== "none" || before.pc === held.pc) return "";
-    const { operation, key } = held.call;
-    const found = event.word?.endsWith(".key") ? "The" : `${held.curr} ${operation === "add" ? "does not have" : "has"} the key ${key}: the`;
-    if (operation === "add" && held.pc === adds) return `${found} add goes ahead.`;
-    return operation === "remove" && held.pc === removes ? `${found} remove goes ahead.` : "";
-  },
-
-  reply({ trace, event }) {
-    const { reply } = event.changes;
-    if (reply === undefined || reply === "none" || event.answer !== undefined) return "";
-    const slots = { 0: "it has no slot", 1: "its one slot is used" }[trace.quota] ?? `its ${trace.quota} slots are used`;
-    const used = reply === "full" ? `: ${slots}` : "";
-    return `<b>It will answer ${reply}</b>${used}.`;
-  },
-
-  locks({ state, event }) {
-    if (!event.word || !isLock(event.word) || !isDone(event) || event.answer !== undefined) return "";
-    const own = state.locks()[`t${event.thread}`];
-    if (own === undefined) return "It holds no lock now.";
-    return event.deed === "exchange" && own.length === 1 ? "" : `It holds ${lockNames(own)}.`;
-  },
+    None
+}` },
+    { name: "act", first: 35, steps: [{"line": 46, "rows": [5, 6, 7]}, {"line": 50, "rows": [8]}, {"line": 51, "rows": [9]}], calls: [], text: `
+/// Does what the call does at the key that was found.
+fn act<P: Pause>(
+    caller: &Caller<CoarseList, P>,
+    place: &mut TableSeat,
+    found: Found,
+) -> (OwnSlots, Reply)
+    requires { StopsAt caller.now.origin caller.now.slots found place.old }
+    ensures { Leaves caller.now.origin result place.new }
+{
+    match decide(caller.call, found.word, caller.slots) {
+        Decision::PutIn => {
+            caller.put_in(place, found); // rows 5, 6, 7
+            (one_more(caller.slots), Reply::True)
+        }
+        Decision::TakeOut => {
+            let link = caller.load_link(place, found.curr); // row 8
+            caller.store_link(place, found.pred, Link::To(Node::behind(link))); // row 9
+            (caller.slots, Reply::True)
+        }
+        Decision::Answer(reply) => (caller.slots, reply),
+    }
+}` },
+    { name: "coarse_within", first: 58, steps: [{"line": 71, "rows": [1]}, {"line": 74, "rows": [10]}], calls: [[72, "walk"], [73, "act"]], text: `
+/// Makes a whole call: it takes the lock, walks to its key, acts there, and gives the lock back. (Herlihy and Shavit's
+/// coarse-grained list.) \`None\` where a loop of it has made \`N::MOST\` rounds.
+pub fn coarse_within<P: Pause, N: Rounds>(
+    table: &Words<CoarseList>,
+    place: &mut TableSeat,
+    slots: OwnSlots,
+    call: Call,
+    pause: &P,
+) -> Option<(OwnSlots, Reply)>
+    requires { MayCall coarse table.now.table_id table.now.key slots place.old }
+    ensures { IfSome result (λ r. HasCalled coarse call place.old r place.new) }
+{
+    let caller = Caller::new(table, place, slots, call, pause);
+    caller.begin_locked::<N>(place, LOCK)?; // row 1
+    let found = walk::<P, N>(&caller, place)?;
+    let answer = act(&caller, place, found);
+    caller.release_last(place, LOCK); // row 10
+    Some(answer)
+}` },
+  ],
+  "crates/lset_loops/src/fine.rt": [
+    { name: "walk", first: 16, steps: [{"line": 23, "rows": [2]}, {"line": 25, "rows": [3]}, {"line": 26, "rows": [4]}, {"line": 30, "rows": [5]}, {"line": 31, "rows": [6]}], calls: [], text: `
+/// Walks hand over hand from the head, which is locked, to the first key that is not below that of the call.
+fn walk<P: Pause, N: Rounds>(caller: &Caller<FineList, P>, place: &mut TableSeat) -> Option<Found>
+    requires { AtHead caller.now.origin caller.now.slots place.old }
+    ensures { IfSome result (λ f. StopsAt caller.now.origin caller.now.slots f place.new) }
+{
+    let key = caller.key;
+    let mut pred = Node::head();
+    let mut curr = Node::behind(caller.load_link(place, pred)); // row 2
+    for round in 0..N::MOST {
+        caller.lock::<N>(place, curr)?; // row 3
+        let word = caller.load_key(place, curr); // row 4
+        if word >= key {
+            return Some(Found { pred, curr, word });
+        }
+        caller.unlock(place, pred); // row 5
+        let link = caller.load_link(place, curr); // row 6
+        pred = curr;
+        curr = Node::behind(link);
+    }
+    None
+}` },
+    { name: "act", first: 38, steps: [{"line": 49, "rows": [7, 8, 9]}, {"line": 53, "rows": [10]}, {"line": 54, "rows": [11]}], calls: [], text: `
+/// Does what the call does at the key that was found, between two nodes that it has locked.
+fn act<P: Pause>(
+    caller: &Caller<FineList, P>,
+    place: &mut TableSeat,
+    found: Found,
+) -> (OwnSlots, Reply)
+    requires { StopsAt caller.now.origin caller.now.slots found place.old }
+    ensures { Leaves caller.now.origin found result place.new }
+{
+    match decide(caller.call, found.word, caller.slots) {
+        Decision::PutIn => {
+            caller.put_in(place, found); // rows 7, 8, 9
+            (one_more(caller.slots), Reply::True)
+        }
+        Decision::TakeOut => {
+            let link = caller.load_link(place, found.curr); // row 10
+            caller.store_link(place, found.pred, Link::To(Node::behind(link))); // row 11
+            (caller.slots, Reply::True)
+        }
+        Decision::Answer(reply) => (caller.slots, reply),
+    }
+}` },
+    { name: "fine_within", first: 61, steps: [{"line": 74, "rows": [1]}, {"line": 77, "rows": [12]}, {"line": 78, "rows": [13]}], calls: [[75, "walk"], [76, "act"]], text: `
+/// Makes a whole call: it walks to its key, locking each node before it gives up the one behind it, acts there, and gives
+/// both locks back. (Herlihy and Shavit's fine-grained list.) \`None\` where a loop of it has made \`N::MOST\` rounds.
+pub fn fine_within<P: Pause, N: Rounds>(
+    table: &Words<FineList>,
+    place: &mut TableSeat,
+    slots: OwnSlots,
+    call: Call,
+    pause: &P,
+) -> Option<(OwnSlots, Reply)>
+    requires { MayCall fine table.now.table_id table.now.key slots place.old }
+    ensures { IfSome result (λ r. HasCalled fine call place.old r place.new) }
+{
+    let caller = Caller::new(table, place, slots, call, pause);
+    caller.begin_locked::<N>(place, lock_index(HEAD))?; // row 1
+    let found = walk::<P, N>(&caller, place)?;
+    let answer = act(&caller, place, found);
+    caller.unlock(place, found.curr); // row 12
+    caller.unlock_last(place, found.pred); // row 13
+    Some(answer)
+}` },
+  ],
+  "crates/lset_loops/src/optimistic.rt": [
+    { name: "walk", first: 22, steps: [{"line": 37, "rows": [2]}, {"line": 42, "rows": [3]}], calls: [], text: `
+/// Walks from the head, whose link led to \`first\`, to the first key that is not below that of the call.
+#[inline(always)]
+fn walk<P: Pause, N: Rounds>(
+    caller: &Caller<OptimisticList, P>,
+    place: &mut TableSeat,
+    first: Node,
+) -> Option<Stopped>
+    requires { AtKey caller.now.origin caller.now.slots 0 first.number 0 place.old }
+    ensures { IfSome result (λ f. StopsAt caller.now.origin caller.now.slots f place.new) }
+{
+    let key = caller.key;
+    let mut pred = Node::head();
+    let mut before = 0;
+    let mut curr = first;
+    for round in 0..N::MOST {
+        let word = caller.load_key(place, curr); // row 2
+        if word >= key {
+            let found = Found { pred, curr, word };
+            return Some(Stopped { found, before });
+        }
+        let link = caller.load_link(place, curr); // row 3
+        pred = curr;
+        before = word;
+        curr = Node::behind(link);
+    }
+    None
+}` },
+    { name: "reaches", first: 50, steps: [{"line": 68, "rows": [6]}, {"line": 70, "rows": [7]}], calls: [], text: `
+/// Walks a second time from the head, as far as \`pred\`. Answers whether it came there: not where it saw a key above that of
+/// \`pred\`.
+#[inline(always)]
+fn reaches<P: Pause, N: Rounds>(
+    caller: &Caller<OptimisticList, P>,
+    place: &mut TableSeat,
+    stopped: Stopped,
+) -> Option<bool>
+    requires { HasLocked caller.now.origin caller.now.slots stopped place.old }
+    ensures { IfSome result (λ r. HasReached caller.now.origin caller.now.slots stopped.found r place.new) }
+{
+    let pred = stopped.found.pred.number;
+    let before = stopped.before;
+    if pred == HEAD {
+        return Some(true);
+    }
+    let mut node = Node::head();
+    for round in 0..N::MOST {
+        let link = caller.load_link(place, node); // row 6
+        node = Node::behind(link);
+        let word = caller.load_key(place, node); // row 7
+        if word > before {
+            return Some(false);
+        }
+        if node.number == pred {
+            return Some(true);
+        }
+    }
+    None
+}` },
+    { name: "validate", first: 81, steps: [{"line": 94, "rows": [8]}], calls: [[91, "reaches"]], text: `
+/// Whether \`pred\` is still in the list and leads to \`curr\`, both of which are locked.
+fn validate<P: Pause, N: Rounds>(
+    caller: &Caller<OptimisticList, P>,
+    place: &mut TableSeat,
+    stopped: Stopped,
+) -> Option<bool>
+    requires { HasLocked caller.now.origin caller.now.slots stopped place.old }
+    ensures { IfSome result (λ r. HasValidated caller.now.origin caller.now.slots stopped.found r place.new) }
+{
+    let found = stopped.found;
+    if !reaches::<P, N>(caller, place, stopped)? {
+        return Some(false);
+    }
+    let link = caller.load_link(place, found.pred); // row 8
+    if link / 2 != found.curr.number {
+        return Some(false);
+    }
+    Some(true)
+}` },
+    { name: "act", first: 101, steps: [{"line": 112, "rows": [9, 10, 11]}, {"line": 116, "rows": [12]}, {"line": 117, "rows": [13]}], calls: [], text: `
+/// Does what the call does at the key that was found, between two nodes that it has locked.
+fn act<P: Pause>(
+    caller: &Caller<OptimisticList, P>,
+    place: &mut TableSeat,
+    found: Found,
+) -> (OwnSlots, Reply)
+    requires { AreNeighbours caller.now.origin caller.now.slots found place.old }
+    ensures { Leaves caller.now.origin found result place.new }
+{
+    match decide(caller.call, found.word, caller.slots) {
+        Decision::PutIn => {
+            caller.put_in(place, found); // rows 9, 10, 11
+            (one_more(caller.slots), Reply::True)
+        }
+        Decision::TakeOut => {
+            let link = caller.load_link(place, found.curr); // row 12
+            caller.store_link(place, found.pred, Link::To(Node::behind(link))); // row 13
+            (caller.slots, Reply::True)
+        }
+        Decision::Answer(reply) => (caller.slots, reply),
+    }
+}` },
+    { name: "optimistic_within", first: 124, steps: [{"line": 138, "rows": [1], "begins": true, "answers": false}, {"line": 142, "rows": [4]}, {"line": 143, "rows": [5]}, {"line": 146, "rows": [14], "begins": false, "answers": true}, {"line": 147, "rows": [15], "begins": false, "answers": true}, {"line": 150, "rows": [14], "begins": false, "answers": false}, {"line": 151, "rows": [15], "begins": false, "answers": false}, {"line": 152, "rows": [1], "begins": false, "answers": false}], calls: [[140, "walk"], [144, "validate"], [145, "act"]], text: `
+/// Makes a whole call: it walks to its key without a lock, locks the two nodes there, looks by a second walk whether they
+/// are still neighbours in the list, and acts, or gives them back and starts over. (Herlihy and Shavit's optimistic list.)
+/// \`None\` where a loop of it has made \`N::MOST\` rounds.
+pub fn optimistic_within<P: Pause, N: Rounds>(
+    table: &Words<OptimisticList>,
+    place: &mut TableSeat,
+    slots: OwnSlots,
+    call: Call,
+    pause: &P,
+) -> Option<(OwnSlots, Reply)>
+    requires { MayCall optimistic table.now.table_id table.now.key slots place.old }
+    ensures { IfSome result (λ r. HasCalled optimistic call place.old r place.new) }
+{
+    let caller = Caller::new(table, place, slots, call, pause);
+    let mut link = caller.begin_at_head(place); // row 1
+    for round in 0..N::MOST {
+        let stopped = walk::<P, N>(&caller, place, Node::behind(link))?;
+        let found = stopped.found;
+        caller.lock::<N>(place, found.pred)?; // row 4
+        caller.lock::<N>(place, found.curr)?; // row 5
+        if validate::<P, N>(&caller, place, stopped)? {
+            let answer = act(&caller, place, found);
+            caller.unlock(place, found.pred); // row 14
+            caller.unlock_last(place, found.curr); // row 15
+            return Some(answer);
+        }
+        caller.unlock(place, found.pred); // row 14
+        caller.unlock(place, found.curr); // row 15
+        link = caller.load_link(place, Node::head()); // row 1
+    }
+    None
+}` },
+  ],
+  "crates/lset_loops/src/lazy.rt": [
+    { name: "walk", first: 17, steps: [{"line": 31, "rows": [2]}, {"line": 35, "rows": [3]}], calls: [], text: `
+/// Walks from the head, whose link led to \`first\`, to the first key that is not below that of the call.
+#[inline(always)]
+fn walk<P: Pause, N: Rounds>(
+    caller: &Caller<LazyList, P>,
+    place: &mut TableSeat,
+    first: Node,
+) -> Option<Found>
+    requires { AtKey caller.now.origin caller.now.slots 0 first.number place.old }
+    ensures { IfSome result (λ f. StopsAt caller.now.origin caller.now.slots f place.new) }
+{
+    let key = caller.key;
+    let mut pred = Node::head();
+    let mut curr = first;
+    for round in 0..N::MOST {
+        let word = caller.load_key(place, curr); // row 2
+        if word >= key {
+            return Some(Found { pred, curr, word });
+        }
+        let link = caller.load_link(place, curr); // row 3
+        pred = curr;
+        curr = Node::behind(link);
+    }
+    None
+}` },
+    { name: "validate", first: 42, steps: [{"line": 51, "rows": [6]}, {"line": 55, "rows": [7]}], calls: [], text: `
+/// Whether \`pred\` leads to \`curr\`, and neither has a mark: then the answer is the node behind \`curr\`.
+fn validate<P: Pause>(
+    caller: &Caller<LazyList, P>,
+    place: &mut TableSeat,
+    found: Found,
+) -> Option<Node>
+    requires { HasLocked caller.now.origin caller.now.slots found place.old }
+    ensures { HasValidated caller.now.origin caller.now.slots found result place.new }
+{
+    let before = caller.load_link(place, found.pred); // row 6
+    if before != 2 * found.curr.number {
+        return None;
+    }
+    let after = caller.load_link(place, found.curr); // row 7
+    if after % 2 != 0 {
+        return None;
+    }
+    Some(Node::behind(after))
+}` },
+    { name: "act", first: 62, steps: [{"line": 74, "rows": [8, 9, 10]}, {"line": 78, "rows": [11]}, {"line": 79, "rows": [12]}], calls: [], text: `
+/// Does what the call does at the key that was found, between two nodes that it has locked.
+fn act<P: Pause>(
+    caller: &Caller<LazyList, P>,
+    place: &mut TableSeat,
+    found: Found,
+    succ: Node,
+) -> (OwnSlots, Reply)
+    requires { AreNeighbours caller.now.origin caller.now.slots found succ place.old }
+    ensures { Leaves caller.now.origin found result place.new }
+{
+    match decide(caller.call, found.word, caller.slots) {
+        Decision::PutIn => {
+            caller.put_in(place, found); // rows 8, 9, 10
+            (one_more(caller.slots), Reply::True)
+        }
+        Decision::TakeOut => {
+            caller.store_link(place, found.curr, Link::Marked(succ)); // row 11
+            caller.store_link(place, found.pred, Link::To(succ)); // row 12
+            (caller.slots, Reply::True)
+        }
+        Decision::Answer(reply) => (caller.slots, reply),
+    }
+}` },
+    { name: "lazy_change_within", first: 86, steps: [{"line": 101, "rows": [1], "begins": true, "answers": false}, {"line": 104, "rows": [4]}, {"line": 105, "rows": [5]}, {"line": 109, "rows": [13], "begins": false, "answers": true}, {"line": 110, "rows": [14], "begins": false, "answers": true}, {"line": 114, "rows": [13], "begins": false, "answers": false}, {"line": 115, "rows": [14], "begins": false, "answers": false}, {"line": 116, "rows": [1], "begins": false, "answers": false}], calls: [[103, "walk"], [106, "validate"], [108, "act"]], text: `
+/// Makes a whole \`add\` or \`remove\` on a LazyList: it walks to its place without a lock, locks the two nodes there, looks
+/// whether they are still neighbours in the list, and acts, or gives them back and starts over. (Herlihy and Shavit's lazy
+/// list, after Heller and others.) \`None\` where a loop of it has made \`N::MOST\` rounds.
+pub fn lazy_change_within<P: Pause, N: Rounds>(
+    table: &Words<LazyList>,
+    place: &mut TableSeat,
+    slots: OwnSlots,
+    call: Call,
+    pause: &P,
+) -> Option<(OwnSlots, Reply)>
+    requires may { MayCall lazy table.now.table_id table.now.key slots place.old }
+    requires changes { first_row call ≡ 1 }
+    ensures { IfSome result (λ r. HasCalled lazy call place.old r place.new) }
+{
+    let caller = Caller::new(table, place, slots, call, pause);
+    let mut link = caller.begin_at_head(place); // row 1
+    for round in 0..N::MOST {
+        let found = walk::<P, N>(&caller, place, Node::behind(link))?;
+        caller.lock::<N>(place, found.pred)?; // row 4
+        caller.lock::<N>(place, found.curr)?; // row 5
+        match validate(&caller, place, found) {
+            Some(succ) => {
+                let answer = act(&caller, place, found, succ);
+                caller.unlock(place, found.curr); // row 13
+                caller.unlock_last(place, found.pred); // row 14
+                return Some(answer);
+            }
+            None => {
+                caller.unlock(place, found.curr); // row 13
+                caller.unlock(place, found.pred); // row 14
+                link = caller.load_link(place, Node::head()); // row 1
+            }
+        }
+    }
+    None
+}` },
+  ],
+  "crates/lset_loops/src/reads.rt": [
+    { name: "contains_on", first: 42, steps: [{"line": 59, "rows": [20], "begins": true, "answers": false}, {"line": 61, "rows": [21]}, {"line": 67, "rows": [22]}, {"line": 70, "rows": [20], "begins": false, "answers": false}], calls: [], text: `
+/// Makes a whole \`contains\` of \`key\`: it goes on to the first key that is not below its own, and asks for the mark of a node
+/// that has it. (Herlihy and Shavit's wait-free \`contains\`.)
+///
+/// \`place\` is the place of an idle seat of these words, and \`slots\` are those of its thread. The answer is the slots and the
+/// reply. \`pause\` is asked after each step that does not answer. It waits for nobody, and returns.
+pub fn contains_on<M: ReadsByRows, P: Pause>(
+    table: &Words<M>,
+    place: &mut TableSeat,
+    slots: OwnSlots,
+    key: Key,
+    pause: &P,
+) -> (OwnSlots, Reply)
+    requires { MayCall M.table table.now.table_id table.now.key slots place.old }
+    ensures { HasCalled M.table (Contains key) place.old result place.new }
+{
+    let caller = Caller::new(table, place, slots, Call::Contains(key), pause);
+    let target = caller.key;
+    let mut curr = Node::behind(caller.begin_at_head(place)); // row 20
+    loop {
+        let word = caller.look_at_key(place, curr); // row 21
+        if word > target {
+            return (caller.slots, Reply::False);
+        }
+        caller.goes_on();
+        if word == target {
+            let mark = caller.look_at_link(place, curr); // row 22
+            return (caller.slots, reply_by_mark(mark));
+        }
+        let link = caller.look_at_link(place, curr); // row 20
+        caller.goes_on();
+        curr = Node::behind(link);
+    }
+}` },
+  ],
+  "crates/lset_loops/src/lock_free.rt": [
+    { name: "find", first: 16, steps: [{"line": 30, "rows": [2]}, {"line": 33, "rows": [3]}, {"line": 39, "rows": [1], "begins": false, "answers": false}, {"line": 42, "rows": [4]}], calls: [], text: `
+/// Walks from the head, whose link led to \`first\`, to the first key that is not below that of the call, and takes marked
+/// nodes out on its way (Herlihy and Shavit's \`find\`).
+fn find<P: Pause, N: Rounds>(
+    caller: &Caller<LockFreeList, P>,
+    place: &mut TableSeat,
+    first: Node,
+) -> Option<Found>
+    requires { AtLink caller.now.origin caller.now.slots 0 first.number place.old }
+    ensures { IfSome result (λ f. StopsAt caller.now.origin caller.now.slots f place.new) }
+{
+    let key = caller.key;
+    let mut pred = Node::head();
+    let mut curr = first;
+    for round in 0..N::MOST {
+        let link = caller.load_link(place, curr); // row 2
+        let succ = Node::behind(link);
+        if link % 2 != 0 {
+            if caller.exchange(place, pred, Link::To(curr), Link::To(succ)) { // row 3
+                caller.goes_on();
+                curr = succ;
+                continue;
+            }
+            pred = Node::head();
+            curr = Node::behind(caller.load_link(place, pred)); // row 1
+            continue;
+        }
+        let word = caller.look_at_key(place, curr); // row 4
+        if word >= key {
+            return Some(Found { pred, curr, word });
+        }
+        caller.goes_on();
+        pred = curr;
+        curr = succ;
+    }
+    None
+}` },
+    { name: "attempt", first: 53, steps: [{"line": 65, "rows": [5, 6]}, {"line": 66, "rows": [7]}, {"line": 73, "rows": [8]}, {"line": 74, "rows": [9]}, {"line": 78, "rows": [10]}], calls: [], text: `
+/// Does what the call does at the key that was found. \`None\` where a link was another by then.
+fn attempt<P: Pause>(
+    caller: &Caller<LockFreeList, P>,
+    place: &mut TableSeat,
+    found: Found,
+) -> Option<(OwnSlots, Reply)>
+    requires { StopsAt caller.now.origin caller.now.slots found place.old }
+    ensures { HasTried caller.now.origin caller.now.slots result place.new }
+{
+    match decide(caller.call, found.word, caller.slots) {
+        Decision::PutIn => {
+            caller.goes_on();
+            let node = caller.fill_slot(place, found.curr); // rows 5, 6
+            if !caller.exchange(place, found.pred, Link::To(found.curr), Link::To(node)) { // row 7
+                return None;
+            }
+            Some((one_more(caller.slots), Reply::True))
+        }
+        Decision::TakeOut => {
+            caller.goes_on();
+            let succ = Node::behind(caller.load_link(place, found.curr)); // row 8
+            if !caller.exchange(place, found.curr, Link::To(succ), Link::Marked(succ)) { // row 9
+                return None;
+            }
+            caller.goes_on();
+            caller.exchange_last(place, found.pred, Link::To(found.curr), Link::To(succ)); // row 10
+            Some((caller.slots, Reply::True))
+        }
+        Decision::Answer(reply) => Some((caller.slots, reply)),
+    }
+}` },
+    { name: "lock_free_change_within", first: 85, steps: [{"line": 100, "rows": [1], "begins": true, "answers": false}, {"line": 105, "rows": [1], "begins": false, "answers": false}], calls: [[102, "find"], [103, "attempt"]], text: `
+/// Makes a whole \`add\` or \`remove\` on a LockFreeList: it walks to its place, and puts its next slot in there, or marks the
+/// node and tries once to take it out; or starts over where a link has changed. (Herlihy and Shavit's lock-free list.)
+/// \`None\` where a loop of it has made \`N::MOST\` rounds.
+pub fn lock_free_change_within<P: Pause, N: Rounds>(
+    table: &Words<LockFreeList>,
+    place: &mut TableSeat,
+    slots: OwnSlots,
+    call: Call,
+    pause: &P,
+) -> Option<(OwnSlots, Reply)>
+    requires may { MayCall lock_free table.now.table_id table.now.key slots place.old }
+    requires changes { first_row call ≡ 1 }
+    ensures { IfSome result (λ r. HasCalled lock_free call place.old r place.new) }
+{
+    let caller = Caller::new(table, place, slots, call, pause);
+    let mut link = caller.begin_at_head(place); // row 1
+    for round in 0..N::MOST {
+        let found = find::<P, N>(&caller, place, Node::behind(link))?;
+        match attempt(&caller, place, found) {
+            Some(answer) => return Some(answer),
+            None => link = caller.load_link(place, Node::head()), // row 1
+        }
+    }
+    None
+}` },
+  ],
 };
 
-const isBelow = (saw, key) => keyNumber(saw) < Number(key);
-
-function walkAtKey(event, held) {
-  const owner = ownerIn(event.word);
-  const { key } = held.call;
-  if (isBelow(event.saw, key)) return `${keyText(event.saw)} is below ${key}: the walk continues.`;
-  if (event.saw === String(key)) return `<b>The walk stops at ${owner},</b> which has its key.`;
-  return `<b>The walk stops at ${owner},</b> the first with a key above ${key}.`;
-}
-
-function secondWalkAtKey(held, row) {
-  if (held.pc === row.invalid) return "";
-  if (held.node === held.pred) return `The second walk reaches pred, ${held.pred}.`;
-  return `This is not pred, ${held.pred}: the second walk continues.`;
-}
-
-const isOpeningNode = (trace, name) => /^n/.test(name) && Number(name.slice(1)) >= firstOpeningNode(trace);
-return { isLock, mono, isFailed, ownerIn, setsMark, hasInChain, OUTCOMES };
+const CODE_OF = {
+  "coarse": ["crates/lset_loops/src/coarse.rt"],
+  "fine": ["crates/lset_loops/src/fine.rt"],
+  "optimistic": ["crates/lset_loops/src/optimistic.rt"],
+  "lazy": ["crates/lset_loops/src/lazy.rt", "crates/lset_loops/src/reads.rt"],
+  "lock-free": ["crates/lset_loops/src/lock_free.rt", "crates/lset_loops/src/reads.rt"],
+};
+return { CODE, CODE_OF };
 })();
 
-// draw/places.js
-const $draw_places = (() => {
+// draw/listing.js
+const $draw_listing = (() => {
+const { CODE, CODE_OF } = $made_code;
 const { LISTS } = $made_rows;
-const { ownerIn } = $run_outcomes;
-const { isWritten, keyNumber, linkTarget } = $run_state;
-const { NODE_REGISTERS } = $run_trace;
-const WIDE = { node: 94, gap: 48, least: 420, scale: 0.8 };
-const COMPACT = { node: 76, gap: 32, least: 340, scale: 0.65 };
-const NARROW = 480; // pixels
-const shapeFor = (room) => (room < NARROW ? COMPACT : WIDE);
+const { callText, chipOf, escaped, tag } = $run_markup;
+function stepsAt(functions, row) {
+  return functions.flatMap((code) => code.steps.filter(({ rows }) => rows.includes(row)).map((step) => ({ code, ...step })));
+}
 
-const NODE_HEIGHT = 54;
-const LEAST_GAP = 12; // between nodes that are not in the chain
-const FOLD_WIDTH = 84;
-const TOP = 58;
-const MOST_UNFOLDED = 14; // a longer chain is folded
-const MOST_ASIDE = 10; // nodes drawn that are not in the chain
-const MOST_POINTING = 6; // threads whose registers are drawn
-const SIGN_WIDTH = 8.6; // of a register's label
+function codeOf(kind, { operation }) {
+  const { rows } = LISTS[kind].calls[operation];
+  const file = CODE_OF[kind].find((name) => rows.every((row) => stepsAt(CODE[name], row).length > 0));
+  return file === undefined ? null : { file, functions: CODE[file] };
+}
 
-function pointersOf(state, event) {
-  const inCall = state.threads.map((held, thread) => ({ held, thread })).filter(({ held }) => held.pc !== 0);
-  inCall.sort((one, other) => Number(other.thread === event?.thread) - Number(one.thread === event?.thread));
-  const { calls } = LISTS[state.trace.kind];
-  return inCall.slice(0, MOST_POINTING).map(({ held, thread }) => {
-    const registers = calls[held.call.operation].registers.filter((name) => NODE_REGISTERS.includes(name));
-    const at = {};
-    for (const name of registers) if (isPointing(held, name)) (at[held[name]] ??= []).push(name);
-    return { thread, at };
+function stepOf(functions, held) {
+  let found = stepsAt(functions, held.pc);
+  const came = stepsAt(functions, held.came).map(({ code }) => code.name);
+  const tests = [
+    ({ begins = false }) => begins === (held.came === 0),
+    ({ answers = false }) => answers === (held.reply !== "none"),
+    ({ code }) => came.includes(code.name),
+    ({ code }) => code.calls.some(([, name]) => came.includes(name)),
+  ];
+  for (const test of tests) if (found.length > 1 && found.some(test)) found = found.filter(test);
+  return found[0];
+}
+
+function callersOf(functions, name) {
+  const calls = functions.flatMap((code) => code.calls.map(([line, called]) => ({ line, called, name: code.name })));
+  const direct = calls.filter(({ called }) => called === name);
+  return [...direct.map(({ line }) => line), ...direct.flatMap((caller) => callersOf(functions, caller.name))];
+}
+
+const rowText = (kind, number) => {
+  const { step, then, book } = LISTS[kind].rows[number];
+  return `row ${number}: ${escaped(step)} <span class="then">→ ${escaped(then)}</span> <small>${escaped(book)}</small>`;
+};
+
+function standingText(kind, threads) {
+  const rows = [...new Set(threads.map(({ held }) => held.pc))];
+  const chips = (row) => threads.filter(({ held }) => held.pc === row).map(({ thread }) => chipOf(thread)).join(" ");
+  return rows.map((row) => tag("p", {}, `${chips(row)} ${rowText(kind, row)}`)).join("");
+}
+
+function lineItem(number, text, isSaid, kind, threads) {
+  const here = threads.filter(({ step }) => step.line === number);
+  const inside = threads.filter(({ callers }) => callers.includes(number));
+  const shown = [tag("i", {}, number), tag("code", isSaid ? { class: "said-of-it" } : {}, escaped(text)), standingText(kind, here)];
+  const isOfEvent = here.some(({ isMoved }) => isMoved);
+  if (here.length > 0) return tag("li", { class: isOfEvent ? "here moved" : "here", "aria-current": "step" }, ...shown);
+  return tag("li", inside.length > 0 ? { class: "inside" } : {}, ...shown);
+}
+
+function functionOf(code, kind, threads) {
+  const lines = code.text.trimStart().split("\n");
+  const body = lines.indexOf("{");
+  const items = lines.map((text, index) => lineItem(code.first + index, text, index < body, kind, threads));
+  return tag("ol", { class: "code" }, ...items);
+}
+
+function fileOf(file, functions, kind, threads) {
+  const calls = threads.map(({ thread, held }) => `${chipOf(thread)} ${callText(held.call)}`).join(" ");
+  return tag("section", {}, tag("h3", {}, `${calls} <small>${file}</small>`), ...functions.map((code) => functionOf(code, kind, threads)));
+}
+
+function rowsOf(kind, { thread, held }) {
+  const items = LISTS[kind].calls[held.call.operation].rows.map((number) => {
+    const given = number === held.pc ? { class: "here", "aria-current": "step" } : {};
+    return tag("li", given, rowText(kind, number));
   });
+  const head = tag("h3", {}, `${chipOf(thread)} ${callText(held.call)} <small>by the interpreter, row by row</small>`);
+  return tag("section", {}, head, tag("ol", { class: "rows" }, ...items));
 }
 
-const isPointing = (held, name) => held[name] !== "head" || (name === "pred" && held.curr !== "head");
-
-function importantNodes(state, event, pointers) {
-  const important = new Set(["head", "tail"]);
-  if (event?.word) important.add(event.word.split(".")[0]);
-  for (const { at } of pointers) Object.keys(at).forEach((name) => important.add(name));
-  const locked = Object.values(state.locks()).flat().map(ownerIn).filter((name) => name !== "list");
-  locked.slice(0, 8).forEach((name) => important.add(name));
-  return important;
-}
-
-function foldedChain(chain, important) {
-  if (chain.length <= MOST_UNFOLDED) return chain.map((name) => ({ name }));
-  const isNear = (index) => chain.slice(Math.max(index - 1, 0), index + 2).some((name) => important.has(name));
-  const items = [];
-  chain.forEach((name, index) => {
-    const last = items[items.length - 1];
-    if (isNear(index)) items.push({ name });
-    else if (last?.folded) last.folded.push(name);
-    else items.push({ folded: [name] });
+function drawListing({ trace, state, event }) {
+  const { kind } = trace;
+  const open = state.threads.map((held, thread) => ({ held, thread })).filter(({ held }) => held.pc !== 0);
+  if (open.length === 0) return tag("p", { class: "note" }, "No call is open.");
+  const byFile = new Map();
+  for (const one of open) {
+    const file = codeOf(kind, one.held.call)?.file;
+    byFile.set(file, [...(byFile.get(file) ?? []), one]);
+  }
+  const byRows = (byFile.get(undefined) ?? []).map((one) => rowsOf(kind, one));
+  byFile.delete(undefined);
+  const parts = [...byFile].map(([file, threads]) => {
+    const standing = threads.map(({ held, thread }) => {
+      const step = stepOf(CODE[file], held);
+      return { held, thread, step, callers: callersOf(CODE[file], step.code.name), isMoved: thread === event?.thread };
+    });
+    return fileOf(file, CODE[file], kind, standing);
   });
-  return items.flatMap((item) => (item.folded?.length === 1 ? [{ name: item.folded[0] }] : [item]));
+  return tag("div", { class: "listings" }, ...parts, ...byRows);
 }
-
-function placesOfChain(items, shape) {
-  const places = {};
-  let x = 16;
-  for (const item of items) {
-    item.x = x;
-    const width = item.folded ? FOLD_WIDTH : shape.node;
-    for (const name of item.folded ?? [item.name]) places[name] = { x, y: TOP, width, gap: shape.gap, folded: !!item.folded };
-    x += width + shape.gap;
-  }
-  return { places, width: x - shape.gap + 16 };
-}
-
-function nodesAside(state, chain, important) {
-  const inChain = new Set(chain);
-  const aside = Object.keys(state.nodes).filter((name) => !inChain.has(name) && isWritten(state.nodes[name]));
-  const rank = (name) => (important.has(name) ? 2 : state.nodes[name].reached ? 0 : 1);
-  const latest = [...aside].reverse().sort((one, other) => rank(other) - rank(one));
-  return { shown: latest.slice(0, MOST_ASIDE), more: Math.max(0, aside.length - MOST_ASIDE) };
-}
-
-function placeAside(state, chain, shown, places, y) {
-  const { width, gap } = places.head;
-  const taken = [];
-  const byKey = [...shown].sort((one, other) => keyNumber(state.nodes[one].key) - keyNumber(state.nodes[other].key));
-  for (const name of byKey) {
-    const key = keyNumber(state.nodes[name].key);
-    const before = chain.filter((other) => keyNumber(state.nodes[other].key) < key);
-    const place = places[before[before.length - 1] ?? "head"];
-    let x = place.x + (place.width + gap) / 2;
-    while (taken.some((other) => Math.abs(other - x) < width + LEAST_GAP)) x += width + 16;
-    places[name] = { x, y, width, gap, aside: true, lane: taken.length % 3 };
-    taken.push(x);
-  }
-  return taken.length === 0 ? 0 : Math.max(...taken) + width + 16;
-}
-
-function roomsUnder(state, items, shown, shape) {
-  const risen = new Set(shown.map((name) => linkTarget(state.nodes[name].link)));
-  const rooms = {};
-  items.forEach(({ name }, index) => {
-    const next = items[index + 1];
-    const isCrossed = next !== undefined && (next.folded ?? [next.name]).some((other) => risen.has(other));
-    rooms[name] = shape.node + (isCrossed ? 0 : shape.gap - 6);
-  });
-  return rooms;
-}
-
-function labelTexts(thread, registers, room) {
-  const texts = [];
-  for (const register of registers) {
-    const joined = `${texts[texts.length - 1]}, ${register}`;
-    if (texts.length > 0 && joined.length * SIGN_WIDTH <= room) texts[texts.length - 1] = joined;
-    else texts.push(`▲ t${thread} ${register}`);
-  }
-  return texts;
-}
-
-function pointerLabels(pointers, places, rooms) {
-  const labels = [];
-  const add = (thread, name, text) => {
-    const { x, y } = places[name];
-    const own = { thread, name, text, row: y, left: x, right: x + SIGN_WIDTH * text.length + 8, lane: 0 };
-    const isBeside = (other) => other.left >= own.right || own.left >= other.right;
-    const isInTheWay = (other) => other.row === own.row && other.lane === own.lane && !isBeside(other);
-    while (labels.some(isInTheWay)) own.lane++;
-    labels.push(own);
-  };
-  for (const { thread, at } of pointers) {
-    for (const name in at) {
-      if (!places[name] || places[name].folded) continue;
-      for (const text of labelTexts(thread, at[name], rooms[name] ?? places[name].width)) add(thread, name, text);
-    }
-  }
-  return labels;
-}
-
-function arranged(state, event, shape = WIDE) {
-  const chain = state.chain();
-  const pointers = pointersOf(state, event);
-  const important = importantNodes(state, event, pointers);
-  const items = foldedChain(chain, important);
-  const { places, width } = placesOfChain(items, shape);
-  const { shown, more } = nodesAside(state, chain, important);
-  const rooms = roomsUnder(state, items, shown, shape);
-  const lanesUnder = (labels, row) => Math.max(0, ...labels.filter((own) => own.row === row).map((own) => own.lane + 1));
-  const below = TOP + NODE_HEIGHT + 18 * lanesUnder(pointerLabels(pointers, places, rooms), TOP) + 62;
-  const right = placeAside(state, chain, shown, places, below);
-  const labels = pointerLabels(pointers, places, rooms);
-  const bottom = shown.length > 0 ? below : TOP;
-  const names = [...items.filter((item) => item.name).map((item) => item.name), ...shown];
-  const height = bottom + NODE_HEIGHT + 18 * lanesUnder(labels, bottom) + 14;
-  const wide = Math.max(width, right, shape.least, ...labels.map((own) => own.right));
-  return { chain, items, places, labels, names, more, width: wide, height };
-}
-return { shapeFor, NODE_HEIGHT, LEAST_GAP, FOLD_WIDTH, TOP, SIGN_WIDTH, isPointing, arranged };
+return { codeOf, stepOf, drawListing };
 })();
 
-// draw/arrows.js
-const $draw_arrows = (() => {
-const { said, tag, title } = $run_markup;
-const { linkTarget } = $run_state;
-const { FOLD_WIDTH, LEAST_GAP, NODE_HEIGHT, TOP } = $draw_places;
-const LINK_WIDTH = 24;
-
-function drawLink(state, name, places, event) {
-  const { link, reached } = state.nodes[name];
-  const target = linkTarget(link);
-  const from = places[name];
-  const to = places[target];
-  if (!to || from.folded || name === "tail" || (target === "head" && !reached)) return "";
-  const kind = event?.word === `${name}.link` ? "hot" : from.aside ? "out" : "in";
-  const isMarked = link.endsWith("*");
-  const x = from.x + from.width - (isMarked ? 1 : LINK_WIDTH / 2);
-  const y = from.y + NODE_HEIGHT / 2;
-  return tag(
-    "g",
-    { class: `link ${kind}${from.aside ? " aside" : ""}`, "data-part": `link ${name}`, "data-to": target },
-    title(`${name}.link: ${said(link)}`),
-    isMarked ? "" : tag("circle", { cx: x, cy: y, r: 4 }),
-    tag("path", { d: pathOf(from, to, x, y), "marker-end": `url(#tip-${kind})` }),
-  );
-}
-
-function pathOf(from, to, x1, y1) {
-  if (from === to) return pathAround(from, x1, y1);
-  if (from.aside && !to.aside) return pathUp(from, to, x1, y1);
-  const isNext = to.x > from.x && to.x - from.x < 2 * (from.width + LEAST_GAP);
-  if (from.aside && !isNext) return pathOver(from, to, x1, y1);
-  return `M${x1} ${y1} L${to.x - 3} ${to.y + NODE_HEIGHT / 2}`;
-}
-
-function bent(start, ...turns) {
-  const at = [...start];
-  const corners = turns.map((turn, index) => {
-    at[index % 2] = turn;
-    return ` L${at[0]} ${at[1]}`;
-  });
-  return `M${start[0]} ${start[1]}${corners.join("")}`;
-}
-
-const pathAround = (from, x1, y1) => bent([x1, y1], from.x + from.width + 10, from.y - 12, from.x + from.width - 12, from.y - 3);
-
-function pathUp(from, to, x1, y1) {
-  const beside = from.x + from.width + 8;
-  const under = from.y - 34 - 6 * from.lane;
-  const gap = to.x - (2 * to.gap) / 3 + ((7 * to.gap) / 48) * from.lane;
-  const y2 = to.y + NODE_HEIGHT - (to.folded ? 14 : 7) - 6 * from.lane;
-  return bent([x1, y1], beside, under, gap, y2, to.x - 3);
-}
-
-function pathOver(from, to, x1, y1) {
-  return bent([x1, y1], from.x + from.width + 8, from.y - 34 - 6 * from.lane, to.x + to.width - 46, to.y - 3);
-}
-
-const ARROW = { viewBox: "0 0 10 10", refX: 9, refY: 5, markerWidth: 11, markerHeight: 11, markerUnits: "userSpaceOnUse" };
-const drawTip = (kind) =>
-  tag("marker", { id: `tip-${kind}`, class: `tip ${kind}`, ...ARROW, orient: "auto" }, tag("path", { d: "M0 0 L10 5 L0 10 z" }));
-
-function drawFoldLink(item, next) {
-  const y = TOP + NODE_HEIGHT / 2;
-  const path = { d: `M${item.x + FOLD_WIDTH} ${y} L${next.x - 3} ${y}`, "marker-end": "url(#tip-in)" };
-  return tag("g", { class: "link in" }, tag("path", path));
-}
-return { LINK_WIDTH, drawLink, drawTip, drawFoldLink };
-})();
-
-// draw/list.js
-const $draw_list = (() => {
+// draw/table.js
+const $draw_table = (() => {
 const { LISTS } = $made_rows;
-const { callText, colourOf, keyText, label, said, tag, title } = $run_markup;
-const { ownerOf } = $run_state;
-const { NODE_REGISTERS } = $run_trace;
-const { drawFoldLink, drawLink, drawTip, LINK_WIDTH } = $draw_arrows;
-const { arranged, FOLD_WIDTH, isPointing, NODE_HEIGHT, shapeFor, TOP } = $draw_places;
-const LOCK_HEIGHT = 31; // of what stands above a node
+const { chipOf, escaped, tag } = $run_markup;
+function drawTable({ trace, state, event, before }) {
+  const made = event === null || event.deed === "begin" ? null : before.pc;
+  const at = new Map();
+  state.threads.forEach((held, thread) => at.set(held.pc, [...(at.get(held.pc) ?? []), thread]));
+  const lines = Object.entries(LISTS[trace.kind].rows).map(([number, row]) => {
+    const here = (at.get(Number(number)) ?? []).map(chipOf).join(" ");
+    const by = made === Number(number) ? ` <small>made by</small> ${chipOf(event.thread)}` : "";
+    const cells = [here, `<b>${number}</b>${by}`, escaped(row.step), escaped(row.then), `<small>${escaped(row.book)}</small>`];
+    return tag("tr", by === "" ? {} : { class: "moved" }, ...cells.map((text) => tag("td", {}, text)));
+  });
+  const heads = ["next", "row", "step", "then", "in the book"].map((text) => tag("th", { scope: "col" }, text));
+  return tag("table", {}, tag("thead", {}, tag("tr", {}, ...heads)), tag("tbody", {}, ...lines));
+}
+return { drawTable };
+})();
 
-function kindOf(state, name, place) {
-  if (!state.nodes[name].reached) return `own ${colourOf(ownerOf(state.trace, name))}`;
-  return place.aside ? "out" : "in";
+// draw/threads.js
+const $draw_threads = (() => {
+const { LISTS } = $made_rows;
+const { callText, chipOf, keyText, tag } = $run_markup;
+const MOST_ROWS = 8; // of more threads only those with an open call are shown at first
+
+function threadsShown(state, event, all) {
+  const every = state.threads.map((_, thread) => thread);
+  if (all || every.length <= MOST_ROWS) return every;
+  return every.filter((thread) => state.threads[thread].pc !== 0 || thread === event?.thread);
 }
 
-function nodeInWords(node, name, kind) {
-  const where = { in: "", out: ", unlinked" }[kind] ?? ", not linked yet";
-  return `${name}: key ${keyText(node.key)}, link ${said(node.link)}, lock ${node.lock}${where}`;
+function callCell(held, moved, event, hidesReplies) {
+  if (held.pc !== 0) return callText(held.call);
+  if (moved && event.answer !== undefined) return `${callText(held.call)} <b>${hidesReplies ? "…" : event.answer}</b>`;
+  return '<span class="pale">idle</span>';
 }
 
-const KEY_FRAME = { class: "read", height: NODE_HEIGHT - 4, rx: 4 };
-
-function drawNode(state, name, place, event) {
-  const node = state.nodes[name];
-  const { x, y, width } = place;
-  const kind = kindOf(state, name, place);
-  const isMarked = node.link.endsWith("*");
-  const [hot, field] = event?.word?.split(".") ?? [];
-  const isRead = hot === name && field === "key";
-  const size = { x, y, width, height: NODE_HEIGHT, rx: 5 };
-  const box = isMarked ? { ...size, class: "box marked", style: "fill:url(#hatch)" } : { ...size, class: "box" };
-  const side = x + width - LINK_WIDTH;
-  return tag(
-    "g",
-    { class: `node ${kind}`, "data-part": `node ${name}`, "data-x": x, "data-y": y },
-    title(nodeInWords(node, name, kind)),
-    hot === name ? drawHot(place) : "",
-    tag("rect", box),
-    isRead ? tag("rect", { ...KEY_FRAME, x: x + 2, y: y + 2, width: width - LINK_WIDTH - 3 }) : "",
-    tag("line", { class: "side", x1: side, x2: side, y1: y, y2: y + NODE_HEIGHT }),
-    drawKey(node, (x + side) / 2, y + 34, isRead),
-    label({ class: "name", x: x + 2, y: y - 10 }, name),
-    isMarked ? label({ class: "cross", x: side + LINK_WIDTH / 2, y: y + 34 }, "✗") : "",
-    node.lock === "free" ? "" : drawLock(node.lock, x + width - 38, y - 28),
-  );
-}
-
-const drawHot = ({ x, y, width }) =>
-  tag("rect", { "data-hot": x, class: "hot", x: x - 6, y: y - 6, width: width + 12, height: NODE_HEIGHT + 12, rx: 9 });
-
-function drawKey(node, x, y, isTouched) {
-  const text = keyText(node.key);
-  const size = text.length > 7 ? 11 : text.length > 4 ? 16 : 21;
-  return label({ class: isTouched ? "key touched" : "key", x, y, style: `font-size:${size}px` }, text);
-}
-
-function drawLock(lock, x, y) {
-  const thread = Number(lock.slice(1));
-  return tag(
-    "g",
-    { class: `lock ${colourOf(thread)}`, transform: `translate(${x},${y})` },
-    title(`locked by t${thread}`),
-    tag("path", { d: "M12 9 v-3 a6 6 0 0 1 12 0 v3" }),
-    tag("rect", { x: 0, y: 8, width: 36, height: 18, rx: 4 }),
-    label({ x: 18, y: 22 }, `t${thread}`),
-  );
-}
-
-function drawFold(item) {
-  const { x } = item;
-  const count = item.folded.length;
-  return tag(
-    "g",
-    { class: "fold" },
-    title(`${count} nodes of the chain that no thread is at`),
-    tag("rect", { x, y: TOP + 9, width: FOLD_WIDTH, height: NODE_HEIGHT - 18, rx: 18 }),
-    label({ x: x + FOLD_WIDTH / 2, y: TOP + NODE_HEIGHT / 2 + 5 }, `… ${count} …`),
-  );
-}
-
-function drawPointer({ thread, name, text, left, lane }, places) {
-  const y = places[name].y + NODE_HEIGHT + 21 + 18 * lane;
-  const named = { class: "pointer-of", "data-part": `sign ${text.split(",")[0]}`, "data-x": left, "data-y": y };
-  return tag("g", named, label({ class: `pointer ${colourOf(thread)}`, x: left, y }, text));
-}
-
-function drawListLock(state) {
-  if (state.trace.kind !== "coarse") return "";
-  const lock = state.lock === "free" ? label({ x: 110, y: 20 }, "free") : drawLock(state.lock, 110, -2);
-  return label({ class: "name", x: 16, y: 20 }, "the list's lock") + lock;
-}
-const HATCH = { id: "hatch", width: 7, height: 7, patternUnits: "userSpaceOnUse", patternTransform: "rotate(45)" };
-const DEFINITIONS = tag(
-  "defs",
-  {},
-  tag(
-    "pattern",
-    HATCH,
-    tag("rect", { class: "ground", width: 7, height: 7 }),
-    tag("line", { class: "stripe", x1: 0, x2: 0, y1: 0, y2: 7 }),
-  ),
-  ...["in", "out", "hot"].map(drawTip),
-);
-
-function drawList(state, event, room, most = Infinity, least = { width: 0, height: 0 }, own = "") {
-  const shape = shapeFor(room);
-  const { chain, items, places, labels, names, more, width: wide, height: high } = arranged(state, event, shape);
-  const width = Math.max(wide, least.width);
-  const whole = Math.max(high, least.height);
-  const above = state.trace.kind === "coarse" ? -4 : TOP - LOCK_HEIGHT; // the list's own lock stands there
-  const height = whole - above;
-  const folds = items.map((item, index) => (item.folded ? drawFold(item) + drawFoldLink(item, items[index + 1]) : ""));
-  const nodes = names.map((name) => drawNode(state, name, places[name], event));
-  const links = names.map((name) => drawLink(state, name, places, event));
-  const pointers = labels.map((own) => drawPointer(own, places));
-  const scale = Math.max(shape.scale, Math.min(1.6, (room - 4) / width, most / height));
-  const frame = {
-    width: width * scale,
-    height: height * scale,
-    viewBox: `0 ${above} ${width} ${height}`,
-    role: "img",
-    "aria-label": listInWords(chain, state),
-  };
-  const drawn = tag("svg", frame, DEFINITIONS, ...nodes, ...folds, ...links, ...pointers, drawListLock(state));
-  const named = own === "" ? drawn : drawn.replace(/(url\(#|id=")(tip|hatch)/g, `$1${own}-$2`);
-  return named + (more > 0 ? tag("p", { class: "note" }, `and ${more} more nodes that are not in the chain`) : "");
-}
-
-function listInWords(chain, state) {
-  const inside = chain.filter((name) => name !== "head" && name !== "tail").map((name) => state.nodes[name]);
-  const keys = inside.map((node) => keyText(node.key) + (node.link.endsWith("*") ? " marked" : ""));
-  const more = keys.length > 40 ? ", and more" : "";
-  const list = keys.length === 0 ? "the list is empty" : `the list: ${keys.slice(0, 40).join(", ")}${more}`;
-  const locks = state.locks();
-  const threads = state.threads.map((held, thread) => threadInWords(state, held, thread, locks)).filter((text) => text !== "");
-  return [list, ...threads.slice(0, 12)].join("; ");
-}
-
-function threadInWords(state, held, thread, locks) {
+function rowCell(held, kind) {
   if (held.pc === 0) return "";
-  const { registers } = LISTS[state.trace.kind].calls[held.call.operation];
-  const set = registers.filter((name) => NODE_REGISTERS.includes(name) && isPointing(held, name));
-  const at = set.map((name) => `${name} ${held[name]}`).join(", ");
-  const own = locks[`t${thread}`];
-  const has = own === undefined ? "" : `; t${thread} has ${own.join(" and ")}`;
-  return `t${thread} ${callText(held.call)} at row ${held.pc}${at === "" ? "" : `: ${at}`}${has}`;
-}
-return { LOCK_HEIGHT, drawList };
-})();
-
-// draw/room.js
-const $draw_room = (() => {
-const MOST_LOOKED_AT = 300; // events; of a longer run the room grows as it is shown
-const LEAST = { width: 500, height: 170, beside: 260 }; // beside another list a node may come to stand below the chain
-
-const known = { trace: null, kind: "", threads: 0, total: 0, width: 0, height: 0, isOwn: false };
-
-function roomOf(trace, sizeAt, now, wide) {
-  if (known.trace !== trace) {
-    const isLonger = known.trace !== null && known.kind === trace.kind && known.threads === trace.threads && known.isOwn;
-    const kept = isLonger ? known : { width: Math.min(LEAST.width, wide), height: LEAST.height };
-    const { kind, threads, total } = trace;
-    const from = isLonger ? Math.min(known.total, total) : 0; // the room of what is before is known
-    Object.assign(known, { trace, kind, threads, total, width: kept.width, height: kept.height, isOwn: true });
-    if (total <= MOST_LOOKED_AT) for (let count = from; count <= total; count++) grow(sizeAt(count));
-  }
-  grow(now);
-  return known;
+  const row = LISTS[kind].rows[held.pc];
+  return `<b>${held.pc}</b> ${row ? `${row.step} <small>${row.book}</small>` : ""}`;
 }
 
-const forgetRoom = () => Object.assign(known, { trace: null, isOwn: false });
+const hasRegister = (kind, call, name) => LISTS[kind].calls[call.operation].registers.includes(name);
 
-function grow({ width, height }) {
-  known.width = Math.max(known.width, width);
-  known.height = Math.max(known.height, height);
+function registerCell(held, name, moved, event, kind) {
+  if (held.pc === 0 || !hasRegister(kind, held.call, name)) return "";
+  const value = keyText(held[name]);
+  if (moved && event.changes[name] !== undefined) return `<b class="new">${value}</b>`;
+  return held[name] === "head" || held[name] === "-inf" ? `<span class="pale">${value}</span>` : value;
 }
-return { LEAST, roomOf, forgetRoom };
+
+function threadRow(state, thread, event, hidesReplies) {
+  const { kind, quota } = state.trace;
+  const held = state.threads[thread];
+  const moved = event?.thread === thread;
+  const cells = [
+    tag("td", {}, callCell(held, moved, event, hidesReplies)),
+    tag("td", { class: "next" }, rowCell(held, kind)),
+    ...LISTS[kind].registers.map((name) => tag("td", {}, registerCell(held, name, moved, event, kind))),
+    tag("td", {}, held.pc !== 0 && held.reply !== "none" && !hidesReplies ? held.reply : ""),
+    tag("td", {}, `${held.used} of ${quota}`),
+  ];
+  return tag("tr", moved ? { class: "moved" } : {}, tag("th", { scope: "row" }, chipOf(thread)), ...cells);
+}
+
+function drawThreads(state, event, all, hidesReplies = false) {
+  const { registers } = LISTS[state.trace.kind];
+  const heads = ["thread", "call", "next row of the step table", ...registers, "reply", "slots used"];
+  const rows = threadsShown(state, event, all).map((thread) => threadRow(state, thread, event, hidesReplies));
+  if (rows.length === 0) rows.push(`<tr><td colspan="${heads.length}" class="pale">every thread is idle</td></tr>`);
+  const head = tag("tr", {}, ...heads.map((text) => tag("th", { scope: "col" }, text)));
+  return tag("table", {}, tag("thead", {}, head), tag("tbody", {}, ...rows));
+}
+return { MOST_ROWS, drawThreads };
 })();
 
 // page/dom.js
@@ -1476,23 +1631,13 @@ function setHidden(part, isHidden, other) {
 }
 
 function setHtml(box, html) {
-  if (texts.get(box) === html) return;
+  if (texts.get(box) === html) return false;
   texts.set(box, html);
   box.innerHTML = html;
+  return true;
 }
 const texts = new WeakMap();
-
-function keepHeight(box, of) {
-  const key = `${of} ${innerWidth}`;
-  const isSame = heights.get(box)?.key === key;
-  if (!isSame) box.style.minHeight = "";
-  const height = box.offsetHeight;
-  if (isSame && height <= heights.get(box).height) return;
-  heights.set(box, { key, height });
-  box.style.minHeight = `${height}px`;
-}
-const heights = new WeakMap();
-return { byId, redraw, setAble, setHidden, setHtml, keepHeight };
+return { byId, redraw, setAble, setHidden, setHtml };
 })();
 
 // engine/answers.js
@@ -1626,7 +1771,7 @@ return { CAUSES, CAUSES_OF_CALLS };
 // run/judged.js
 const $run_judged = (() => {
 const { readReport, readVerdict } = $engine_answers;
-const { callText, openReply } = $run_markup;
+const { callText, letterOf, openReply } = $run_markup;
 const MOST_JUDGED = 60; // events of a run that is judged
 
 const LEVELS = {
@@ -1649,7 +1794,7 @@ function exerciseOf(text, level, isWhole = true) {
   return { ...report, level, isWhole, reportText: text, last };
 }
 
-const nameOfCall = (call) => `${callText(call)} of t${call.thread}`;
+const nameOfCall = (call) => `${callText(call)} of ${letterOf(call.thread)}`;
 const lastMoment = (exercise, call) => call.ended ?? exercise.last;
 
 function repliesOf(exercise, { operation }) {
@@ -1832,10 +1977,165 @@ function eventsAsked(text) {
 return { titleOf, versionOf, scheduleOfTrace, scheduleAndLine, openingIn, withOpening, eventsAsked };
 })();
 
+// run/outcomes.js
+const $run_outcomes = (() => {
+const { LISTS } = $made_rows;
+const { chipOf, keyText, said } = $run_markup;
+const { keyNumber, keysInChain, linkTarget, ownerOf } = $run_state;
+const { firstOpeningNode } = $run_trace;
+const isLock = (word) => word.endsWith(".lock");
+const mono = (text) => `<b class="mono">${text}</b>`;
+const isDone = (event) => event.deed === "store" || (event.deed === "exchange" && event.saw === event.from);
+const isFailed = (event) => event.deed === "exchange" && event.saw !== event.from;
+const ownerIn = (word) => word.split(".")[0];
+const isLinkOf = (event) => event.word?.endsWith(".link");
+const lockNames = (words) => `the lock${words.length > 1 ? "s" : ""} of ${words.map(ownerIn).join(" and ")}`;
+const setsMark = (event) => isLinkOf(event) && event.to?.endsWith("*") === true;
+
+function marksOf(trace) {
+  if (trace.marks !== undefined) return trace.marks;
+  trace.marks = new Map();
+  for (const event of trace.starred.map((number) => trace.event(number))) {
+    if (setsMark(event) && isDone(event)) trace.marks.set(ownerIn(event.word), event);
+  }
+  return trace.marks;
+}
+
+function wholeName({ trace, event }, name) {
+  const whose = isOpeningNode(trace, name) ? "the node of an opening key" : `${chipOf(ownerOf(trace, name))}'s node`;
+  const mark = marksOf(trace).get(name);
+  if (mark === undefined || mark.number > event.number) return `${name}</b>, ${whose}`;
+  return `${name}</b>, ${whose}, which ${chipOf(mark.thread)} marked at event ${mark.number}`;
+}
+
+const hasInChain = (state, key) => keysInChain(state).includes(Number(key));
+
+const OUTCOMES = {
+  change({ trace, state, event, held, hadKey }) {
+    const { put, took } = event;
+    const had = trace.lacks !== null && hadKey;
+    const hasNow = (key) => trace.lacks !== null && hasInChain(state, key);
+    if (put !== undefined) {
+      if (had) return `<b>This should add ${put} to the set, but ${put} is in it already.</b>`;
+      if (trace.lacks === null || hasNow(put)) return `<b>This adds ${put} to the set</b>, in slot ${held.used} of ${trace.quota}.`;
+      return `<b>This should add ${put} to the set, but its node is not in the chain: ${put} is lost.</b>`;
+    }
+    if (took === undefined) return "";
+    if (trace.lacks !== null && !had) return `<b>This should remove ${took} from the set, but ${took} is not in it any more.</b>`;
+    return hasNow(took) ? `<b>This should remove ${took} from the set, but the chain still has it.</b>` : `<b>This removes ${took} from the set.</b>`;
+  },
+
+  mark({ state, event }) {
+    if (!setsMark(event) || !isDone(event)) return "";
+    const owner = ownerIn(event.word);
+    return state.chain().includes(owner) ? `${owner} is still in the chain.` : `${owner} is not in the chain any more.`;
+  },
+
+  unlink(moment) {
+    const { state, event, before, wasInChain } = moment;
+    const gone = before.curr;
+    if (!wasInChain || !isLinkOf(event) || !isDone(event) || gone === "tail" || gone === ownerIn(event.word)) return "";
+    if (linkTarget(state.nodes[gone].link) !== event.to || state.chain().includes(gone)) return "";
+    return `<b>This unlinks ${wholeName(moment, gone)}.`;
+  },
+
+  leftInChain({ state, event, before }) {
+    if (!isFailed(event) || event.answer === undefined) return "";
+    if (!state.chain().includes(before.curr)) return `${before.curr} is not in the chain any more.`;
+    return `<b>${before.curr} stays in the chain, marked,</b> for a later walk to unlink.`;
+  },
+
+  validation({ event, held, row }) {
+    if (row?.invalid === undefined || held.pc !== row.invalid || held.reply !== "none") return "";
+    const owner = ownerIn(event.word);
+    let reason = `${owner} leads to ${said(event.saw)} now, not to ${held.curr}`;
+    if (event.saw.endsWith("*")) reason = `${owner} is marked`;
+    if (event.word.endsWith(".key")) reason = `the second walk is past the key of ${held.pred} and has not found it`;
+    return `<b>The validation fails:</b> ${reason}. It will unlock both nodes and start again.`;
+  },
+
+  valid({ held, row }) {
+    if (row?.invalid === undefined || !row.then.includes("decide on")) return "";
+    return held.pc === row.invalid && held.reply === "none" ? "" : "The validation succeeds.";
+  },
+
+  again({ event, held, row }) {
+    if (row?.again === undefined || held.pc !== row.again || event.answer !== undefined) return "";
+    const reason = event.saw?.endsWith("*") && event.deed === "load" ? `${ownerIn(event.word)} is marked: it` : "It";
+    return `<b>${reason} starts its walk again${/with the same slot/.test(row.book) ? ", with the same slot" : ""}.</b>`;
+  },
+
+  markMet({ trace, state, event, held, row }) {
+    if (event.deed !== "load" || !event.saw.endsWith("*") || [row?.invalid, row?.again].includes(held.pc)) return "";
+    const owner = ownerIn(event.word);
+    const where = state.chain().includes(owner) ? "and still" : "and no longer";
+    if (event.answer !== undefined) return `<b>${owner} is marked</b>, ${where} in the chain.`;
+    if (event.changes.curr !== undefined) return `${owner} is marked: the walk passes over it.`;
+    const next = LISTS[trace.kind].rows[held.pc]?.step ?? "";
+    if (next.startsWith("exchange pred.link")) return `<b>${owner} is marked:</b> the next step tries to unlink it.`;
+    if (!next.startsWith("exchange curr.link")) return "";
+    return `<b>${owner} is marked already:</b> the next step will fail.`;
+  },
+
+  walk({ trace, event, held, row }) {
+    if (event.deed !== "load" || row === undefined) return "";
+    if (row.below !== undefined) return walkAtKey(event, held);
+    if (row.then.includes("node = next(s)")) return `The second walk reaches ${held.node}.`;
+    if (row.then.includes("node is pred")) return secondWalkAtKey(held, row);
+    if (!row.then.includes("curr = next(s)")) return "";
+    const opening = isOpeningNode(trace, held.curr) ? ", the node of an opening key" : "";
+    return `The walk reaches ${held.curr}${opening}.`;
+  },
+
+  decision({ trace, event, held, before }) {
+    const { adds, removes } = LISTS[trace.kind];
+    if (event.answer !== undefined || held.reply !== "none" || before.pc === held.pc) return "";
+    const { operation, key } = held.call;
+    const found = event.word?.endsWith(".key") ? "The" : `${held.curr} ${operation === "add" ? "does not have" : "has"} the key ${key}: the`;
+    if (operation === "add" && held.pc === adds) return `${found} add goes ahead.`;
+    return operation === "remove" && held.pc === removes ? `${found} remove goes ahead.` : "";
+  },
+
+  reply({ trace, event }) {
+    const { reply } = event.changes;
+    if (reply === undefined || reply === "none" || event.answer !== undefined) return "";
+    const slots = { 0: "it has no slot", 1: "its one slot is used" }[trace.quota] ?? `its ${trace.quota} slots are used`;
+    const used = reply === "full" ? `: ${slots}` : "";
+    return `<b>It will answer ${reply}</b>${used}.`;
+  },
+
+  locks({ state, event }) {
+    if (!event.word || !isLock(event.word) || !isDone(event) || event.answer !== undefined) return "";
+    const own = state.locks()[`t${event.thread}`];
+    if (own === undefined) return "It holds no lock now.";
+    return event.deed === "exchange" && own.length === 1 ? "" : `It holds ${lockNames(own)}.`;
+  },
+};
+
+const isBelow = (saw, key) => keyNumber(saw) < Number(key);
+
+function walkAtKey(event, held) {
+  const owner = ownerIn(event.word);
+  const { key } = held.call;
+  if (isBelow(event.saw, key)) return `${keyText(event.saw)} is below ${key}: the walk continues.`;
+  if (event.saw === String(key)) return `<b>The walk stops at ${owner},</b> which has its key.`;
+  return `<b>The walk stops at ${owner},</b> the first with a key above ${key}.`;
+}
+
+function secondWalkAtKey(held, row) {
+  if (held.pc === row.invalid) return "";
+  if (held.node === held.pred) return `The second walk reaches pred, ${held.pred}.`;
+  return `This is not pred, ${held.pred}: the second walk continues.`;
+}
+
+const isOpeningNode = (trace, name) => /^n/.test(name) && Number(name.slice(1)) >= firstOpeningNode(trace);
+return { isLock, mono, isFailed, ownerIn, setsMark, hasInChain, OUTCOMES };
+})();
+
 // run/sentences.js
 const $run_sentences = (() => {
 const { LISTS } = $made_rows;
-const { callText, chipOf, said } = $run_markup;
+const { callText, chipOf, holderOf, letterOf, said } = $run_markup;
 const { hasInChain, isFailed, isLock, mono, OUTCOMES, ownerIn, setsMark } = $run_outcomes;
 const lockedBy = (word) => (word === "list.lock" ? "the list" : mono(ownerIn(word)));
 
@@ -1856,7 +2156,7 @@ function lockText(event, row) {
   if (event.deed === "store") return `unlocks ${name}.`;
   if (!isFailed(event)) return `locks ${name}.`;
   const then = event.changes.pc === row ? "It will try again" : `It continues all the same, at row ${event.changes.pc}`;
-  return `tries to lock ${name}, but ${event.saw} holds it. ${then}.`;
+  return `tries to lock ${name}, but ${holderOf(event.saw)} holds it. ${then}.`;
 }
 
 function effectText({ trace, event }, hidden) {
@@ -1867,7 +2167,7 @@ function effectText({ trace, event }, hidden) {
   if (hidden.includes("effect") || mayFitNowhere) return hidden.includes("reply") ? answers : `${answers}.`;
   if (call.at === event.number) return `${answers}, and takes effect here.`;
   const other = trace.event(call.at).thread;
-  const whose = other === event.thread ? "" : `, <b>a step of t${other}</b>`;
+  const whose = other === event.thread ? "" : `, <b>a step of ${letterOf(other)}</b>`;
   return `${answers}; it took effect at event ${call.at}${whose}.`;
 }
 
@@ -1906,11 +2206,9 @@ return { momentAt, sentenceOf };
 // page/state.js
 const $page_state = (() => {
 /**
- * @typedef {"story" | "ask" | "code" | "break" | "learn" | "teachers" | "assignment"} SceneName
- * @typedef {"watch" | "judge" | "compare" | "read" | SceneName} Activity
- * @typedef {object} Place  A scene of the story has the id of what is shown there, and `given`, what else its address says.
- * @property {Activity} activity
- * @property {"map" | "stage" | "scene"} screen
+ * @typedef {object} Place  A scene has the id of what is shown there, and `given`, what else its address says.
+ * @property {string} activity  that of a scene (activities/views.js); of the bench "watch" or "judge"
+ * @property {"stage" | "scene"} screen
  * @property {string} id
  * @property {Record<string, string>} given
  * @property {"lecture" | "embed" | "list" | "history" | null} view
@@ -1958,7 +2256,7 @@ const stateAtFirst = () => ({
   prefs: { hides: true, allThreads: false, letters: true },
 });
 
-/** The activity to which a run belongs. @param {State} state @returns {Activity} */
+/** The activity to which a run belongs. @param {State} state */
 const activityOfRun = ({ exercise }) => (exercise !== null ? "judge" : "watch");
 
 /** The example that is shown, or "". @param {State} state */
@@ -2121,114 +2419,45 @@ function tellLine(text) {
 return { NO_ENGINE, held, now, change, show, dispatch, on, announce, isJudging, hiddenOutcomes, exampleShown, goTo, tell, takeTrace, takeScheduleOfTrace, askNow, tellFault, tellTrouble, tellLine };
 })();
 
-// page/seen.js
-const $page_seen = (() => {
-const isOneOf = (...names) => ({ activity }) => names.includes(activity);
-const isStage = ({ screen, activity }) => screen === "stage" && activity !== "compare";
-const onMapOf = (name) => ({ activity, isMap }) => isMap && activity === name;
+// page/editor.js
+const $page_editor = (() => {
+const { byId } = $page_dom;
+const { now } = $page_now;
+const LINE_HEIGHT = 21;
+const editor = { isSeen: false };
 
-function factsOf(state, { hasEngine }) {
-  const { place, run, task, exercise } = state;
-  return {
-    ...place,
-    isMap: place.screen === "map",
-    hasEngine,
-    kind: task.kind,
-    isJudging: exercise !== null,
-    isClaim: exercise?.level === "claim",
-    isBroken: run.lacks !== null,
+function watchEditor() {
+  /** @param {IntersectionObserverEntry[]} seen */
+  const look = ([{ isIntersecting }]) => {
+    editor.isSeen = isIntersecting;
+    if (!isIntersecting || now.run.trace === null) return;
+    scrollToLine(now.run.count > 0 ? now.run.trace.event(now.run.count) : null);
+    showMarks();
   };
+  new IntersectionObserver(look).observe(byId("editor"));
 }
 
-const isFull = ({ view }) => view === null;
-const isSlide = ({ view }) => view === "lecture";
-const isFree = ({ isClaim }) => !isClaim; // of a claim there is no run to step through
-
-const SEEN = {
-  top: isFull,
-  leave: ({ view }) => view !== null && view !== "embed",
-  scene: ({ screen }) => screen === "scene",
-  bench: ({ screen }) => screen !== "scene",
-  task: (facts) => isStage(facts) && (isFull(facts) || isSlide(facts)),
-  work: isStage,
-  workshop: (facts) => isStage(facts) && isFull(facts),
-  map: (facts) => isFull(facts) && facts.isMap && facts.activity !== "compare",
-  "map-judge": onMapOf("judge"),
-  "map-read": isOneOf("read"),
-  "report-part": (facts) => isFull(facts) || facts.activity === "compare",
-  "sides-box": (facts) => facts.activity === "compare" && facts.hasEngine,
-  "question-box": ({ kind, isJudging }) => kind === "example" && !isJudging,
-  "own-head": ({ kind }) => kind === "own",
-  "seed-box": ({ kind }) => kind === "seed",
-  "judge-head": isOneOf("judge"),
-  "go-on-box": (facts) => facts.activity !== "judge" && isFull(facts) && facts.hasEngine,
-  past: ({ isJudging, view }) => !isJudging && view !== "list",
-  ticks: ({ isJudging }) => !isJudging,
-  judge: ({ isJudging }) => isJudging,
-  "judge-moments": ({ isClaim }) => isClaim,
-  "judge-note": isFree,
-  "judge-levels": ({ isBroken }) => !isBroken,
-  "report-box": ({ isJudging, hasEngine }) => !isJudging && hasEngine,
-  dock: isFree,
-  said: isFree,
-  list: (facts) => isFree(facts) && facts.view !== "history",
-  "key-help-box": isFree,
-  "threads-box": isFree,
-  "code-column": (facts) => isFree(facts) && (isFull(facts) || isSlide(facts)),
-  "listing-box": (facts) => !facts.isBroken && isFull(facts),
-  "table-box": isFull,
-  "legend-box": isFull,
-  told: isFull,
-  order: isFull,
-  "no-engine": ({ hasEngine }) => hasEngine === false,
-};
-return { factsOf, SEEN };
-})();
-
-// page/places.js
-const $page_places = (() => {
-const { byId, setHidden } = $page_dom;
-const { change, now, show } = $page_now;
-const { factsOf, SEEN } = $page_seen;
-const PHONE = 560; // pixels, as in the style sheets
-const isAtMap = () => now.place.screen === "map";
-
-function goToPlace(activity, screen) {
-  change("place", { activity, screen });
-  show();
+function scrollToLine(event) {
+  const box = byId("schedule");
+  if (!editor.isSeen || event === null || document.activeElement === box || box.value !== now.run.text) return;
+  const y = LINE_HEIGHT * (event.line - 1);
+  if (y < box.scrollTop || y > box.scrollTop + box.clientHeight - 2 * LINE_HEIGHT) box.scrollTop = y - box.clientHeight / 2;
 }
 
-function showParts(state) {
-  const facts = factsOf(state, { hasEngine: services.hasEngine });
-  for (const [id, isSeen] of Object.entries(SEEN)) setHidden(byId(id), !isSeen(facts), byId("skip"));
-  const { activity, screen, view } = state.place;
-  const key = [activity, screen, view, facts.hasEngine].join();
-  if (key === placed.key) return;
-  placed.key = key;
-  for (const part of document.querySelectorAll(".of-engine:not([id])")) part.hidden = !facts.hasEngine;
-  Object.assign(document.body.dataset, { activity, screen, view: view ?? "" });
-  for (const link of document.querySelectorAll("nav [data-to]")) {
-    if (link.dataset.to.split(" ").includes(activity)) link.setAttribute("aria-current", "page");
-    else link.removeAttribute("aria-current");
-  }
+function showMarks() {
+  const box = byId("schedule");
+  const isStale = box.value !== now.run.text;
+  const top = editor.isSeen ? box.scrollTop : 0;
+  const mark = (line, kind) => `<div class="${kind}" style="top:${6 + LINE_HEIGHT * (line - 1) - top}px"></div>`;
+  const event = now.run.count > 0 ? now.run.trace.event(now.run.count) : null;
+  const lines = [];
+  if (event !== null && now.run.isRun) lines.push(mark(event.line, "event"));
+  if (now.run.faultLine !== null) lines.push(mark(now.run.faultLine, "bad"));
+  byId("marks").innerHTML = isStale ? "" : lines.join("");
+  byId("run").classList.toggle("stale", isStale);
+  byId("run").textContent = isStale ? "Run the changes" : "Run";
 }
-const placed = { key: "" };
-const services = { hasEngine: true }; // until it is known that there is none
-
-const ONE_COLUMN = 800; // pixels, as in style/views.css: in a window that is no wider the parts of a slide stand below one another
-
-function slideZoom(width, height) {
-  if (width <= ONE_COLUMN) return 1;
-  return Math.max(0.75, Math.min(3, width / 1280, height / 720));
-}
-
-const fitSlide = () => document.body.style.setProperty("--slide", String(slideZoom(innerWidth, innerHeight)));
-
-function setView(view) {
-  change("view", { view });
-  fitSlide();
-}
-return { PHONE, isAtMap, goToPlace, showParts, services, slideZoom, fitSlide, setView };
+return { watchEditor, scrollToLine, showMarks };
 })();
 
 // made/classics.js
@@ -2394,10 +2623,11 @@ const play = { timer: null, stop: NO_STOP }; // the event at which it stops by i
 
 const wantsLessMotion = () => matchMedia("(prefers-reduced-motion: reduce)").matches;
 
+const isPlaying = () => play.timer !== null; // the sentence is said where the play ends, and not before
+
 function showPlay() {
   byId("play").textContent = play.timer === null ? "Play" : "Pause";
   byId("play").setAttribute("aria-pressed", String(play.timer !== null));
-  byId("said").setAttribute("aria-live", play.timer === null ? "polite" : "off");
 }
 
 function pausePlay() {
@@ -2450,449 +2680,7 @@ function goToTurn(step) {
   while (count > 0 && count < now.run.trace.total && !changes(now.run.trace.event(count)) && !turns.includes(count)) count += step;
   goByHand(count);
 }
-return { wantsLessMotion, stopPlay, togglePlay, changeSpeed, goByHand, goToTurn };
-})();
-
-// page/keys.js
-const $page_keys = (() => {
-const { byId } = $page_dom;
-const { now, show } = $page_now;
-const { isAtMap, setView } = $page_places;
-const { goByHand, goToTurn, togglePlay } = $page_play;
-const keysOf = {}; // of an activity that has keys of its own, what they do
-
-function pressKey(event) {
-  if (/^(TEXTAREA|INPUT|SELECT)$/.test(event.target.tagName) && event.target.id !== "slider") return;
-  if (event.ctrlKey || event.metaKey || event.altKey || event.target.closest("[role=slider]") !== null) return;
-  if (event.key === "Escape" && now.place.view !== null) return toggleLecture();
-  if (now.place.activity in keysOf) return keysOf[now.place.activity](event);
-  if (isAtMap() && event.key !== "?") return;
-  const { total } = now.run.trace;
-  const far = now.place.view === "lecture" ? 1 : 10; // what a lecturer's pointer sends
-  const steps = { ArrowRight: 1, ArrowLeft: -1, PageDown: far, PageUp: -far, Home: -total, End: total };
-  if (event.key in steps) {
-    event.preventDefault();
-    if (event.shiftKey && event.key.startsWith("Arrow")) goToTurn(steps[event.key]);
-    else goByHand(now.run.count + steps[event.key]);
-  } else if (event.key === " " && !/^(BUTTON|SUMMARY|A)$/.test(event.target.tagName)) {
-    event.preventDefault();
-    togglePlay();
-  } else if (event.key === "?" || (event.key === "p" && now.prefs.letters)) ({ "?": toggleKeys, p: togglePlay })[event.key]();
-}
-
-function toggleKeys() {
-  byId("key-help").hidden = !byId("key-help").hidden;
-  byId("keys").setAttribute("aria-expanded", String(!byId("key-help").hidden));
-}
-
-function toggleLecture() {
-  const isLeft = document.activeElement === byId("leave");
-  setView(now.place.view === null ? "lecture" : null);
-  show();
-  if (isLeft) byId(now.place.activity === "compare" ? "sides-lecture" : "lecture").focus();
-}
-return { keysOf, pressKey, toggleKeys, toggleLecture };
-})();
-
-// run/address.js
-const $run_address = (() => {
-const { LACKING } = $made_classics;
-const { LISTS } = $made_rows;
-const LONGEST_ADDRESS = 30000; // characters; a longer schedule has no address
-const SHORT_WORDS = { begin: "b", go: "g" };
-const LONG_WORDS = { b: "begin", g: "go" };
-const SHORT_EVENT = String.raw`(b\d+\.[a-z]+\.\d+|g\d+\.\d+)`;
-const ADDRESS_PARTS = {
-  example: /^[a-z-]+$/,
-  list: /^[A-Za-z-]+$/,
-  threads: /^\d+$/,
-  quota: /^\d+$/,
-  version: /^\d+$/,
-  opening: /^\d+(\.\d+)*$/,
-  s: new RegExp(`^(${SHORT_EVENT}(,${SHORT_EVENT})*)?$`),
-  event: /^\d+$/,
-  lacks: /^(\d+|[A-Za-z-]+)$/,
-  view: /^(lecture|list|history)$/,
-  course: /^[A-Za-z0-9_-]+$/,
-  sides: /^(coarse|fine|optimistic|lazy|lock-free)\.(coarse|fine|optimistic|lazy|lock-free)$/,
-  calls: /^(\d\d?\.[a-z]+\.\d+(,|$))+$/,
-  turns: /^(\d\d?(\.\d\d?)*)?$/,
-  watch: /^[a-z-]*$/,
-  learn: /^[a-z0-9-]*$/,
-  judge: /^$/,
-  break: /^\d*$/,
-  compare: /^$/,
-  read: /^$/,
-  seed: /^(coarse|fine|optimistic|lazy|lock-free)\.\d{1,2}\.\d{1,2}\.\d{1,2}\.\d{1,9}$/,
-};
-
-class AddressFault extends Error {}
-
-const neededVersion = (lines) => (lines.some((line) => /^(opening |begin \d+ ceiling )/.test(line)) ? 2 : 1);
-
-function addressOf(text, event, lacks = null) {
-  if (text.length > 2 * LONGEST_ADDRESS) return null; // an address has more than half of the letters
-  const [title, list, threads, quota, ...lines] = text.split("\n").slice(0, -1);
-  const isOpening = (line) => line.startsWith("opening ");
-  const opening = lines.filter(isOpening).map((line) => line.slice("opening ".length));
-  const events = lines.filter((line) => !isOpening(line)).map(shortLine);
-  const version = title?.split(" ")[1];
-  const parts = [`list=${list?.split(" ")[1]}`, `threads=${threads?.split(" ")[1]}`, `quota=${quota?.split(" ")[1]}`];
-  if (version !== String(neededVersion(lines))) parts.push(`version=${version}`);
-  if (opening.length > 0) parts.push(`opening=${opening.join(".")}`);
-  parts.push(`s=${events.join()}`, `event=${event}`);
-  if (lacks !== null) parts.push(`lacks=${Object.keys(LACKING).indexOf(lacks) + 1}`);
-  const address = `#${parts.join("&")}`;
-  return address.length <= LONGEST_ADDRESS && isAddressOf(address, text) ? address : null;
-}
-
-const shortLine = (line) => {
-  const [word, ...values] = line.split(" ");
-  return `${SHORT_WORDS[word] ?? word}${values.join(".")}`;
-};
-
-const longLine = (short) => `${LONG_WORDS[short[0]]} ${short.slice(1).replaceAll(".", " ")}`;
-
-function isAddressOf(address, text) {
-  try {
-    return readAddress(address).text === text;
-  } catch (fault) {
-    if (!(fault instanceof AddressFault)) throw fault;
-    return false;
-  }
-}
-
-function readAddress(hash) {
-  const { view = null, course = null, lacks: which, seed = null, ...rest } = partsOf(hash);
-  const { place, isJudged, parts } = placeOf(rest, seed);
-  const lacks = which === undefined ? null : lackingNamed(which, parts);
-  const own = { view, course, sides: null, lacks, place, seed, isJudged };
-  const named = { example: parts.example ?? null, text: null, event: Number(parts.event ?? 0), ...own };
-  if (parts.sides !== undefined) return { ...named, sides: parts };
-  const ofSchedule = Object.keys(parts).filter((name) => name !== "event" && name !== "example");
-  if (named.example !== null && ofSchedule.length > 0) {
-    throw new AddressFault(`the address names an example, and has "${ofSchedule[0]}" too`);
-  }
-  if (ofSchedule.length > 0) named.text = textOfParts(parts);
-  return named;
-}
-
-function lackingNamed(which, { list, example }) {
-  const names = Object.keys(LACKING);
-  const lacks = names.includes(which) ? which : names[which - 1];
-  if (lacks === undefined) {
-    throw new AddressFault(`there is no broken list "${which}": expected 1 to ${names.length}, or a name that "listset show --help" prints`);
-  }
-  if (list === LACKING[lacks]) return lacks;
-  const named = list !== undefined ? `list=${list}` : example !== undefined ? `example=${example}` : "no list";
-  throw new AddressFault(`lacks=${which} is a broken ${LISTS[LACKING[lacks]].name}, and the address has ${named}`);
-}
-
-function placeOf(parts, seed) {
-  const isRun = seed !== null || parts.example !== undefined || parts.list !== undefined;
-  const name = ["watch", "learn", "judge", "break", "compare", "read"].find((one) => parts[one] !== undefined);
-  if (name === undefined) return { place: null, isJudged: false, parts };
-  const { [name]: value, ...others } = parts;
-  const isJudged = name === "judge" && isRun;
-  return { place: isJudged ? null : [name, value], isJudged, parts: others };
-}
-
-function partsOf(hash) {
-  const parts = {};
-  for (const [name, value] of new URLSearchParams(hash.replace(/^#/, ""))) {
-    if (!Object.hasOwn(ADDRESS_PARTS, name)) throw new AddressFault(`the address has a part "${name}", which is none`);
-    if (name in parts) throw new AddressFault(`the address has "${name}" twice`);
-    if (!ADDRESS_PARTS[name].test(value)) throw new AddressFault(`"${value.slice(0, 60)}" is no ${name} of an address`);
-    parts[name] = value;
-  }
-  return parts;
-}
-
-function textOfParts(parts) {
-  const missing = ["list", "threads", "quota"].find((name) => parts[name] === undefined);
-  if (missing !== undefined) throw new AddressFault(`the address has no "${missing}"`);
-  const opening = (parts.opening?.split(".") ?? []).map((key) => `opening ${key}`);
-  const events = (parts.s ? parts.s.split(",") : []).map(longLine);
-  const lines = [...opening, ...events];
-  const title = `listset-schedule ${parts.version ?? neededVersion(lines)}`;
-  return [title, `list ${parts.list}`, `threads ${parts.threads}`, `quota ${parts.quota}`, ...lines, ""].join("\n");
-}
-
-const warningOf = (link) =>
-  link.startsWith("file:") ? " Others cannot open it, since it leads to a file on this computer: copy it from a page on a web server." : "";
-return { LONGEST_ADDRESS, AddressFault, addressOf, longLine, readAddress, warningOf };
-})();
-
-// run/seed.js
-const $run_seed = (() => {
-const { AddressFault } = $run_address;
-const { isTrace, Trace } = $run_trace;
-const KINDS = ["coarse", "fine", "optimistic", "lazy", "lock-free"];
-const TRIES = 200;
-const MOST_TRIED_CALLS = 8; // of a run with more calls the first is taken
-const MOST_SEEN = 60; // events that are told apart by eye
-
-const seedOf = (kind, number, { threads = 2, calls = 5, keys = 2 } = {}) => `${kind}.${threads}.${calls}.${keys}.${number}`;
-
-function partsOfSeed(seed) {
-  const [kind, ...values] = seed.split(".");
-  const [threads, calls, keys, number] = values.map(Number);
-  return { kind, threads, calls, keys, number };
-}
-
-function scheduleOfSeed(ask, seed) {
-  const { kind, threads, calls, keys, number } = partsOfSeed(seed);
-  const tries = calls > MOST_TRIED_CALLS ? 1 : TRIES;
-  let text = "";
-  for (let tried = 0; tried < tries; tried++) {
-    const answer = ask("listset_gen", [kind, threads, 4, calls, keys, number * TRIES + tried].join("\0"));
-    if (answer.status !== 0) throw new AddressFault(`the address names no run: ${answer.text.trim()}`);
-    text = answer.text;
-    const traced = ask("listset_trace", text).text;
-    if (!isTrace(traced)) throw new AddressFault(`the run of the address has no trace: ${traced.trim()}`);
-    if (isWorthIt(new Trace(traced))) break;
-  }
-  return joined(text);
-}
-
-function isWorthIt({ calls, changes, total }) {
-  const puts = changes.some(({ put }) => put !== undefined) && changes.some(({ took }) => took !== undefined);
-  const isBeside = (one, other) => one.thread !== other.thread && one.begun < other.ended && other.begun < one.ended;
-  const beside = calls.filter((one) => calls.some((other) => isBeside(one, other)));
-  const isTold = beside.some(({ changes: own, operation, reply }) => !own && (operation === "contains" || reply === "false"));
-  return puts && isTold && total <= MOST_SEEN && calls.every(({ ended }) => ended !== null);
-}
-
-function joined(text) {
-  const lines = [];
-  for (const line of text.trimEnd().split("\n")) {
-    const [thread, steps] = /^go (\d+) (\d+)$/.exec(line)?.slice(1) ?? [];
-    const [before, count] = /^go (\d+) (\d+)$/.exec(lines.at(-1) ?? "")?.slice(1) ?? [];
-    if (thread !== undefined && thread === before) lines[lines.length - 1] = `go ${thread} ${Number(count) + Number(steps)}`;
-    else lines.push(line);
-  }
-  return `${lines.join("\n")}\n`;
-}
-
-function anotherSeed(before, kind = null) {
-  const list = kind ?? KINDS[Math.floor(Math.random() * KINDS.length)];
-  const number = 1 + Math.floor(Math.random() * 9999);
-  const seed = seedOf(list, number);
-  return seed === before ? seedOf(list, (number % 9999) + 1) : seed;
-}
-return { seedOf, partsOfSeed, scheduleOfSeed, anotherSeed };
-})();
-
-// data/levels.js
-const $data_levels = (() => {
-const BREAK_LEVELS = {
-  lock: {
-    story: "One thread at a time, they say. Let two of them meet.",
-    hints: [
-      "Two adds of different keys, both between 3 and 7.",
-      "Let both threads walk to the same place: pred is the node of 3, curr that of 7.",
-      "Stop A just before it writes pred.next. Let B do its whole add. Then let A end.",
-    ],
-    lacks: "It continues although another thread holds the lock.",
-    others: {
-      "It releases the lock before it writes the link.": "it releases the lock only after that",
-      "It writes the link of pred before that of its own node.": "it writes the link of its own node first",
-    },
-    start: [["add", 5], ["add", 4]], shortest: [20, 2],
-    missing: [{ row: 1, part: "lock the list" }],
-  },
-  "mark-in-remove": {
-    story: "Two threads remove one key. One of them should answer that it came too late.",
-    hints: [
-      "Two removes of the same key, 3.",
-      "Let both threads find the node of 3 before either of them marks it.",
-      "Stop A before the step that sets the mark; let B set its own; then let both end.",
-    ],
-    lacks: "A remove marks a node that is marked already.",
-    others: {
-      "A remove takes its node out before it marks it.": "it marks the node first",
-      "A remove does not look whether its key is there.": "it compares curr.key with its key",
-    },
-    start: [["remove", 3], ["remove", 3]], shortest: [14, 2],
-    missing: [{ row: 9, part: "no mark" }],
-  },
-  mark: {
-    story: "Removing a node is one compare-and-set here. Fast. Too fast?",
-    hints: [
-      "An add of 5, and a remove of the node in front of it.",
-      "The pred of the add must be the node of 3, which the other thread removes.",
-      "Stop A before the step that links 5 in. Let B remove 3. Then one step of A.",
-    ],
-    lacks: "A remove unlinks its node without marking it first.",
-    others: {
-      "A remove marks a node that is marked already.": "it marks no node at all",
-      "An add writes its link without comparing.": "it compares with what it saw",
-    },
-    start: [["add", 5], ["remove", 3]], shortest: [15, 2],
-    missing: [{ row: 9, part: "CAS curr.next: succ, no mark → mark" }],
-  },
-  "new-slot": {
-    story: "Each key that is added needs a node of its own. Does it get one?",
-    hints: ["One thread is enough. It adds.", "Two adds of different keys, one after the other.", "Let A add 4, and then 5. Where is 4?"],
-    lacks: "An add writes into the node of its last key.",
-    others: {
-      "An add does not look whether its key is there.": "it compares curr.key with its key",
-      "An add writes its link without comparing.": "it compares with what it saw",
-    },
-    start: [["add", 4], ["add", 5]], shortest: [20, 2],
-    missing: [{ row: 5, part: "new " }],
-  },
-  "second-lock": {
-    story: "Hand over hand, the book says: two locks at a time. Here one hand stays in the pocket.",
-    hints: [
-      "An add of 5 beside a remove of 3, its neighbour.",
-      "The add must hold the lock of 3 while the other thread removes that node.",
-      "Let B step through its add until just before it writes pred.next, with 3 as its pred. Then try a remove of 3 by A.",
-    ],
-    lacks: "A remove locks only pred, and not the node that it unlinks.",
-    others: {
-      "A remove does not lock pred.": "it locks pred, and keeps that lock until it has written",
-      "A remove releases its lock before it writes.": "it releases its lock only after that",
-    },
-    start: [["remove", 3], ["add", 5]], shortest: [21, 2],
-    missing: [{ row: 3, part: "lock curr," }],
-  },
-  "hand-over-hand": {
-    story: "A walk should never be without a lock, not for one moment.",
-    hints: [
-      "An add of 5 beside a remove of 3, its neighbour.",
-      "There is a moment in which the walk of the add holds no lock. Find it.",
-      "Stop B on its way from the node of 3 to that of 7. Let A remove 3. Then let B end.",
-    ],
-    lacks: "A walk releases one lock before it has the next.",
-    others: {
-      "It releases its locks before it writes.": "it releases them only after that",
-      "A walk does not lock the head.": "it locks the head first of all",
-    },
-    start: [["remove", 3], ["add", 5]], shortest: [24, 2],
-    missing: [{ row: 3, part: "pred still locked" }],
-  },
-  "second-walk": {
-    story: "It locks two nodes, and looks again. But what does it look at?",
-    hints: [
-      "An add of 5 beside a remove of 3, its neighbour.",
-      "The node that the add has found as pred may be unlinked before it is locked.",
-      "Stop A before it locks pred, which is the node of 3. Let B remove 3. Then let A end.",
-    ],
-    lacks: "With the locks it does not walk again: pred may not be in the list any more.",
-    others: {
-      "It does not lock curr.": "it locks pred and curr",
-      "It does not look whether pred still leads to curr.": "it looks at that, with both locks",
-    },
-    start: [["add", 5], ["remove", 3]], shortest: [23, 2],
-    missing: [{ row: 6, part: "walk from the head again" }, { row: 7, part: "until pred is met, else not valid" }],
-  },
-  "marks-in-validation": {
-    story: "Marks are set here. Does everybody read them?",
-    hints: [
-      "An add of 5 beside a remove of 3, its neighbour.",
-      "The node that the add has found as pred may be removed before it is locked.",
-      "Stop A before it locks pred, which is the node of 3. Let B remove 3. Then let A end.",
-    ],
-    lacks: "The validation does not look at the marks.",
-    others: {
-      "The validation does not look whether pred still leads to curr.": "it looks at that, with both locks",
-      "A remove does not mark its node.": "it marks the node before it unlinks it",
-    },
-    start: [["add", 5], ["remove", 3]], shortest: [25, 2],
-    missing: [{ row: 6, part: "pred unmarked," }, { row: 7, part: "and curr unmarked" }],
-  },
-  "mark-in-add": {
-    story: "A marked link must not change. Somebody changes it all the same.",
-    hints: [
-      "An add of 5, and a remove of the node in front of it.",
-      "The remove must have marked the node of 3, and done no more.",
-      "Stop A before its last step. Let B remove 3 until it has set the mark. Then let A end.",
-    ],
-    lacks: "An add inserts its node behind a marked one.",
-    others: {
-      "A remove does not mark its node.": "it marks the node before it unlinks it",
-      "An add does not look whether its key is there.": "it compares curr.key with its key",
-    },
-    start: [["add", 5], ["remove", 3]], shortest: [17, 2],
-    missing: [{ row: 7, part: "no mark" }],
-  },
-  "same-node": {
-    story: "The second walk looks for pred. It meets something that looks like it.",
-    hints: [
-      "Three calls: an add of 5, and of the other thread a remove and an add of one key.",
-      "The node of 3 is unlinked, and another node of 3 is inserted.",
-      "Stop A before it locks pred, the old node of 3. Let B remove 3 and add 3 again. Then let A end.",
-    ],
-    lacks: "The second walk looks for the key of pred, and not for the node itself.",
-    others: {
-      "It does not walk a second time.": "it walks from the head again, with its locks",
-      "It does not lock pred.": "it locks pred and curr",
-    },
-    start: [["add", 5], ["remove", 3]], shortest: [36, 3],
-    missing: [{ row: 7, part: "pred is met" }],
-  },
-  "mark-at-key": {
-    story: "A marked node can stay in the chain for a while. Who reads it there?",
-    hints: [
-      "Three calls: an add of 5, a remove of 7, and then a contains of 7.",
-      "A remove whose last compare-and-set fails leaves its node in the chain, marked.",
-      "Stop A before it links 5 in. Let B remove 7 up to its last step. Link 5 in, let B end. Then call contains(7).",
-    ],
-    lacks: "A contains does not look at the mark of the node with its key.",
-    others: {
-      "A remove does not mark its node.": "it marks the node before it unlinks it",
-      "A contains stops before it comes to its key.": "it walks on while curr.key is below its key",
-    },
-    start: [["add", 5], ["remove", 7]], shortest: [26, 3],
-    missing: [{ row: 22, part: "and unmarked" }],
-  },
-  "mark-in-ceiling": {
-    story: "ceiling(2) asks for the smallest key from 2 on. It takes the first node that it finds. Any node?",
-    hints: [
-      "A remove of 3, and a ceiling of 2. Let something end in between.",
-      "The remove has marked the node of 3 and has not ended. A contains of 3 answers false. And then the ceiling?",
-      "Stop A after it set the mark. Let B call contains(3), and then ceiling(2).",
-    ],
-    lacks: "A ceiling does not look at the mark of its node.",
-    others: {
-      "A ceiling stops before it comes to its key.": "it walks on while curr.key is below its key",
-      "A remove does not mark its node.": "it marks the node before it unlinks it",
-    },
-    start: [["remove", 3], ["contains", 3]], shortest: [16, 3],
-    missing: [{ row: 25, part: "if marked: start again;" }],
-  },
-  "mark-in-contains": {
-    story: "Here contains does not look at the mark. No schedule is known after which no order explains the calls. Why not?",
-    hints: [
-      "A remove of 3, and a contains of 3 by the other thread.",
-      "The remove has set its mark and is still pending. So it may come after the contains.",
-      "When the remove has ended, can a new contains still reach its node? In this list a remove ends after the node is unlinked.",
-    ],
-    lacks: "A contains does not look at the mark of its node.",
-    others: {},
-    start: [["remove", 3], ["contains", 3]], shortest: null,
-    missing: [{ row: 22, part: "and unmarked" }],
-  },
-};
-return { BREAK_LEVELS };
-})();
-
-// data/chapter.js
-const $data_chapter = (() => {
-const { BREAK_LEVELS } = $data_levels;
-const CHAPTER = [
-  "lock", "second-lock", "hand-over-hand", "second-walk", "same-node", "marks-in-validation", "mark-in-remove", "mark", "mark-in-add",
-  "mark-at-key",
-];
-const BEYOND = ["new-slot", "mark-in-ceiling", "mark-in-contains"];
-
-const NUMBERED = Object.keys(BREAK_LEVELS);
-const numberOfLevel = (name) => NUMBERED.indexOf(name) + 1;
-const levelOfNumber = (number) => NUMBERED[Number(number) - 1];
-
-const whyWrong = (name, sentence) => `No: ${BREAK_LEVELS[name].others[sentence]}. Look for the line that this list makes differently.`;
-return { CHAPTER, BEYOND, numberOfLevel, levelOfNumber, whyWrong };
+return { wantsLessMotion, isPlaying, stopPlay, togglePlay, changeSpeed, goByHand, goToTurn };
 })();
 
 // run/broken.js
@@ -2988,105 +2776,1547 @@ function rowInWords(trace, number) {
 return { EXPLAINED, TO_BREAK, NO_TASK, isTaskDone, askList, startOfLacking, verdictOnLacking, departureOf };
 })();
 
-// page/scene_address.js
-const $page_scene_address = (() => {
-const { levelOfNumber } = $data_chapter;
-const { AddressFault, addressOf, LONGEST_ADDRESS, longLine } = $run_address;
-const { startOfLacking } = $run_broken;
-const { eventsAsked } = $run_schedule_text;
-const SCENES = /** @type {const} */ (["assignment", "story", "ask", "code", "teachers"]); // `break` is in run/address.js, with its schedules
-const SCENE_VIEWS = ["lecture", "embed"];
+// run/draft.js
+const $run_draft = (() => {
+const { isTrace, Trace } = $run_trace;
+const MOST_TRIED = 1000; // steps of a thread that does not come to where it is sent, to see for what it waits
+const DRAFT_LINE = /^go \d+ (?:out|to \d+)$/m;
 
-function sceneOfHash(hash) {
-  const { view = null, ...parts } = Object.fromEntries(new URLSearchParams(hash.replace(/^#/, "")));
-  const activity = SCENES.find((name) => name in parts);
-  if (activity === undefined) return null;
-  if (view !== null && !SCENE_VIEWS.includes(view)) throw new AddressFault(`"${view.slice(0, 60)}" is no view of a page`);
-  const { [activity]: id, ...given } = parts;
-  return { activity, id, given, view };
+function scheduleOfDraft(ask, text, lacks = null) {
+  if (!DRAFT_LINE.test(text)) return { text, fault: null };
+  if (lacks !== null) return scheduleOfLackingDraft(ask, lacks, text);
+  const made = ask("listset_draft", text.replace(/^listset-(?:schedule|draft) [12]$/m, "listset-draft 2"));
+  return made.status === 0 ? { text: made.text, fault: null } : { text: null, fault: made.text.trim() };
 }
 
-const START_OF_CODE = [3, 7];
-const shortLine = (line) => `${line[0]}${line.split(" ").slice(1).join(".")}`;
-const linesOfCode = (s) => s.split(",").filter((line) => /^(b\d+\.[a-z]+\.\d+|g\d+\.\d+)$/.test(line)).map(longLine);
-
-const SET_OF_CODE = { threads: 2, quota: 9 };
-
-function addressOfCode(list, opening, lines, set = SET_OF_CODE) {
-  const ofOpening = opening.join() === START_OF_CODE.join() && lines.length === 0 ? "" : `&opening=${opening.join(".")}`;
-  const ofSet = ["threads", "quota"].map((name) => (set[name] === SET_OF_CODE[name] ? "" : `&${name}=${set[name]}`)).join("");
-  return `#code=${list}${ofSet}${ofOpening}${lines.length > 0 ? `&s=${lines.map(shortLine).join()}` : ""}`;
+function stepsOfLacking(ask, lacks, lines, thread, row) {
+  const fault = (cause) => ({ count: null, fault: `listset: line ${lines.length + 1}: ${cause}` });
+  const { text } = ask("listset_lacking", lacks, `${[...lines, `go ${thread} ${MOST_TRIED}`].join("\n")}\n`, "trace");
+  if (!isTrace(text)) return { count: null, fault: text.trim() };
+  const steps = new Trace(text).events().filter(({ line }) => line === lines.length + 1);
+  const end = steps.findIndex(({ answer }) => answer !== undefined);
+  const at = row === undefined ? end : steps.findIndex(({ answer, changes }) => answer === undefined && changes.pc === Number(row));
+  if (at !== -1) return { count: at + 1, fault: null };
+  return fault(end !== -1 || steps.length === 0 ? "Idle" : "Waits");
 }
 
-function addressOfLevel({ id }, { text }) {
-  const name = levelOfNumber(id);
-  if (id === "" || text === "" || text === startOfLacking(name)) return id === "" ? "#break" : `#break=${id}`;
-  return `#break=${id}&${addressOf(text, eventsAsked(text))?.slice(1) ?? ""}`;
+function scheduleOfLackingDraft(ask, lacks, text) {
+  const lines = [];
+  for (const line of text.split("\n").slice(0, -1)) {
+    const asked = /^go (\d+) (?:out|to (\d+))$/.exec(line);
+    const { count, fault } = asked === null ? { count: null, fault: null } : stepsOfLacking(ask, lacks, lines, asked[1], asked[2]);
+    if (fault !== null) return { text: null, fault };
+    lines.push(asked === null ? line : `go ${asked[1]} ${count}`);
+  }
+  return { text: [...lines, ""].join("\n"), fault: null };
 }
-
-function addressOfLesson({ id }, { text }, { course }) {
-  const named = `${course === null ? "#" : `${course}&`}learn${id === "" ? "" : `=${id}`}`;
-  const own = text === "" ? null : addressOf(text, eventsAsked(text));
-  const whole = own === null ? named : `${named}&${own.slice(1)}`;
-  return whole.length <= LONGEST_ADDRESS ? whole : named;
-}
-
-const ADDRESSES = {
-  story: ({ id }) => `#story=${id}`,
-  ask: ({ id }) => (id === "" ? "#ask" : `#ask=${id}`),
-  code: ({ id, given }, { text }) => (text === "" ? `#${new URLSearchParams({ code: id, ...given })}` : text),
-  break: addressOfLevel,
-  learn: addressOfLesson,
-  teachers: () => "#teachers",
-  assignment: ({ id, given }) => `#${new URLSearchParams({ assignment: id, ...given })}`.replaceAll("%2C", ","),
-};
-
-const addressOfScene = ({ place, scene }, given) =>
-  `${ADDRESSES[place.activity](place, scene, given)}${place.view === null ? "" : `&view=${place.view}`}`;
-return { sceneOfHash, START_OF_CODE, linesOfCode, SET_OF_CODE, addressOfCode, addressOfScene };
+return { scheduleOfDraft };
 })();
 
-// page/address_of.js
-const $page_address_of = (() => {
-const { CLASSICS } = $made_classics;
+// story/phases.js
+const $story_phases = (() => {
+const walkers = (...rows) => Object.fromEntries(rows.map((row) => [row, "walk"]));
+
+const PHASES = {
+  plain: { ...walkers(1, 2, 3, 4), 5: "make", 6: "make", 7: "link", 8: "unlink", 9: "unlink", 10: "answer" },
+  coarse: { 1: "lock", ...walkers(2, 3, 4), 5: "make", 6: "make", 7: "link", 8: "unlink", 9: "unlink", 10: "unlock" },
+  fine: {
+    1: "first", 2: "next", 3: "next", 4: "next", 5: "letgo", 6: "next", 7: "make", 8: "make", 9: "link", 10: "unlink", 11: "unlink",
+    12: "unlock", 13: "unlock",
+  },
+  optimistic: {
+    ...walkers(1, 2, 3), 4: "locks", 5: "locks", 6: "again", 7: "again", 8: "again", 9: "make", 10: "make", 11: "link", 12: "unlink",
+    13: "unlink", 14: "unlock", 15: "unlock",
+  },
+  lazy: {
+    ...walkers(1, 2, 3, 20, 21, 23, 24), 25: "look", 4: "locks", 5: "locks", 6: "check", 7: "check", 8: "make", 9: "make", 10: "link", 11: "mark",
+    12: "tidy", 13: "unlock", 14: "unlock", 22: "look",
+  },
+  "lock-free": {
+    ...walkers(1, 2, 4, 8, 20, 21, 23, 24), 25: "look", 3: "snip", 5: "make", 6: "make", 7: "swing", 9: "marktry", 10: "tidytry", 22: "look",
+  },
+};
+
+const phaseAt = (list, row, plain) => PHASES[plain ? "plain" : list][row] ?? "answer";
+const joinedRows = (list, plain) => (plain ? [10] : list === "lock-free" || list === "lazy" ? [22, 25] : []);
+
+const WORDS = {
+  walk: ({ key }) => `walk to the place of ${key}`,
+  make: ({ key }) => `make a node for ${key}`,
+  link: ({ key }) => `hang ${key} in`,
+  unlink: ({ key }) => `point past ${key}`,
+  answer: () => "answer",
+  lock: () => "take the lock",
+  unlock: () => "let go, and answer",
+  first: () => "lock the head",
+  next: () => "lock the next node",
+  letgo: () => "let go of the one behind",
+  locks: () => "lock pred and curr",
+  again: () => "look once more",
+  check: () => "look at the marks",
+  mark: ({ key }) => `mark ${key}: removed`,
+  tidy: ({ key }) => `take ${key} out of the chain`,
+  look: () => "look at the mark",
+  snip: () => "take the marked node out",
+  swing: ({ key }) => `try to hang ${key} in`,
+  marktry: ({ key }) => `try to mark ${key}`,
+  tidytry: ({ key }) => `try to take ${key} out`,
+};
+
+const phaseText = (phase, call) => WORDS[phase](call);
+return { phaseAt, joinedRows, phaseText };
+})();
+
+// story/live_run.js
+const $story_live_run = (() => {
+const { askNow } = $page_now;
+const { askList, verdictOnLacking } = $run_broken;
+const { scheduleOfDraft } = $run_draft;
+const { isFailed, isLock } = $run_outcomes;
+const { scheduleOfTrace, titleOf } = $run_schedule_text;
+const { keysInChain, promisedKeys, State } = $run_state;
+const { isTrace, Trace } = $run_trace;
+const { joinedRows, phaseAt } = $story_phases;
+const MOST_STEPS = 80; // of one call, in the short lists of the story
+
+const linesOf = (schedule) => schedule.split("\n").filter((line) => /^(begin|go) /.test(line));
+
+class ShownRun {
+  /** @param {any} trace @param {any} state */
+  constructor(trace, state, count = 0) {
+    this.trace = trace;
+    this.state = state;
+    this.count = count;
+  }
+
+  isIdle(thread) {
+    return this.state.threads[thread].pc === 0;
+  }
+
+  promised() {
+    return promisedKeys(this.trace);
+  }
+
+  has() {
+    return keysInChain(this.state);
+  }
+}
+
+/**
+ * @typedef {object} RunSpec
+ * @property {string} list
+ * @property {string | null} [lacks]  the check that the list lacks
+ * @property {number} [threads]
+ * @property {number} [quota]
+ * @property {number[]} [opening]
+ * @property {string[]} [lines]  the schedule's first lines, also those of a draft
+ * @property {number} [version]  of the schedule's text
+ * @property {boolean} [free]  the reader may begin any call, and stop before each look
+ * @property {boolean} [plain]  the list's lock is ignored, and nothing is told of it
+ */
+class LiveRun extends ShownRun {
+  /** @param {RunSpec} spec */
+  constructor(spec) {
+    super(null, null);
+    this.spec = { lacks: null, threads: 2, quota: 2, opening: [], plain: false, version: 2, ...spec };
+    this.first = this.expanded(spec.lines ?? []);
+    this.take(this.first);
+  }
+
+  expanded(lines) {
+    const { text, fault } = scheduleOfDraft(askNow, this.textOf(lines), this.spec.lacks);
+    if (fault !== null) throw new Error(fault);
+    return linesOf(text);
+  }
+
+  textOf(lines) {
+    const { list, threads, quota, opening, version } = this.spec;
+    const head = [titleOf(version), `list ${list}`, `threads ${threads}`, `quota ${quota}`];
+    return `${[...head, ...opening.map((key) => `opening ${key}`), ...lines].join("\n")}\n`;
+  }
+
+  traceOf(lines) {
+    const { text } = askList(askNow, "listset_trace", this.spec.lacks, this.textOf(lines));
+    if (!isTrace(text)) throw new Error(text.trim());
+    return new Trace(text, this.spec.version);
+  }
+
+  take(lines) {
+    this.lines = [...lines];
+    this.trace = this.traceOf(this.lines);
+    this.state = new State(this.trace);
+    this.moveTo(this.trace.total);
+  }
+
+  linesHere() {
+    return linesOf(scheduleOfTrace(this.trace, this.count));
+  }
+
+  get schedule() {
+    return this.textOf(this.lines);
+  }
+
+  moveTo(count) {
+    this.count = Math.max(0, Math.min(this.trace.total, count));
+    this.state.moveTo(this.count);
+  }
+
+  nextOf(thread, call = null) {
+    const isBegin = this.isIdle(thread);
+    const lines = isBegin ? [...this.lines, `begin ${thread} ${call.join(" ")}`] : this.lines;
+    const trace = this.traceOf([...lines, `go ${thread} ${MOST_STEPS}`]);
+    const begun = this.trace.total + lines.length - this.lines.length;
+    const row = isBegin ? trace.event(begun).changes.pc : this.state.threads[thread].pc;
+    return { ...this.chunk(trace, begun, row), thread, row, isBegin };
+  }
+
+  chunk(trace, begun, row) {
+    const { list, plain } = this.spec;
+    const phase = phaseAt(list, row, plain);
+    const joined = this.spec.free && !plain ? [] : joinedRows(list, plain);
+    let steps = 0;
+    let before = row;
+    for (let number = begun + 1; number <= trace.total; number++) {
+      const event = trace.event(number);
+      steps++;
+      if (event.answer !== undefined) break;
+      const after = event.changes.pc;
+      const ofLock = isFailed(event) && isLock(event.word);
+      const waits = ofLock && after === before; // a broken list may go on all the same
+      if (waits || (isFailed(event) && !ofLock)) return { steps, phase, waits };
+      before = after;
+      if (phaseAt(list, after, plain) !== phase && !joined.includes(after)) break;
+    }
+    return { steps, phase, waits: false };
+  }
+
+  stepsUntil(thread, isThere) {
+    const { total } = this.trace;
+    const trace = this.traceOf([...this.lines, `go ${thread} ${MOST_STEPS}`]);
+    for (let number = total + 1; number <= trace.total; number++) {
+      const event = trace.event(number);
+      if (event.answer !== undefined || isThere(event) || this.waitsAt(event)) return number - total;
+    }
+    return 1;
+  }
+
+  waitsAt(event) {
+    return isFailed(event) && isLock(event.word) && this.spec.lacks !== "lock";
+  }
+
+  begin(thread, [operation, key]) {
+    this.take([...this.lines, `begin ${thread} ${operation} ${key}`]);
+  }
+
+  go(thread, steps) {
+    this.take([...this.lines, `go ${thread} ${steps}`]);
+  }
+
+  verdict() {
+    return verdictOnLacking(askNow, this.spec.lacks, this.schedule);
+  }
+
+  isBroken() {
+    return this.spec.lacks !== null && this.verdict().kind === "broken";
+  }
+}
+return { linesOf, ShownRun, LiveRun };
+})();
+
+// draw/glide.js
+const $draw_glide = (() => {
+const TIME = 260; // milliseconds
+const EASE = { duration: TIME, easing: "cubic-bezier(.2, .7, .2, 1)" };
+
+const wantsStill = () => matchMedia("(prefers-reduced-motion: reduce)").matches;
+
+function placesIn(box) {
+  const places = new Map();
+  for (const part of box.querySelectorAll("[data-part]")) {
+    const { x = "0", y = "0", to = "" } = part.dataset;
+    places.set(part.dataset.part, { x: Number(x), y: Number(y), to, d: part.querySelector("path")?.getAttribute("d") ?? "" });
+  }
+  return places;
+}
+
+function glideArrow(part, before) {
+  const path = part.querySelector("path");
+  if (path === null || path.getAttribute("d") === before.d) return;
+  if (part.dataset.to === before.to) {
+    const forms = [before.d, path.getAttribute("d")].map((d) => ({ d: `path("${d}")` }));
+    path.animate(forms, EASE);
+  } else {
+    const length = path.getTotalLength();
+    const strokeDasharray = `${length} ${length}`;
+    path.animate([{ strokeDasharray, strokeDashoffset: length }, { strokeDasharray, strokeDashoffset: 0 }], EASE);
+  }
+}
+
+function glide(box, draw, isNear) {
+  const before = isNear && !wantsStill() && !document.hidden ? placesIn(box) : null;
+  draw();
+  if (before === null || before.size === 0) return;
+  for (const part of box.querySelectorAll("[data-part]")) {
+    const was = before.get(part.dataset.part);
+    if (was === undefined) part.animate([{ opacity: 0 }, { opacity: 1 }], EASE);
+    else if (part.dataset.part.startsWith("link ")) glideArrow(part, was);
+    else {
+      const [dx, dy] = [was.x - Number(part.dataset.x), was.y - Number(part.dataset.y)];
+      if (dx !== 0 || dy !== 0) part.animate([{ translate: `${dx}px ${dy}px` }, { translate: "0 0" }], EASE);
+    }
+  }
+}
+return { glide };
+})();
+
+// draw/places.js
+const $draw_places = (() => {
 const { LISTS } = $made_rows;
-const { addressOf } = $run_address;
-const { partsOfSeed } = $run_seed;
-const { addressOfScene } = $page_scene_address;
-function ofRun(state) {
-  const { task, run } = state;
-  if (task.kind === "own") return addressOf(run.text, run.count, run.lacks);
-  return `#${task.kind}=${task.id}&event=${run.count}`;
+const { letterOf } = $run_markup;
+const { ownerIn } = $run_outcomes;
+const { isWritten, keyNumber, linkTarget } = $run_state;
+const { NODE_REGISTERS } = $run_trace;
+const WIDE = { node: 94, gap: 48, share: 1 };
+const COMPACT = { node: 76, gap: 32, share: 0.76 }; // share: of the room that a wide one needs
+const NARROW = 480; // pixels
+const shapeFor = (room) => (room < NARROW ? COMPACT : WIDE);
+
+const NODE_HEIGHT = 54;
+const LEAST_GAP = 12; // between nodes that are not in the chain
+const FOLD_WIDTH = 84;
+const TOP = 58;
+const MOST_UNFOLDED = 14; // a longer chain is folded
+const MOST_ASIDE = 10; // nodes drawn that are not in the chain
+const MOST_POINTING = 6; // threads whose registers are drawn
+const SIGN_WIDTH = 8.6; // of a register's label
+
+function pointersOf(state, event) {
+  const inCall = state.threads.map((held, thread) => ({ held, thread })).filter(({ held }) => held.pc !== 0);
+  inCall.sort((one, other) => Number(other.thread === event?.thread) - Number(one.thread === event?.thread));
+  const { calls } = LISTS[state.trace.kind];
+  return inCall.slice(0, MOST_POINTING).map(({ held, thread }) => {
+    const registers = calls[held.call.operation].registers.filter((name) => NODE_REGISTERS.includes(name));
+    const at = {};
+    for (const name of registers) if (isPointing(held, name)) (at[held[name]] ??= []).push(name);
+    return { thread, at };
+  });
 }
 
-function addressIn(state, given) {
-  const { place, exercise } = state;
-  if (place.screen === "scene") return addressOfScene(state, given);
-  const view = place.view === null ? "" : `&view=${place.view}`;
-  if (place.activity === "compare") return given.sides === null ? `#compare${view}` : `${given.sides}${view}`;
-  if (place.screen === "map") return `#${place.activity}${view}`;
-  const address = ofRun(state);
-  return address === null ? null : `${address}${exercise === null ? "" : "&judge"}${view}`;
+const isPointing = (held, name) => held[name] !== "head" || (name === "pred" && held.curr !== "head");
+
+function importantNodes(state, event, pointers) {
+  const important = new Set(["head", "tail"]);
+  if (event?.word) important.add(event.word.split(".")[0]);
+  for (const { at } of pointers) Object.keys(at).forEach((name) => important.add(name));
+  const locked = Object.values(state.locks()).flat().map(ownerIn).filter((name) => name !== "list");
+  locked.slice(0, 8).forEach((name) => important.add(name));
+  return important;
 }
 
-const WHOLE = "Why not just one lock?";
-const NAMES = { judge: "Judge", compare: "Compare", read: "Read" };
+function foldedChain(chain, important) {
+  if (chain.length <= MOST_UNFOLDED) return chain.map((name) => ({ name }));
+  const isNear = (index) => chain.slice(Math.max(index - 1, 0), index + 2).some((name) => important.has(name));
+  const items = [];
+  chain.forEach((name, index) => {
+    const last = items[items.length - 1];
+    if (isNear(index)) items.push({ name });
+    else if (last?.folded) last.folded.push(name);
+    else items.push({ folded: [name] });
+  });
+  return items.flatMap((item) => (item.folded?.length === 1 ? [{ name: item.folded[0] }] : [item]));
+}
 
-function titleIn(state, titles) {
-  const { place, task, run } = state;
-  const list = run.trace === null ? "" : LISTS[run.trace.kind].name;
-  if (place.screen === "scene") return titles.scene;
-  if (place.activity === "compare") return `${titles.sides} · ${WHOLE}`;
-  if (place.screen === "map") return `${NAMES[place.activity]} · ${WHOLE}`;
-  const judged = state.exercise === null ? "" : "Judge: ";
-  const ofTask = {
-    example: () => `${judged}${CLASSICS[task.id].question}`,
-    seed: () => `${judged}Run ${partsOfSeed(task.id).number} of ${list}`,
-    own: () => `${judged}${task.work}: ${list}`,
+function placesOfChain(items, shape) {
+  const places = {};
+  let x = 16;
+  for (const item of items) {
+    item.x = x;
+    const width = item.folded ? FOLD_WIDTH : shape.node;
+    for (const name of item.folded ?? [item.name]) places[name] = { x, y: TOP, width, gap: shape.gap, folded: !!item.folded };
+    x += width + shape.gap;
+  }
+  return { places, width: x - shape.gap + 16 };
+}
+
+function nodesAside(state, chain, important) {
+  const inChain = new Set(chain);
+  const aside = Object.keys(state.nodes).filter((name) => !inChain.has(name) && isWritten(state.nodes[name]));
+  const rank = (name) => (important.has(name) ? 2 : state.nodes[name].reached ? 0 : 1);
+  const latest = [...aside].reverse().sort((one, other) => rank(other) - rank(one));
+  return { shown: latest.slice(0, MOST_ASIDE), more: Math.max(0, aside.length - MOST_ASIDE) };
+}
+
+function placeAside(state, chain, shown, places, y) {
+  const { width, gap } = places.head;
+  const taken = [];
+  const byKey = [...shown].sort((one, other) => keyNumber(state.nodes[one].key) - keyNumber(state.nodes[other].key));
+  for (const name of byKey) {
+    const key = keyNumber(state.nodes[name].key);
+    const before = chain.filter((other) => keyNumber(state.nodes[other].key) < key);
+    const place = places[before[before.length - 1] ?? "head"];
+    let x = place.x + (place.width + gap) / 2;
+    while (taken.some((other) => Math.abs(other - x) < width + LEAST_GAP)) x += width + 16;
+    places[name] = { x, y, width, gap, aside: true, lane: taken.length % 3 };
+    taken.push(x);
+  }
+  return taken.length === 0 ? 0 : Math.max(...taken) + width + 16;
+}
+
+function roomsUnder(state, items, shown, shape) {
+  const risen = new Set(shown.map((name) => linkTarget(state.nodes[name].link)));
+  const rooms = {};
+  items.forEach(({ name }, index) => {
+    const next = items[index + 1];
+    const isCrossed = next !== undefined && (next.folded ?? [next.name]).some((other) => risen.has(other));
+    rooms[name] = shape.node + (isCrossed ? 0 : shape.gap - 6);
+  });
+  return rooms;
+}
+
+function labelTexts(thread, registers, room) {
+  const texts = [];
+  for (const register of registers) {
+    const joined = `${texts[texts.length - 1]}, ${register}`;
+    if (texts.length > 0 && joined.length * SIGN_WIDTH <= room) texts[texts.length - 1] = joined;
+    else texts.push(`▲ ${letterOf(thread)} ${register}`);
+  }
+  return texts;
+}
+
+function pointerLabels(pointers, places, rooms) {
+  const labels = [];
+  const add = (thread, name, text) => {
+    const { x, y } = places[name];
+    const own = { thread, name, text, row: y, left: x, right: x + SIGN_WIDTH * text.length + 8, lane: 0 };
+    const isBeside = (other) => other.left >= own.right || own.left >= other.right;
+    const isInTheWay = (other) => other.row === own.row && other.lane === own.lane && !isBeside(other);
+    while (labels.some(isInTheWay)) own.lane++;
+    labels.push(own);
   };
-  return `${ofTask[task.kind]()} · ${WHOLE}`;
+  for (const { thread, at } of pointers) {
+    for (const name in at) {
+      if (!places[name] || places[name].folded) continue;
+      for (const text of labelTexts(thread, at[name], rooms[name] ?? places[name].width)) add(thread, name, text);
+    }
+  }
+  return labels;
 }
-return { addressIn, titleIn };
+
+function arranged(state, event, shape) {
+  const chain = state.chain();
+  const pointers = pointersOf(state, event);
+  const important = importantNodes(state, event, pointers);
+  const items = foldedChain(chain, important);
+  const { places, width } = placesOfChain(items, shape);
+  const { shown, more } = nodesAside(state, chain, important);
+  const rooms = roomsUnder(state, items, shown, shape);
+  const lanesUnder = (labels, row) => Math.max(0, ...labels.filter((own) => own.row === row).map((own) => own.lane + 1));
+  const below = TOP + NODE_HEIGHT + 18 * lanesUnder(pointerLabels(pointers, places, rooms), TOP) + 62;
+  const right = placeAside(state, chain, shown, places, below);
+  const labels = pointerLabels(pointers, places, rooms);
+  const bottom = shown.length > 0 ? below : TOP;
+  const names = [...items.filter((item) => item.name).map((item) => item.name), ...shown];
+  const height = bottom + NODE_HEIGHT + 18 * lanesUnder(labels, bottom) + 14;
+  const wide = Math.max(width, right, ...labels.map((own) => own.right));
+  return { chain, items, places, labels, names, more, width: wide, height };
+}
+return { shapeFor, NODE_HEIGHT, LEAST_GAP, FOLD_WIDTH, TOP, SIGN_WIDTH, isPointing, arranged };
+})();
+
+// draw/arrows.js
+const $draw_arrows = (() => {
+const { said, tag, title } = $run_markup;
+const { linkTarget } = $run_state;
+const { FOLD_WIDTH, LEAST_GAP, NODE_HEIGHT, TOP } = $draw_places;
+const LINK_WIDTH = 24;
+
+function drawLink(state, name, places, event) {
+  const { link, reached } = state.nodes[name];
+  const target = linkTarget(link);
+  const from = places[name];
+  const to = places[target];
+  if (!to || from.folded || name === "tail" || (target === "head" && !reached)) return "";
+  const kind = event?.word === `${name}.link` ? "hot" : from.aside ? "out" : "in";
+  const isMarked = link.endsWith("*");
+  const x = from.x + from.width - (isMarked ? 1 : LINK_WIDTH / 2);
+  const y = from.y + NODE_HEIGHT / 2;
+  return tag(
+    "g",
+    { class: `link ${kind}${from.aside ? " aside" : ""}`, "data-part": `link ${name}`, "data-to": target },
+    title(`${name}.link: ${said(link)}`),
+    isMarked ? "" : tag("circle", { cx: x, cy: y, r: 4 }),
+    tag("path", { d: pathOf(from, to, x, y), "marker-end": `url(#tip-${kind})` }),
+  );
+}
+
+function pathOf(from, to, x1, y1) {
+  if (from === to) return pathAround(from, x1, y1);
+  if (from.aside && !to.aside) return pathUp(from, to, x1, y1);
+  const isNext = to.x > from.x && to.x - from.x < 2 * (from.width + LEAST_GAP);
+  if (from.aside && !isNext) return pathOver(from, to, x1, y1);
+  return `M${x1} ${y1} L${to.x - 3} ${to.y + NODE_HEIGHT / 2}`;
+}
+
+function bent(start, ...turns) {
+  const at = [...start];
+  const corners = turns.map((turn, index) => {
+    at[index % 2] = turn;
+    return ` L${at[0]} ${at[1]}`;
+  });
+  return `M${start[0]} ${start[1]}${corners.join("")}`;
+}
+
+const pathAround = (from, x1, y1) => bent([x1, y1], from.x + from.width + 10, from.y - 12, from.x + from.width - 12, from.y - 3);
+
+function pathUp(from, to, x1, y1) {
+  const beside = from.x + from.width + 8;
+  const under = from.y - 34 - 6 * from.lane;
+  const gap = to.x - (2 * to.gap) / 3 + ((7 * to.gap) / 48) * from.lane;
+  const y2 = to.y + NODE_HEIGHT - (to.folded ? 14 : 7) - 6 * from.lane;
+  return bent([x1, y1], beside, under, gap, y2, to.x - 3);
+}
+
+function pathOver(from, to, x1, y1) {
+  return bent([x1, y1], from.x + from.width + 8, from.y - 34 - 6 * from.lane, to.x + to.width - 46, to.y - 3);
+}
+
+const ARROW = { viewBox: "0 0 10 10", refX: 9, refY: 5, markerWidth: 11, markerHeight: 11, markerUnits: "userSpaceOnUse" };
+const drawTip = (kind) =>
+  tag("marker", { id: `tip-${kind}`, class: `tip ${kind}`, ...ARROW, orient: "auto" }, tag("path", { d: "M0 0 L10 5 L0 10 z" }));
+
+function drawFoldLink(item, next) {
+  const y = TOP + NODE_HEIGHT / 2;
+  const path = { d: `M${item.x + FOLD_WIDTH} ${y} L${next.x - 3} ${y}`, "marker-end": "url(#tip-in)" };
+  return tag("g", { class: "link in" }, tag("path", path));
+}
+return { LINK_WIDTH, drawLink, drawTip, drawFoldLink };
+})();
+
+// draw/list.js
+const $draw_list = (() => {
+const { LISTS } = $made_rows;
+const { callText, colourOf, holderOf, keyText, label, letterOf, said, tag, title } = $run_markup;
+const { ownerOf } = $run_state;
+const { NODE_REGISTERS } = $run_trace;
+const { drawFoldLink, drawLink, drawTip, LINK_WIDTH } = $draw_arrows;
+const { FOLD_WIDTH, isPointing, NODE_HEIGHT, TOP } = $draw_places;
+const LOCK_HEIGHT = 31; // of what stands above a node
+
+function kindOf(state, name, place) {
+  if (!state.nodes[name].reached) return `own ${colourOf(ownerOf(state.trace, name))}`;
+  return place.aside ? "out" : "in";
+}
+
+function nodeInWords(node, name, kind) {
+  const where = { in: "", out: ", unlinked" }[kind] ?? ", not linked yet";
+  return `${name}: key ${keyText(node.key)}, link ${said(node.link)}, lock ${node.lock === "free" ? "free" : holderOf(node.lock)}${where}`;
+}
+
+const KEY_FRAME = { class: "read", height: NODE_HEIGHT - 4, rx: 4 };
+
+function drawNode(state, name, place, event) {
+  const node = state.nodes[name];
+  const { x, y, width } = place;
+  const kind = kindOf(state, name, place);
+  const isMarked = node.link.endsWith("*");
+  const [hot, field] = event?.word?.split(".") ?? [];
+  const isRead = hot === name && field === "key";
+  const size = { x, y, width, height: NODE_HEIGHT, rx: 5 };
+  const box = isMarked ? { ...size, class: "box marked", style: "fill:url(#hatch)" } : { ...size, class: "box" };
+  const side = x + width - LINK_WIDTH;
+  return tag(
+    "g",
+    { class: `node ${kind}`, "data-part": `node ${name}`, "data-x": x, "data-y": y },
+    title(nodeInWords(node, name, kind)),
+    hot === name ? drawHot(place) : "",
+    tag("rect", box),
+    isRead ? tag("rect", { ...KEY_FRAME, x: x + 2, y: y + 2, width: width - LINK_WIDTH - 3 }) : "",
+    tag("line", { class: "side", x1: side, x2: side, y1: y, y2: y + NODE_HEIGHT }),
+    drawKey(node, (x + side) / 2, y + 34, isRead),
+    label({ class: "name", x: x + 2, y: y - 10 }, name),
+    isMarked ? label({ class: "cross", x: side + LINK_WIDTH / 2, y: y + 34 }, "✗") : "",
+    node.lock === "free" ? "" : drawLock(node.lock, x + width - 38, y - 28),
+  );
+}
+
+const drawHot = ({ x, y, width }) =>
+  tag("rect", { "data-hot": x, class: "hot", x: x - 6, y: y - 6, width: width + 12, height: NODE_HEIGHT + 12, rx: 9 });
+
+function drawKey(node, x, y, isTouched) {
+  const text = keyText(node.key);
+  const size = text.length > 7 ? 11 : text.length > 4 ? 16 : 21;
+  return label({ class: isTouched ? "key touched" : "key", x, y, style: `font-size:${size}px` }, text);
+}
+
+function drawLock(lock, x, y) {
+  const thread = Number(lock.slice(1));
+  return tag(
+    "g",
+    { class: `lock ${colourOf(thread)}`, transform: `translate(${x},${y})` },
+    title(`locked by ${holderOf(lock)}`),
+    tag("path", { d: "M12 9 v-3 a6 6 0 0 1 12 0 v3" }),
+    tag("rect", { x: 0, y: 8, width: 36, height: 18, rx: 4 }),
+    label({ x: 18, y: 22 }, holderOf(lock)),
+  );
+}
+
+function drawFold(item) {
+  const { x } = item;
+  const count = item.folded.length;
+  return tag(
+    "g",
+    { class: "fold" },
+    title(`${count} nodes of the chain that no thread is at`),
+    tag("rect", { x, y: TOP + 9, width: FOLD_WIDTH, height: NODE_HEIGHT - 18, rx: 18 }),
+    label({ x: x + FOLD_WIDTH / 2, y: TOP + NODE_HEIGHT / 2 + 5 }, `… ${count} …`),
+  );
+}
+
+function drawPointer({ thread, name, text, left, lane }, places) {
+  const y = places[name].y + NODE_HEIGHT + 21 + 18 * lane;
+  const named = { class: "pointer-of", "data-part": `sign ${text.split(",")[0]}`, "data-x": left, "data-y": y };
+  return tag("g", named, label({ class: `pointer ${colourOf(thread)}`, x: left, y }, text));
+}
+
+function drawListLock(state) {
+  if (state.trace.kind !== "coarse") return "";
+  const lock = state.lock === "free" ? label({ x: 110, y: 20 }, "free") : drawLock(state.lock, 110, -2);
+  return label({ class: "name", x: 16, y: 20 }, "the list's lock") + lock;
+}
+const HATCH = { id: "hatch", width: 7, height: 7, patternUnits: "userSpaceOnUse", patternTransform: "rotate(45)" };
+const DEFINITIONS = tag(
+  "defs",
+  {},
+  tag(
+    "pattern",
+    HATCH,
+    tag("rect", { class: "ground", width: 7, height: 7 }),
+    tag("line", { class: "stripe", x1: 0, x2: 0, y1: 0, y2: 7 }),
+  ),
+  ...["in", "out", "hot"].map(drawTip),
+);
+
+function drawList(state, event, { chain, items, places, labels, names, more, width, height: high }, least = 0, own = "") {
+  const above = state.trace.kind === "coarse" ? -4 : TOP - LOCK_HEIGHT; // the list's own lock stands there
+  const height = Math.max(high, least) - above;
+  const folds = items.map((item, index) => (item.folded ? drawFold(item) + drawFoldLink(item, items[index + 1]) : ""));
+  const nodes = names.map((name) => drawNode(state, name, places[name], event));
+  const links = names.map((name) => drawLink(state, name, places, event));
+  const pointers = labels.map((own) => drawPointer(own, places));
+  const frame = { width, height, viewBox: `0 ${above} ${width} ${height}`, role: "img", "aria-label": listInWords(chain, state) };
+  const drawn = tag("svg", frame, DEFINITIONS, ...nodes, ...folds, ...links, ...pointers, drawListLock(state));
+  const named = own === "" ? drawn : drawn.replace(/(url\(#|id=")(tip|hatch)/g, `$1${own}-$2`);
+  return named + (more > 0 ? tag("p", { class: "note" }, `and ${more} more nodes that are not in the chain`) : "");
+}
+
+function listInWords(chain, state) {
+  const inside = chain.filter((name) => name !== "head" && name !== "tail").map((name) => state.nodes[name]);
+  const keys = inside.map((node) => keyText(node.key) + (node.link.endsWith("*") ? " marked" : ""));
+  const more = keys.length > 40 ? ", and more" : "";
+  const list = keys.length === 0 ? "the list is empty" : `the list: ${keys.slice(0, 40).join(", ")}${more}`;
+  const locks = state.locks();
+  const threads = state.threads.map((held, thread) => threadInWords(state, held, thread, locks)).filter((text) => text !== "");
+  return [list, ...threads.slice(0, 12)].join("; ");
+}
+
+function threadInWords(state, held, thread, locks) {
+  if (held.pc === 0) return "";
+  const { registers } = LISTS[state.trace.kind].calls[held.call.operation];
+  const set = registers.filter((name) => NODE_REGISTERS.includes(name) && isPointing(held, name));
+  const at = set.map((name) => `${name} ${held[name]}`).join(", ");
+  const own = locks[`t${thread}`];
+  const has = own === undefined ? "" : `; ${letterOf(thread)} has ${own.join(" and ")}`;
+  return `${letterOf(thread)} ${callText(held.call)} at row ${held.pc}${at === "" ? "" : `: ${at}`}${has}`;
+}
+return { drawList };
+})();
+
+// data/book_code.js
+const $data_book_code = (() => {
+const CHANGES = ["add", "remove"];
+
+const READS = [
+  { of: ["contains"], text: "contains(key):  no lock, no retry" },
+  { of: ["contains"], text: "  curr = curr.next, from the head", rows: [20] },
+  { of: ["contains"], text: "  while curr.key < key: go on", rows: [21] },
+  { of: ["contains"], text: "  return key is there and unmarked", rows: [22] },
+  { of: ["ceiling"], text: "ceiling(key):" },
+  { of: ["ceiling"], text: "  curr = curr.next, from the head", rows: [23] },
+  { of: ["ceiling"], text: "  while curr.key < key: go on", rows: [24] },
+  { of: ["ceiling"], text: "  if marked: start again; return curr.key", rows: [25] },
+];
+
+const BOOK_CODE = {
+  coarse: [
+    { text: "lock the list", rows: [1] },
+    { text: "pred = head; curr = pred.next", rows: [2] },
+    { text: "while curr.key < key:", rows: [3] },
+    { text: "    pred = curr; curr = curr.next", rows: [4] },
+    { of: ["add"], text: "add, if curr.key ≠ key:" },
+    { of: ["add"], text: "    node = new Node(key, next = curr)", rows: [5, 6] },
+    { of: ["add"], text: "    pred.next = node", rows: [7] },
+    { of: ["remove"], text: "remove, if curr.key = key:" },
+    { of: ["remove"], text: "    pred.next = curr.next", rows: [8, 9] },
+    { text: "unlock the list; return", rows: [10] },
+  ],
+  fine: [
+    { text: "lock head; pred = head", rows: [1] },
+    { text: "curr = pred.next", rows: [2] },
+    { text: "loop: lock curr, pred still locked", rows: [3] },
+    { text: "    if curr.key ≥ key: leave the loop", rows: [4] },
+    { text: "    unlock pred", rows: [5] },
+    { text: "    pred = curr; curr = curr.next", rows: [6] },
+    { of: ["add"], text: "add, if curr.key ≠ key:" },
+    { of: ["add"], text: "    node = new Node(key, next = curr)", rows: [7, 8] },
+    { of: ["add"], text: "    pred.next = node", rows: [9] },
+    { of: ["remove"], text: "remove, if curr.key = key:" },
+    { of: ["remove"], text: "    pred.next = curr.next", rows: [10, 11] },
+    { text: "unlock curr; unlock pred; return", rows: [12, 13] },
+  ],
+  optimistic: [
+    { text: "pred = head; curr = pred.next", rows: [1] },
+    { text: "while curr.key < key:", rows: [2] },
+    { text: "    pred = curr; curr = curr.next", rows: [3] },
+    { text: "lock pred; lock curr", rows: [4, 5] },
+    { text: "validate: walk from the head again", rows: [6] },
+    { text: "    until pred is met, else not valid", rows: [7] },
+    { text: "    pred.next = curr? else not valid", rows: [8] },
+    { of: ["add"], text: "add, if curr.key ≠ key:" },
+    { of: ["add"], text: "    node = new Node(key, next = curr)", rows: [9, 10] },
+    { of: ["add"], text: "    pred.next = node", rows: [11] },
+    { of: ["remove"], text: "remove, if curr.key = key:" },
+    { of: ["remove"], text: "    pred.next = curr.next", rows: [12, 13] },
+    { text: "unlock pred; unlock curr", rows: [14, 15] },
+    { text: "if not valid: start again; return", isPlain: true },
+  ],
+  lazy: [
+    { of: CHANGES, text: "pred = head; curr = pred.next", rows: [1] },
+    { of: CHANGES, text: "while curr.key < key:", rows: [2] },
+    { of: CHANGES, text: "    pred = curr; curr = curr.next", rows: [3] },
+    { of: CHANGES, text: "lock pred; lock curr", rows: [4, 5] },
+    { of: CHANGES, text: "validate: pred unmarked, leads to curr", rows: [6] },
+    { of: CHANGES, text: "    and curr unmarked", rows: [7] },
+    { of: ["add"], text: "add, if curr.key ≠ key:" },
+    { of: ["add"], text: "    node = new Node(key, next = curr)", rows: [8, 9] },
+    { of: ["add"], text: "    pred.next = node", rows: [10] },
+    { of: ["remove"], text: "remove, if curr.key = key:" },
+    { of: ["remove"], text: "    mark curr", rows: [11] },
+    { of: ["remove"], text: "    pred.next = curr.next", rows: [12] },
+    { of: CHANGES, text: "unlock curr; unlock pred", rows: [13, 14] },
+    { of: CHANGES, text: "if not valid: start again; return", isPlain: true },
+    ...READS,
+  ],
+  "lock-free": [
+    { of: CHANGES, text: "find: pred = head; curr = pred.next", rows: [1] },
+    { of: CHANGES, text: "    succ, marked = curr.next", rows: [2] },
+    { of: CHANGES, text: "    marked? CAS pred.next: curr → succ", rows: [3] },
+    { of: CHANGES, text: "    if curr.key < key: go one node on", rows: [4] },
+    { of: ["add"], text: "add, if curr.key ≠ key:" },
+    { of: ["add"], text: "    node = new Node(key, next = curr)", rows: [5, 6] },
+    { of: ["add"], text: "    CAS pred.next: curr, no mark → node", rows: [7] },
+    { of: ["add"], text: "    else start again", isPlain: true },
+    { of: ["remove"], text: "remove, if curr.key = key:" },
+    { of: ["remove"], text: "    succ = curr.next", rows: [8] },
+    { of: ["remove"], text: "    CAS curr.next: succ, no mark → mark", rows: [9] },
+    { of: ["remove"], text: "    else start again", isPlain: true },
+    { of: ["remove"], text: "    CAS pred.next: curr → succ, once", rows: [10] },
+    ...READS,
+  ],
+};
+return { BOOK_CODE };
+})();
+
+// story/code.js
+const $story_code = (() => {
+const { BOOK_CODE } = $data_book_code;
+const { chipOf, colourOf, escaped, letterOf, tag } = $run_markup;
+const WORDS = /\b(while|if|else|return|start again|loop|until|unlock|lock|find|validate|CAS|mark|new)\b/g;
+
+/**
+ * @typedef {object} CodeSpec  What of the code is shown, and how.
+ * @property {string} list
+ * @property {string[]} operations  the calls whose lines are shown
+ * @property {boolean} [plain]
+ * @property {number[]} [fresh]  rows that this list has anew
+ * @property {number[]} [hides]  rows that are not shown
+ * @property {Record<number, string>} [instead]  the words of a row, in place of its own
+ * @property {{ row: number, part: string }[]} [struck]  what is struck out, of the line of a row
+ * @property {{ thread: number, row: number }[]} next  the threads, and the rows that they make next
+ * @property {{ thread: number, row: number } | null} made  the row that was just made
+ * @property {boolean} canStep
+ * @property {number} active  the thread that runs to a line where none stands
+ */
+
+/** @param {CodeSpec} spec */
+function linesShown({ list, operations, plain, hides = [], instead = {} }) {
+  const isShown = ({ of, rows = [0] }) =>
+    (of === undefined || of.some((name) => operations.includes(name))) && !rows.every((row) => hides.includes(row));
+  const lines = BOOK_CODE[list].filter(isShown).map((line) => ({ ...line, text: instead[line.rows?.[0]] ?? line.text }));
+  if (!plain) return lines;
+  return lines.filter(({ rows }) => rows?.[0] !== 1).map((line) => (line.rows?.includes(10) ? { text: "return", rows: [10] } : line));
+}
+
+function wordsOf(text, rows, struck) {
+  const inBold = (words) => escaped(words).replace(WORDS, "<b>$1</b>");
+  const part = struck.find(({ row }) => rows.includes(row))?.part;
+  if (part === undefined || !text.includes(part)) return inBold(text);
+  const at = text.indexOf(part);
+  const missing = tag("del", {}, tag("span", { class: "unseen" }, "missing: "), escaped(part));
+  return `${inBold(text.slice(0, at))}${missing}${inBold(text.slice(at + part.length))}`;
+}
+
+const drawHere = (threads) => (threads.length < 3 ? threads.map(chipOf).join("") : `${chipOf(threads[0])}<small>+${threads.length - 1}</small>`);
+
+/** @param {any} line @param {CodeSpec} spec */
+function drawOwnLine({ text, rows = [], isPlain = false }, { next, made, fresh = [], struck = [], canStep, active }) {
+  const here = next.filter(({ row }) => rows.includes(row)).map(({ thread }) => thread);
+  const isMade = made !== null && rows.includes(made.row);
+  const isHead = rows.length === 0 && !isPlain;
+  const kinds = [
+    "line",
+    isHead ? "of" : "",
+    isMade ? `made ${colourOf(made.thread)}` : "",
+    here.length > 0 ? `lit ${colourOf(here[0])}` : "",
+    rows.some((row) => fresh.includes(row)) ? "fresh" : "",
+  ];
+  const words = isHead ? escaped(text.trim()) : wordsOf(text.trim(), rows, struck);
+  const depth = text.match(/^ */)[0].length;
+  const gutter = tag("span", { class: "gutter", "data-run": letterOf(active) }, drawHere(here));
+  const inside = gutter + tag("code", { style: `padding-left:${depth * 0.4}em` }, words);
+  const given = { class: kinds.filter((kind) => kind !== "").join(" "), "data-rows": rows.join(" ") };
+  if (rows.length === 0 || !canStep) return tag("li", given, tag("span", { class: "row" }, inside));
+  const what = here.length > 0 ? `next line of ${here.map(letterOf).join(" and ")}: press to step` : `${letterOf(active)} runs to this line`;
+  const button = { class: "row", title: what, "aria-label": `${text.trim()}; ${what}`, "data-threads": here.join(" ") };
+  return tag("li", given, tag("button", button, inside));
+}
+
+/** @param {CodeSpec} spec */
+const drawOwnCode = (spec) => tag("ol", { class: "steps" }, ...linesShown(spec).map((line) => drawOwnLine(line, spec)));
+return { drawOwnCode };
+})();
+
+// story/tale.js
+const $story_tale = (() => {
+const { isLock, ownerIn } = $run_outcomes;
+const { callText, chipOf, keyText } = $run_markup;
+const { phaseAt } = $story_phases;
+const bold = (text) => `<b>${text}</b>`;
+
+const nodeName = (state, name) => {
+  if (name === "head") return "the head";
+  if (name === "tail") return "the end";
+  return name in state.nodes ? keyText(state.nodes[name].key) : "";
+};
+const bare = (link) => link.replace("*", "");
+
+const answerText = (answer) => answer.replace(/^at-/, "");
+
+function taleOf(moment, { plain = false } = {}) {
+  const { event } = moment;
+  if (event === null) return "";
+  const said = toldBy(moment, plain);
+  const { call } = event;
+  const answer = event.answer === undefined ? "" : ` ${bold(`${callText(call)} answers ${answerText(event.answer)}.`)}`;
+  return `${chipOf(event.thread)} ${said}${answer}`;
+}
+
+function toldBy(moment, plain) {
+  const { trace, state, event, before, held } = moment;
+  const { kind } = trace;
+  if (event.deed === "begin") return `begins ${bold(callText(event.call))}.`;
+  const owner = ownerIn(event.word);
+  const who = nodeName(state, owner);
+  if (isLock(event.word)) return lockTold(event, who, plain, event.changes.pc === before.pc);
+  const phase = phaseAt(kind, before.pc, plain);
+  const key = event.call.key;
+  if (event.deed === "load" && event.word.endsWith(".key")) return keyTold(event, owner, key, phase, held);
+  if (event.deed === "load") return linkTold(moment, owner, who, phase);
+  if (event.deed === "store" && event.word.endsWith(".key")) return `makes a node for ${key}. Nobody else sees it yet.`;
+  return writeTold(moment, owner, who);
+}
+
+function lockTold(event, who, plain, waits) {
+  if (plain) return event.deed === "store" ? "is done." : "sets out.";
+  const what = who === undefined || event.word === "list.lock" ? "the lock" : `the lock of ${who}`;
+  if (event.deed === "store") return `gives back ${what}.`;
+  if (event.saw === event.from) return `takes ${what}.`;
+  return `wants ${what}, but ${chipOf(event.saw.slice(1))} has it. ${bold(waits ? "It waits." : "It goes on all the same.")}`;
+}
+
+function keyTold(event, owner, key, phase, held) {
+  if (phase === "again") {
+    if (held.pc === 14 && held.reply === "none") return `is past the place of its pred, and has not met it: ${bold("pred is not in the list any more.")} It lets go and starts again.`;
+    return held.node === held.pred ? "meets its pred: it is still in the list." : "walks on: this is not its pred.";
+  }
+  if (owner === "tail") return "has come to the end: here is the place.";
+  const seen = Number(event.saw);
+  if (seen < key) return `reads ${bold(seen)}: too small, it goes on.`;
+  if (event.call.operation === "ceiling") return `reads ${bold(seen)}: big enough.`;
+  if (seen === key) return `reads ${bold(seen)}: found.`;
+  return `reads ${bold(seen)}: too big. The place of ${key} is just before it.`;
+}
+
+function linkTold(moment, owner, who, phase) {
+  const { trace, state, event, held, before } = moment;
+  const isMarked = event.saw.endsWith("*");
+  const to = nodeName(state, bare(event.saw));
+  if (phase === "look" || (event.answer !== undefined && isMarked)) return isMarked ? `sees the mark: ${bold(`this ${who} has been removed.`)}` : `sees no mark: ${who} is in.`;
+  if (phase === "check") {
+    if (held.reply === "none" && held.pc === 13) {
+      if (owner === before.pred && isMarked) return `sees a mark on its pred: ${bold("it was removed meanwhile.")} It lets go and starts again.`;
+      return isMarked ? `sees a mark on ${who}. It lets go and starts again.` : `sees that ${who} points to ${to} now. It lets go and starts again.`;
+    }
+    return owner === before.pred ? "sees no mark on its pred, which still points to curr." : `sees no mark on ${who}. It may write.`;
+  }
+  if (phase === "again") {
+    if (owner === before.pred && before.pc === 8) {
+      if (held.pc === 14 && held.reply === "none") return `sees that ${who} points to ${to} now: ${bold("something came in between.")} It lets go and starts again.`;
+      return "sees that pred still points to curr.";
+    }
+    return `walks from ${who} once more.`;
+  }
+  if (phase === "unlink" || before.pc === 8) return `reads what comes after ${who}: ${to}.`;
+  if (trace.kind === "lock-free" && event.changes.curr === undefined) {
+    return isMarked ? `meets ${who}, which is marked: it will take it out on its way.` : `looks at the arrow of ${who}: no mark.`;
+  }
+  return owner === "head" ? `sets out from the head: curr is on ${to}.` : `moves on: curr is on ${to}.`;
+}
+
+function writeTold(moment, owner, who) {
+  const { state, event, before } = moment;
+  const key = event.call.key;
+  const to = nodeName(state, bare(event.to ?? ""));
+  const isDone = event.deed === "store" || event.saw === event.from;
+  if (event.to.endsWith("*")) {
+    if (isDone) return `marks ${who}: ${bold(`${key} is removed.`)}`;
+    return event.saw.endsWith("*") ? `wants to mark ${who}, but it is marked already. ${bold("It was too late")}, and looks again.` : `wants to mark ${who}, but its arrow has changed. It looks again.`;
+  }
+  if (!state.nodes[owner].reached && event.put === undefined && event.took === undefined && event.deed === "store" && owner !== before.pred) {
+    return `lets its node point to ${to}.`;
+  }
+  if (event.put !== undefined) {
+    const isIn = state.chain().includes(bare(event.to));
+    return isIn ? `lets ${who} point to ${key}: ${bold(`${key} is in.`)}` : `lets its pred point to ${key}. ${bold("But that pred is not in the list.")}`;
+  }
+  if (!isDone) {
+    const rest = event.answer !== undefined ? "That does not matter: the mark counts." : "It looks again.";
+    return `wants to change the arrow of ${who}, but it is not what it saw. ${rest}`;
+  }
+  return `lets ${who} point to ${to}: ${nodeName(state, before.curr)} is out of the chain.`;
+}
+return { answerText, taleOf };
+})();
+
+// story/dock.js
+const $story_dock = (() => {
+const { drawContents } = $draw_contents;
+const { drawCalls, scaleOf } = $draw_history;
+const { redraw, setHtml } = $page_dom;
+const { callText, chipOf, colourOf, letterOf, tag } = $run_markup;
+const { phaseText } = $story_phases;
+const { answerText } = $story_tale;
+const AGAIN = `<span class="again"><button data-undo class="quiet small" title="take the last press back">↶ One back</button>
+  <button data-again class="quiet small">↺ Start over</button></span>`;
+
+function showDock(figure) {
+  const { spec, run } = figure;
+  if (spec.dock === false || figure.hidesDock) return redraw(figure.part("dock"), "");
+  const isChanged = run.lines.length !== run.first.length && spec.again !== false;
+  redraw(figure.part("dock"), figure.shown.map((thread) => rowOf(figure, thread)).join("") + (isChanged ? AGAIN : ""));
+}
+
+function rowOf(figure, thread) {
+  const { run, spec } = figure;
+  const own = run.trace.calls.filter((call) => call.thread === thread && call.begun <= run.count);
+  const [next] = figure.left(thread);
+  const isIdle = run.isIdle(thread);
+  if (isIdle && next === undefined) return spec.free ? chooser(figure, thread, own) : restOf(run, thread, own.at(-1));
+  const call = isIdle ? { operation: next[0], key: next[1] } : own.at(-1);
+  const plan = run.nextOf(thread, next);
+  const words = spec.words?.[plan.phase] ?? phaseText(plan.phase, call);
+  const key = letterOf(thread).toLowerCase();
+  const given = { class: "step", "data-step": thread, "aria-keyshortcuts": key, ...(figure.isOpen ? {} : { disabled: "" }) };
+  const button = tag("button", given, words, `<kbd aria-hidden="true">${key}</kbd>`);
+  const waits = plan.waits && plan.steps === 1 ? '<span class="waits">has to wait</span>' : "";
+  return threadRow(thread, `<code>${callText(call)}</code> ${button} ${waits}`);
+}
+
+function threadRow(thread, inside) {
+  const given = { class: `thread ${colourOf(thread)}`, "data-thread": thread, role: "group", "aria-label": `thread ${letterOf(thread)}` };
+  return tag("div", given, chipOf(thread), " ", inside);
+}
+
+function restOf(run, thread, last) {
+  if (last === undefined) return threadRow(thread, "");
+  const reply = last.ended !== null && run.count >= last.ended ? `<b class="reply ${last.reply}">${answerText(last.reply)}</b>` : "";
+  return threadRow(thread, `<code>${callText(last)}</code> <span class="does">${reply}</span>`);
+}
+
+function chooser(figure, thread, own) {
+  const last = own.at(-1);
+  const [operation, key] = figure.chosen[thread] ?? [last?.operation ?? "add", last?.key ?? 5];
+  const names = figure.spec.operations ?? ["add", "remove", "contains"];
+  const options = names.map((name) => tag("option", name === operation ? { selected: "" } : {}, name));
+  const letter = letterOf(thread);
+  const field = { type: "number", min: 0, max: 999, value: key, "data-key": thread, "aria-label": `number of ${letter}’s call` };
+  const fields = tag("select", { "data-call": thread, "aria-label": `call of ${letter}` }, ...options) + tag("input", field);
+  const reply = last === undefined ? "" : `<small>${callText(last)}: <b class="reply ${last.reply}">${answerText(last.reply)}</b></small>`;
+  return threadRow(thread, `<span class="choose">${fields}<button data-begin="${thread}">begin</button></span> ${reply}`);
+}
+
+function showStrip(figure) {
+  const { run } = figure;
+  const box = figure.part("strip");
+  const wide = Math.max(280, box.clientWidth);
+  const room = 26 + 9 * `{${run.promised().join(", ")}}`.length; // right of the last event, for what is in the set then
+  const scale = scaleOf(run.trace, run.count, wide - room, figure.hides);
+  Object.assign(scale, { edge: scale.edge + room, width: wide });
+  figure.scale = scale;
+  setHtml(box, tag("div", { class: "calls" }, drawCalls(run.trace, scale)) + drawContents(run.trace, scale));
+  if (scale.height > MOST_CALLS && run.count > 0) scrollToLane(box.firstElementChild, scale.y(run.trace.event(run.count).thread));
+}
+const MOST_CALLS = 400; // pixels: of more threads the bars scroll
+
+function scrollToLane(box, y) {
+  if (y < box.scrollTop + 20 || y > box.scrollTop + box.clientHeight - 20) box.scrollTop = y - box.clientHeight / 2;
+}
+
+const SCRUB = `<button class="small" data-move="-1" aria-label="one step back">◂</button>
+  <input type="range" min="0" aria-label="moment of the run"><button class="small" data-move="1" aria-label="one step on">▸</button>
+  <span class="small count"></span>`;
+
+function showScrub(figure) {
+  const box = figure.part("scrub");
+  const { count, trace } = figure.run;
+  if (box.firstElementChild === null) {
+    box.innerHTML = SCRUB;
+    box.querySelector("input").oninput = ({ target }) => figure.moveTo(Number(target.value));
+  }
+  const slider = box.querySelector("input");
+  Object.assign(slider, { max: trace.total, value: count });
+  slider.setAttribute("aria-valuetext", `step ${count} of ${trace.total}: ${figure.part("tale").textContent}`);
+  box.querySelector(".count").textContent = `${count} of ${trace.total}`;
+  box.hidden = !figure.isOpen;
+}
+return { showDock, showStrip, showScrub };
+})();
+
+// story/figure_parts.js
+const $story_figure_parts = (() => {
+const { glide } = $draw_glide;
+const { drawList } = $draw_list;
+const { arranged, shapeFor } = $draw_places;
+const { callText, colourOf, letterOf } = $run_markup;
+const { momentAt } = $run_sentences;
+const { drawOwnCode } = $story_code;
+const { showDock, showScrub, showStrip } = $story_dock;
+const { taleOf } = $story_tale;
+const MOST_SCALE = 1.75;
+const MOST_HEIGHT = 0.4; // of the window, for the list
+const NARROW = "(max-width: 760px)";
+const isNarrow = () => matchMedia(NARROW).matches;
+
+
+const codeBox = ({ codeTitle, codeNote = "" }) => `<details class="codebox" ${isNarrow() ? "" : "open"}><summary><b>${codeTitle}</b></summary>
+    <p class="small code-note" ${codeNote === "" ? "hidden" : ""}>${codeNote}</p><span class="runs"></span><div class="lines"></div>
+    <p class="small hint">A letter stands at its thread’s next line. Press the line to step, another one to run there.</p></details>`;
+
+function frameOf({ box, spec }) {
+  box.innerHTML = `<div class="stage"><div class="list" tabindex="0" role="group" aria-label="the list"></div>
+    <p class="tale" aria-live="polite"></p><div class="strip"></div><div class="scrub"></div><div class="dock"></div></div>
+    ${spec.code === false ? "" : codeBox(spec)}`;
+  box.classList.add("fig");
+  box.classList.toggle("wide", spec.code === false);
+  box.classList.toggle("plain", spec.plain === true);
+  box.classList.toggle("short", spec.short === true);
+  box.classList.toggle("undoes", spec.again !== false);
+}
+
+function drawFigure(figure, moment, isNear) {
+  const { run, spec, box } = figure;
+  placeTheList(figure, moment, isNear);
+  const tale = figure.told ?? taleHere(figure, moment);
+  const words = tale === "" ? (spec.tale ?? "") : tale;
+  if (figure.part("tale").innerHTML !== words) figure.part("tale").innerHTML = words;
+  box.classList.toggle("at-end", run.count === run.trace.total);
+  box.classList.toggle("shut", !figure.canStep);
+  showCode(figure, moment);
+  showDock(figure);
+  if (spec.strip) showStrip(figure);
+  if (spec.scrub) showScrub(figure);
+}
+
+function taleHere({ run, spec }, moment) {
+  if (spec.sentence) return spec.sentence(moment);
+  if (moment.event === null) return "";
+  const isOfLock = spec.plain === true && moment.event.word === "list.lock";
+  if (!isOfLock || moment.event.answer === undefined) return taleOf(moment, spec);
+  const { answer, call } = moment.event;
+  const before = taleOf(momentAt(run.state, run.count - 1), spec);
+  run.state.moveTo(run.count);
+  return `${before} <b>${callText(call)} answers ${answer}.</b>`;
+}
+
+
+function placeTheList(figure, { state, event }, isNear) {
+  const box = figure.part("list");
+  const { id, most, spec } = figure;
+  const room = box.clientWidth;
+  figure.wide = room;
+  if (room === 0) return;
+  const shape = shapeFor(room);
+  const list = arranged(state, event, shape);
+  most.height = Math.max(most.height, list.height);
+  most.width = Math.max(most.width, list.width, (spec.roomFor ?? 0) * shape.share);
+  const draw = () => {
+    box.innerHTML = drawList(state, event, list, most.height, id);
+    const svg = box.firstElementChild;
+    fitList(figure, svg, room, list.width);
+    if (event !== null) svg.classList.add(colourOf(event.thread));
+    if (spec.names) return;
+    for (const sign of svg.querySelectorAll("text.pointer")) plainSign(spec, sign);
+    for (const name of svg.querySelectorAll("text.name")) if (/^n\d+$/.test(name.textContent)) name.remove();
+  };
+  glide(box, draw, isNear);
+  scrollToTouched(box, room);
+}
+
+function fitList({ spec, most: { width } }, svg, room, own) {
+  const [, top, , high] = svg.getAttribute("viewBox").split(" ").map(Number);
+  const tall = Math.max(innerHeight * (spec.high ?? MOST_HEIGHT), spec.least ?? 180);
+  const scale = Math.max(0.5, Math.min(MOST_SCALE, (room - 4) / width, tall / high));
+  svg.setAttribute("viewBox", `${(own - width) / 2} ${top} ${width} ${high}`);
+  svg.setAttribute("width", width * scale);
+  svg.setAttribute("height", high * scale);
+}
+
+function scrollToTouched(box, room) {
+  const touched = box.querySelector("[data-hot]");
+  const drawn = box.firstElementChild;
+  const wide = Number(drawn.getAttribute("width"));
+  if (touched === null || wide <= room) return;
+  const { x, width } = drawn.viewBox.baseVal;
+  const at = (touched.x.baseVal.value - x) * (wide / width);
+  if (at < box.scrollLeft + 60 || at > box.scrollLeft + room - 120) box.scrollLeft = at - room / 2;
+}
+
+function plainSign(spec, sign) {
+  const [, letter, given] = /^(▲ \w+) (.*)$/.exec(sign.textContent);
+  const isTold = spec.list === "lock-free" && spec.isPath !== true;
+  const names = given.split(", ").filter((name) => name !== "succ" || isTold).map((name) => (name === "node" ? "2nd walk" : name));
+  if (names.length === 0) sign.remove();
+  else sign.textContent = `${letter} ${names.join(", ")}`;
+}
+
+function markLostNodes({ run, box }) {
+  const has = run.has();
+  const isLost = ({ key }) => run.promised().some((one) => String(one) === key && !has.includes(one));
+  for (const [name, node] of Object.entries(run.state.nodes)) {
+    if (isLost(node)) box.querySelector(`.list [data-part="node ${name}"]`)?.classList.add("lost");
+  }
+}
+
+
+function operationsOf({ spec, run, isGuess }) {
+  const planned = Object.values(spec.calls ?? {}).flat().map(([operation]) => operation);
+  const begun = run.trace.calls.map(({ operation }) => operation);
+  const hidden = isGuess ? (spec.hidden?.operations ?? []) : [];
+  return [...new Set([...(spec.operations ?? []), ...planned, ...begun])].filter((name) => !hidden.includes(name));
+}
+
+function showCode(figure, { state, event, before }) {
+  const box = figure.part("lines");
+  if (box === null) return;
+  const { spec, run, canStep } = figure;
+  const { list, plain, fresh, struck, instead } = spec;
+  const isAble = (thread) => !run.isIdle(thread) || figure.left(thread).length > 0;
+  if (!isAble(figure.active)) figure.active = figure.shown.find(isAble) ?? figure.active;
+  const { active } = figure;
+  const made = event === null || event.deed === "begin" ? null : { row: before.pc, thread: event.thread };
+  const next = state.threads.map((own, thread) => ({ thread, row: own.pc })).filter(({ row }) => row !== 0);
+  const hides = (figure.isGuess ? spec.hidden?.hides : undefined) ?? spec.hides; // some is not told before the guess
+  const scroll = box.scrollTop;
+  box.innerHTML = drawOwnCode({ list, plain, fresh, struck, hides, instead, operations: operationsOf(figure), next, made, canStep, active });
+  box.scrollTop = scroll;
+  const toggles = figure.shown.filter(isAble).map((thread) => toggleOf(thread, active));
+  figure.part("runs").innerHTML = canStep && toggles.length > 1 ? toggles.join("") : "";
+  scrollToLit(box, event?.thread ?? active);
+}
+
+const toggleOf = (thread, active) => `<button class="who ${colourOf(thread)}" data-active="${thread}" aria-pressed="${thread === active}"
+  title="${letterOf(thread)} runs to another line that is pressed">${letterOf(thread)}</button>`;
+
+function scrollToLit(box, moved) {
+  const line = box.querySelector(`.lit.${colourOf(moved)}`) ?? box.querySelector(".made") ?? box.querySelector(".lit");
+  if (line === null || box.scrollHeight <= box.clientHeight) return;
+  const y = line.offsetTop - box.offsetTop;
+  if (y < box.scrollTop + 10 || y > box.scrollTop + box.clientHeight - 50) box.scrollTop = y - box.clientHeight / 2;
+}
+return { isNarrow, frameOf, drawFigure, markLostNodes };
+})();
+
+// story/figure_press.js
+const $story_figure_press = (() => {
+const { chipOf } = $run_markup;
+const MOST_KEY = 999;
+
+function pressed(figure, event) {
+  const button = event.target.closest("button");
+  if (button === null || !figure.box.contains(button)) return;
+  const { step, move, begin, active } = button.dataset;
+  if (step !== undefined) figure.step(Number(step));
+  else if (button.closest("[data-rows]") !== null) pressLine(figure, button);
+  else if (active !== undefined) figure.set({ active: Number(active) });
+  else if ("again" in button.dataset) figure.again();
+  else if ("undo" in button.dataset) figure.undo();
+  else if (move !== undefined) figure.moveTo(figure.run.count + Number(move));
+  else if (begin !== undefined) beginOwn(figure, Number(begin));
+}
+
+function pressLine(figure, button) {
+  if (figure.isBusy || !figure.canStep) return;
+  const rows = button.closest("[data-rows]").dataset.rows.split(" ").map(Number);
+  const here = (button.dataset.threads ?? "").split(" ").filter((text) => text !== "").map(Number);
+  const thread = here.length === 0 || here.includes(figure.active) ? figure.active : here[0];
+  const isIdle = figure.run.isIdle(thread);
+  if (isIdle && figure.left(thread).length === 0) return figure.tell(`${chipOf(thread)} has no call under way.`);
+  figure.leaves();
+  const from = figure.run.trace.total;
+  if (isIdle) figure.run.begin(thread, figure.left(thread)[0]);
+  const isThere = ({ changes }) => rows.includes(changes.pc);
+  const isOff = (event) => !isThere(event) || event.deed === "exchange";
+  figure.play(thread, figure.run.stepsUntil(thread, here.length > 0 ? isOff : isThere), from);
+}
+
+function chooseCall(figure, row) {
+  const call = [row.querySelector("select").value, row.querySelector("input").value];
+  figure.chosen = { ...figure.chosen, [row.dataset.thread]: call };
+}
+
+function beginOwn(figure, thread) {
+  if (figure.isBusy || !figure.canStep) return;
+  chooseCall(figure, figure.box.querySelector(`[data-thread="${thread}"]`));
+  const [operation, key] = figure.chosen[thread];
+  if (!/^\d+$/.test(key) || Number(key) > MOST_KEY) return figure.tell(`A number from 0 to ${MOST_KEY}, please.`);
+  figure.leaves();
+  figure.active = thread;
+  figure.run.begin(thread, [operation, Number(key)]);
+  figure.draw(true);
+  figure.onStep?.(figure);
+}
+return { pressed, chooseCall, beginOwn };
+})();
+
+// story/figure.js
+const $story_figure = (() => {
+const { momentAt } = $run_sentences;
+const { drawFigure, frameOf, isNarrow, markLostNodes } = $story_figure_parts;
+const { beginOwn, chooseCall, pressed } = $story_figure_press;
+const { LiveRun } = $story_live_run;
+const BIT = 300; // milliseconds between two steps of one press
+const BETWEEN = 450; // and between two presses that the page makes
+const wantsStill = () => matchMedia("(prefers-reduced-motion: reduce)").matches;
+const sleep = (time) => new Promise((done) => setTimeout(done, time));
+const drawn = { count: 0 };
+const tellBusy = (isBusy) => (document.body.dataset.busy = isBusy ? "yes" : "no");
+
+/**
+ * @typedef {import("./live_run.js").RunSpec & { [name: string]: any }} FigureSpec  What a run needs; `calls`, of each thread those
+ *   that it is to make; `shown`, the threads with a button; `dock`, `code`, `strip`, `scrub`: what is shown besides the list.
+ */
+class Figure {
+  id = `f${drawn.count++}`;
+  past = []; // what stood there before each deed
+  isBusy = false; // steps are being shown
+  isActing = false; // and more of them will be
+  isHurried = false;
+  isEnded = false;
+  isOpen = true; // the reader may step
+  hidesDock = false;
+  isGuess = false; // what would tell the answer is not shown
+  isLost = false; // the nodes that are lost are lit
+  hides = true; // of the history, what comes later
+  wide = 0;
+  told = null;
+  onStep = null;
+  onFork = null;
+
+  /** @param {any} box @param {FigureSpec} spec */
+  constructor(box, spec) {
+    this.box = box;
+    this.spec = spec;
+    this.run = spec.run ?? new LiveRun(spec);
+    this.shown = spec.shown ?? this.run.state.threads.map((_, thread) => thread);
+    this.active = spec.active ?? 0;
+    this.chosen = spec.chosen ?? {}; // of an idle thread, the call that stands in its fields
+    this.most = { width: 0, height: spec.tall && !isNarrow() ? 262 : 0 }; // room for a node that is sure to come
+    frameOf(this);
+    box.addEventListener("click", (event) => pressed(this, event));
+    box.addEventListener("input", ({ target }) => target.closest(".choose") !== null && chooseCall(this, target.closest("[data-thread]")));
+    this.stretch = new ResizeObserver(() => {
+      if (this.part("list").clientWidth !== this.wide) requestAnimationFrame(() => this.isEnded || this.draw());
+    });
+    this.stretch.observe(this.part("list"));
+    this.draw();
+  }
+
+  end() {
+    this.stretch.disconnect();
+    this.isEnded = true;
+    tellBusy(false);
+  }
+
+  part(name) {
+    return this.box.querySelector(`.${name}`);
+  }
+
+  set(given) {
+    Object.assign(this, given);
+    this.draw();
+  }
+
+  get canStep() {
+    return this.isOpen && !this.hidesDock && this.spec.dock !== false;
+  }
+
+  left(thread) {
+    const own = this.spec.calls?.[thread] ?? [];
+    return own.slice(this.run.trace.calls.filter((call) => call.thread === thread).length);
+  }
+
+  reset() {
+    this.run.take(this.run.first);
+    Object.assign(this, { past: [], told: null, isLost: false });
+    this.draw();
+  }
+
+  leaves() {
+    this.onFork?.(this);
+    this.past.push([...this.run.lines]);
+  }
+
+  async step(thread) {
+    if (!this.isOpen) return;
+    if (this.isBusy) return void (this.isHurried = true);
+    const [call] = this.left(thread);
+    if (this.run.isIdle(thread) && call === undefined) return;
+    this.leaves();
+    const next = this.run.nextOf(thread, call);
+    const before = this.run.trace.total;
+    if (next.isBegin) this.run.begin(thread, call);
+    await this.play(thread, next.steps, before);
+  }
+
+  press(thread) {
+    if (!this.canStep || !this.shown.includes(thread)) return;
+    if (this.run.isIdle(thread) && this.left(thread).length === 0 && this.spec.free) beginOwn(this, thread);
+    else this.step(thread);
+  }
+
+  async play(thread, steps, from) {
+    this.active = thread;
+    this.run.go(thread, steps);
+    await this.show(from);
+    if (!this.isEnded) this.onStep?.(this);
+  }
+
+  async show(from) {
+    const { total } = this.run.trace;
+    this.isBusy = true;
+    this.isHurried = false;
+    tellBusy(true);
+    for (let count = Math.min(from + 1, total); count <= total; count++) {
+      if (this.isEnded) return;
+      if (count < total && (this.isHurried || wantsStill() || this.isHidden(count))) continue;
+      this.run.moveTo(count);
+      this.part("tale").setAttribute("aria-live", count < total ? "off" : "polite"); // of a play only the last sentence is read out
+      this.isBusy = count < total;
+      this.draw(true);
+      if (count < total) await sleep(BIT);
+    }
+    this.isBusy = false;
+    tellBusy(this.isActing);
+  }
+
+  async replay(from = 0) {
+    if (this.isBusy) return;
+    this.run.moveTo(from);
+    this.draw();
+    await this.show(from);
+  }
+
+  isHidden(count) {
+    return this.spec.plain === true && this.run.trace.event(count).word === "list.lock";
+  }
+
+  async act(deeds) {
+    const { onStep } = this;
+    Object.assign(this, { onStep: null, isActing: true });
+    for (const [thread, many = 1] of deeds) {
+      for (let bit = 0; many === "out" ? bit === 0 || !this.run.isIdle(thread) : bit < many; bit++) {
+        if (this.isEnded) return;
+        await this.step(thread);
+        await sleep(wantsStill() ? 0 : BETWEEN);
+      }
+    }
+    Object.assign(this, { onStep, isActing: false });
+    tellBusy(false);
+  }
+
+  undo() {
+    if (this.isBusy || this.past.length === 0) return;
+    this.run.take(this.past.pop());
+    this.isLost = false;
+    this.draw(true);
+    this.onStep?.(this);
+  }
+
+  again() {
+    if (this.isBusy) return;
+    this.reset();
+    this.onStep?.(this);
+  }
+
+  tell(text) {
+    this.told = text;
+    this.part("tale").innerHTML = text;
+  }
+
+  draw(isNear = false, moment = momentAt(this.run.state, this.run.count)) {
+    if (isNear) this.told = null;
+    drawFigure(this, moment, isNear);
+    if (this.isLost && this.run.count === this.run.trace.total) markLostNodes(this);
+  }
+
+  moveTo(count) {
+    if (this.isBusy) return;
+    const isNear = Math.abs(count - this.run.count) <= 1;
+    this.run.moveTo(count);
+    this.draw(isNear);
+  }
+}
+return { Figure };
+})();
+
+// story/still_figure.js
+const $story_still_figure = (() => {
+const { momentAt } = $run_sentences;
+const { Figure } = $story_figure;
+class StillFigure extends Figure {
+  constructor(box, spec) {
+    super(box, { dock: false, names: true, strip: true, short: true, again: false, ...spec });
+  }
+
+  take(run, moment = momentAt(run.state, run.count), hides = true) {
+    const isNear = run.trace.kind === this.run.trace.kind && Math.abs(run.count - this.run.count) === 1;
+    Object.assign(this, { run, hides });
+    this.draw(isNear, moment);
+  }
+}
+return { StillFigure };
+})();
+
+// activities/bench.js
+const $activities_bench = (() => {
+const { LISTS } = $made_rows;
+const { drawOrder } = $draw_contents;
+const { HISTORY_LEFT } = $draw_history;
+const { drawListing } = $draw_listing;
+const { drawTable } = $draw_table;
+const { drawThreads, MOST_ROWS } = $draw_threads;
+const { byId, setAble, setHtml } = $page_dom;
+const { scrollToLine } = $page_editor;
+const { hiddenOutcomes, isJudging, now, show, tell } = $page_now;
+const { goByHand, isPlaying } = $page_play;
+const { escaped } = $run_markup;
+const { sentenceOf } = $run_sentences;
+const { ShownRun } = $story_live_run;
+const { StillFigure } = $story_still_figure;
+const bench = { key: "", figure: null };
+const LACKING = "The code of the correct list. The list that runs here lacks one of its checks.";
+
+function figureOfTask(run) {
+  const { kind, lacks } = run.trace;
+  const key = [now.task.kind, now.task.id, now.task.work, kind, lacks].join();
+  if (bench.figure !== null && bench.key === key) return bench.figure;
+  bench.figure?.end();
+  bench.key = key;
+  const box = document.createElement("div");
+  byId("run-figure").replaceChildren(box);
+  const codeNote = lacks === null ? "" : LACKING;
+  const sentence = (moment) => sentenceOf(moment, hiddenOutcomes());
+  bench.figure = new StillFigure(box, { list: kind, run, sentence, codeTitle: LISTS[kind].name, codeNote, roomFor: 560 });
+  return bench.figure;
+}
+
+function showRun(moment) {
+  const { trace, state, count } = now.run;
+  const run = new ShownRun(trace, state, count);
+  const figure = figureOfTask(run);
+  figure.box.classList.toggle("judged", isJudging());
+  figure.part("tale").setAttribute("aria-live", isPlaying() ? "off" : "polite");
+  figure.spec.high = isJudging() ? 0.24 : now.place.view === "lecture" ? 0.3 : 0.36;
+  figure.take(run, moment, now.prefs.hides);
+  setHtml(byId("order"), drawOrder(trace, count, now.prefs.hides));
+  showThreads(moment.event);
+  showTable(moment);
+  showListing(moment);
+  scrollToLine(moment.event);
+}
+
+function showBar() {
+  const { trace, count, source } = now.run;
+  const { total } = trace;
+  const name = `${LISTS[trace.kind].name}${trace.lacks === null ? "" : " without one check"}`;
+  byId("title").textContent = `${name}, ${trace.threads} thread${trace.threads > 1 ? "s" : ""}`;
+  byId("source").textContent = source;
+  const where = `event ${count} of ${total}`;
+  Object.assign(byId("slider"), { max: total, value: count });
+  byId("slider").setAttribute("aria-valuetext", where);
+  byId("where").textContent = where;
+  setAble("back", count > 0);
+  setAble("next", count < total);
+}
+
+function showThreads(event) {
+  if (!byId("threads-box").open) return;
+  byId("threads").innerHTML = drawThreads(now.run.state, event, now.prefs.allThreads, hiddenOutcomes().includes("reply"));
+  byId("all-threads").hidden = now.run.trace.threads <= MOST_ROWS;
+  byId("all-threads").textContent = now.prefs.allThreads ? "show only those with a pending call" : `show all ${now.run.trace.threads}`;
+}
+
+function showTable(moment) {
+  const which = now.run.lacks === null ? "" : "the correct ";
+  byId("table-title").textContent = `Step table of ${which}${LISTS[now.run.trace.kind].name}`;
+  if (byId("table-box").open) byId("table").innerHTML = drawTable(moment);
+}
+
+function showListing(moment) {
+  if (!byId("listing-box").open) return;
+  const box = byId("listing");
+  box.innerHTML = drawListing(moment);
+  const line = box.querySelector(".moved") ?? box.querySelector(".here");
+  if (line === null) return;
+  const y = line.offsetTop - box.offsetTop;
+  if (y < box.scrollTop + 40 || y > box.scrollTop + box.clientHeight - 80) box.scrollTop = y - box.clientHeight / 2;
+}
+
+function pressPicture({ target, clientX }) {
+  const calls = target.closest(".calls svg");
+  const said = target.closest("g, svg")?.querySelector(":scope > title")?.textContent ?? "";
+  if (calls !== null) {
+    const { first, step } = bench.figure.scale;
+    goByHand(first - 1 + Math.ceil((clientX - calls.getBoundingClientRect().left - HISTORY_LEFT) / step));
+  }
+  if (said !== "") tell(escaped(said));
+}
+
+function listenToBench() {
+  byId("run-figure").addEventListener("click", pressPicture);
+  byId("turns").onclick = ({ target }) => target.dataset.event && goByHand(Number(target.dataset.event));
+  for (const name of ["table-box", "listing-box", "threads-box", "turns-box"]) byId(name).ontoggle = show;
+}
+return { showRun, showBar, listenToBench };
 })();
 
 // made/book.js
@@ -3584,424 +4814,133 @@ const BOOK = [
 return { BOOK_NAME, BOOK };
 })();
 
-// page/kept.js
-const $page_kept = (() => {
-const { BOOK_NAME } = $made_book;
-const { CLASSICS } = $made_classics;
-const { byId } = $page_dom;
-const { announce, held, now } = $page_now;
-const KEPT = "listset-page-2";
-const KEPT_BEFORE = "listset-page"; // one text, as the page kept it before
-const HERE = "listset-here"; // the address of what was shown last
-const MOST_WORKS = 60; // the oldest ones go
-
-function keptUnder(name) {
-  try {
-    return JSON.parse(localStorage.getItem(name));
-  } catch {
-    return null;
-  }
-}
-
-function keepUnder(name, value) {
-  try {
-    localStorage.setItem(name, JSON.stringify(value));
-    return true;
-  } catch {
-    return false;
-  }
-}
-
-const isText = (value) => typeof value === "string";
-const isWork = (kept) => typeof kept?.text === "string" && typeof kept.box === "string" && Number.isInteger(kept.count);
-const KINDS = ["own", "example", "lesson", "seed"];
-const isTask = (task) => KINDS.includes(task?.kind) && isText(task.id) && isText(task.course);
-
-function taskOfName(name) {
-  const [, lesson, course = BOOK_NAME] = /^lesson ([a-z0-9-]+)(?: of (.+?))?(?: \d+)?$/.exec(name) ?? [];
-  if (lesson !== undefined) return { kind: "lesson", id: lesson, course };
-  const [, example] = /^from ([a-z-]+)(?: \d+)?$/.exec(name) ?? [];
-  if (Object.hasOwn(CLASSICS, example)) return { kind: "example", id: example, course: "" };
-  return { kind: "own", id: "", course: "" };
-}
-
-/** @type {(entry: any[]) => [string, any]} */
-const workOf = ([name, kept]) => [name, { ...kept, task: isTask(kept.task) ? kept.task : taskOfName(name) }];
-
-const works = {
-  /** @type {Map<string, any>} */
-  byName: new Map(),
-  isKept: true,
-
-  load() {
-    const kept = keptUnder(KEPT);
-    const before = keptUnder(KEPT_BEFORE);
-    const entries = Array.isArray(kept) ? kept : isWork(before) ? [["my schedule", before]] : [];
-    const isGood = (entry) => Array.isArray(entry) && isText(entry[0]) && isWork(entry[1]);
-    this.byName = new Map(entries.filter(isGood).map(workOf));
-  },
-
-  set(name, work) {
-    this.byName.delete(name);
-    this.byName.set(name, work);
-    const names = [...this.byName.keys()];
-    for (const old of names.slice(0, Math.max(0, names.length - MOST_WORKS))) this.byName.delete(old);
-    this.isKept = keepUnder(KEPT, [...this.byName]);
-  },
-
-  last(isWanted) {
-    return [...this.byName].findLast(([, work]) => isWanted(work))?.[0] ?? null;
-  },
-
-  nameOf(text, lacks = null) {
-    return this.last((work) => work.text === text && (work.lacks ?? null) === lacks);
-  },
-
-  newName(word) {
-    for (let number = 1; ; number++) {
-      const name = number === 1 ? word : `${word} ${number}`;
-      if (!this.byName.has(name)) return name;
-    }
-  },
+// run/address.js
+const $run_address = (() => {
+const { LACKING } = $made_classics;
+const { LISTS } = $made_rows;
+const LONGEST_ADDRESS = 30000; // characters; a longer schedule has no address
+const SHORT_WORDS = { begin: "b", go: "g" };
+const LONG_WORDS = { b: "begin", g: "go" };
+const SHORT_EVENT = String.raw`(b\d+\.[a-z]+\.\d+|g\d+\.\d+)`;
+const ADDRESS_PARTS = {
+  example: /^[a-z-]+$/,
+  list: /^[A-Za-z-]+$/,
+  threads: /^\d+$/,
+  quota: /^\d+$/,
+  version: /^\d+$/,
+  opening: /^\d+(\.\d+)*$/,
+  s: new RegExp(`^(${SHORT_EVENT}(,${SHORT_EVENT})*)?$`),
+  event: /^\d+$/,
+  lacks: /^(\d+|[A-Za-z-]+)$/,
+  view: /^(lecture|list|history)$/,
+  course: /^[A-Za-z0-9_-]+$/,
+  sides: /^(coarse|fine|optimistic|lazy|lock-free)\.(coarse|fine|optimistic|lazy|lock-free)$/,
+  calls: /^(\d\d?\.[a-z]+\.\d+(,|$))+$/,
+  turns: /^(\d\d?(\.\d\d?)*)?$/,
+  watch: /^[a-z-]*$/,
+  learn: /^[a-z0-9-]*$/,
+  judge: /^$/,
+  break: /^\d*$/,
+  compare: /^$/,
+  read: /^$/,
+  seed: /^(coarse|fine|optimistic|lazy|lock-free)\.\d{1,2}\.\d{1,2}\.\d{1,2}\.\d{1,9}$/,
 };
 
-function keepWork() {
-  const box = byId("schedule").value;
-  const { run, task } = now;
-  const isLookedAt = box === run.text && run.text === task.begun;
-  if (held.engine === null || run.text === "" || isLookedAt || task.work === "") return;
-  const before = works.byName.get(task.work);
-  if (before?.text === run.text && before.box === box && before.count === run.count) return;
-  const { kind, id } = task;
-  works.set(task.work, { text: run.text, box, count: run.count, lacks: run.lacks, task: { kind, id, course: "" } });
-  announce("kept");
-}
-return { HERE, keptUnder, keepUnder, isText, works, keepWork };
-})();
+class AddressFault extends Error {}
 
-// page/visit.js
-const $page_visit = (() => {
-const { warningOf } = $run_address;
-const { escaped } = $run_markup;
-const { addressIn } = $page_address_of;
-const { HERE, keepUnder, keepWork } = $page_kept;
-const { held, now, tell } = $page_now;
-const { entryOf } = $page_state;
-const MOMENT = 400; // milliseconds: the bar follows once nothing has moved for so long, since browsers refuse quick changes of it
-const visit = { timer: 0, entry: null, isRead: false, course: null, sides: null };
+const neededVersion = (lines) => (lines.some((line) => /^(opening |begin \d+ ceiling )/.test(line)) ? 2 : 1);
 
-const addressHere = () => addressIn(held.state, visit);
-
-function keepSoon() {
-  clearTimeout(visit.timer);
-  visit.timer = setTimeout(keepNow, MOMENT);
+function addressOf(text, event, lacks = null) {
+  if (text.length > 2 * LONGEST_ADDRESS) return null; // an address has more than half of the letters
+  const [title, list, threads, quota, ...lines] = text.split("\n").slice(0, -1);
+  const isOpening = (line) => line.startsWith("opening ");
+  const opening = lines.filter(isOpening).map((line) => line.slice("opening ".length));
+  const events = lines.filter((line) => !isOpening(line)).map(shortLine);
+  const version = title?.split(" ")[1];
+  const parts = [`list=${list?.split(" ")[1]}`, `threads=${threads?.split(" ")[1]}`, `quota=${quota?.split(" ")[1]}`];
+  if (version !== String(neededVersion(lines))) parts.push(`version=${version}`);
+  if (opening.length > 0) parts.push(`opening=${opening.join(".")}`);
+  parts.push(`s=${events.join()}`, `event=${event}`);
+  if (lacks !== null) parts.push(`lacks=${Object.keys(LACKING).indexOf(lacks) + 1}`);
+  const address = `#${parts.join("&")}`;
+  return address.length <= LONGEST_ADDRESS && isAddressOf(address, text) ? address : null;
 }
 
-function keepNow() {
-  clearTimeout(visit.timer);
-  keepWork();
-  if (visit.isRead) setAddress();
-}
+const shortLine = (line) => {
+  const [word, ...values] = line.split(" ");
+  return `${SHORT_WORDS[word] ?? word}${values.join(".")}`;
+};
 
-function setAddress() {
-  const address = addressHere();
-  const entry = entryOf(held.state);
-  const isNew = visit.entry !== null && visit.entry !== entry;
-  visit.entry = entry;
-  if (held.state.place.view !== "embed") keepUnder(HERE, address);
-  if (!isNew && location.hash === (address ?? "")) return;
-  const { text, count, lacks } = now.run;
-  const kept = address === null ? { text, count, lacks } : null;
-  const how = isNew ? "pushState" : "replaceState";
-  const place = address ?? location.pathname + location.search;
+const longLine = (short) => `${LONG_WORDS[short[0]]} ${short.slice(1).replaceAll(".", " ")}`;
+
+function isAddressOf(address, text) {
   try {
-    history[how](kept, "", place);
-  } catch {
-    history[how](null, "", place); // a state may be too large for a browser
-  }
-}
-
-const linkTo = (address) => location.href.replace(/#.*$/, "") + address;
-
-async function copyLink() {
-  const address = now.run.isRun ? addressHere() : null;
-  if (address === null) return tell("This schedule has no link: it is refused, or too long for an address. Save it as a file.");
-  const link = linkTo(address);
-  const shown = `<code>${escaped(link)}</code>${warningOf(link)}`;
-  tell(`Copy this link: ${shown}`);
-  if (await copied(link)) tell(`The link is copied: ${shown}`);
-}
-
-async function copied(text) {
-  try {
-    await navigator.clipboard.writeText(text);
-    return true;
-  } catch {
+    return readAddress(address).text === text;
+  } catch (fault) {
+    if (!(fault instanceof AddressFault)) throw fault;
     return false;
   }
 }
-return { visit, keepSoon, keepNow, linkTo, copyLink, copied };
-})();
 
-// run/sides.js
-const $run_sides = (() => {
-const { titleOf } = $run_schedule_text;
-const { State } = $run_state;
-const { isTrace, MOST_NUMBER, Trace } = $run_trace;
-const MOST_TURNS = 500;
-
-class ProgramFault extends Error {}
-
-function readProgram(text) {
-  const program = [];
-  for (const line of text.split("\n").filter((one) => one.trim() !== "")) {
-    const [, thread, calls] = /^\s*t?(\d+)\s*:\s*(.+?)\s*$/.exec(line) ?? [];
-    const isLine = thread !== undefined && Number(thread) < 64;
-    if (!isLine) throw new ProgramFault(`"${line.slice(0, 60)}" is no line as "0: add 5, remove 5"`);
-    for (const call of calls.split(",").map((one) => one.trim())) {
-      const [, operation, key] = /^(add|remove|contains|ceiling) (0|[1-9]\d{0,9})$/.exec(call) ?? [];
-      if (key === undefined || Number(key) > MOST_NUMBER) throw new ProgramFault(`"${call.slice(0, 40)}" is no call as "add 5"`);
-      (program[Number(thread)] ??= []).push(`${operation} ${key}`);
-    }
+function readAddress(hash) {
+  const { view = null, course = null, lacks: which, seed = null, ...rest } = partsOf(hash);
+  const { place, isJudged, parts } = placeOf(rest, seed);
+  const lacks = which === undefined ? null : lackingNamed(which, parts);
+  const own = { view, course, sides: null, lacks, place, seed, isJudged };
+  const named = { example: parts.example ?? null, text: null, event: Number(parts.event ?? 0), ...own };
+  if (parts.sides !== undefined) return { ...named, sides: parts };
+  const ofSchedule = Object.keys(parts).filter((name) => name !== "event" && name !== "example");
+  if (named.example !== null && ofSchedule.length > 0) {
+    throw new AddressFault(`the address names an example, and has "${ofSchedule[0]}" too`);
   }
-  if (program.length === 0) throw new ProgramFault('a program has lines as "0: add 5, remove 5"');
-  return Array.from(program, (calls) => calls ?? []);
+  if (ofSchedule.length > 0) named.text = textOfParts(parts);
+  return named;
 }
 
-function programText(program) {
-  const lines = program.map((calls, thread) => (calls.length === 0 ? "" : `${thread}: ${calls.join(", ")}\n`));
-  return lines.join("");
-}
-
-class Side {
-  constructor(ask, kind, { program, quota, opening }) {
-    this.ask = ask;
-    this.kind = kind;
-    this.lines = [];
-    this.counts = [0];
-    const set = [titleOf(2), `list ${kind}`, `threads ${program.length}`, `quota ${quota}`];
-    this.head = [...set, ...opening.map((key) => `opening ${key}`)];
-    this.run();
+function lackingNamed(which, { list, example }) {
+  const names = Object.keys(LACKING);
+  const lacks = names.includes(which) ? which : names[which - 1];
+  if (lacks === undefined) {
+    throw new AddressFault(`there is no broken list "${which}": expected 1 to ${names.length}, or a name that "listset show --help" prints`);
   }
+  if (list === LACKING[lacks]) return lacks;
+  const named = list !== undefined ? `list=${list}` : example !== undefined ? `example=${example}` : "no list";
+  throw new AddressFault(`lacks=${which} is a broken ${LISTS[LACKING[lacks]].name}, and the address has ${named}`);
+}
 
-  get schedule() {
-    return [...this.head, ...this.lines, ""].join("\n");
+function placeOf(parts, seed) {
+  const isRun = seed !== null || parts.example !== undefined || parts.list !== undefined;
+  const name = ["watch", "learn", "judge", "break", "compare", "read"].find((one) => parts[one] !== undefined);
+  if (name === undefined) return { place: null, isJudged: false, parts };
+  const { [name]: value, ...others } = parts;
+  const isJudged = name === "judge" && isRun;
+  return { place: isJudged ? null : [name, value], isJudged, parts: others };
+}
+
+function partsOf(hash) {
+  const parts = {};
+  for (const [name, value] of new URLSearchParams(hash.replace(/^#/, ""))) {
+    if (!Object.hasOwn(ADDRESS_PARTS, name)) throw new AddressFault(`the address has a part "${name}", which is none`);
+    if (name in parts) throw new AddressFault(`the address has "${name}" twice`);
+    if (!ADDRESS_PARTS[name].test(value)) throw new AddressFault(`"${value.slice(0, 60)}" is no ${name} of an address`);
+    parts[name] = value;
   }
-
-  run() {
-    const { text } = this.ask("listset_trace", this.schedule);
-    if (!isTrace(text)) throw new ProgramFault(text.trim());
-    this.trace = new Trace(text, 2);
-    this.state = new State(this.trace);
-    this.state.moveTo(this.trace.total);
-  }
-
-  isOpen(thread) {
-    return this.state.threads[thread].pc !== 0;
-  }
-
-  take(line) {
-    if (line !== null) {
-      this.lines.push(line);
-      this.run();
-    }
-    this.counts.push(this.trace.total);
-  }
+  return parts;
 }
 
-class Sides {
-  constructor(ask, kinds, { program, quota, opening }) {
-    this.program = program;
-    this.turns = [];
-    this.sides = kinds.map((kind) => new Side(ask, kind, { program, quota, opening }));
-  }
-
-  linesOf(thread) {
-    if (thread >= this.program.length) return null;
-    const isOpen = this.sides.map((side) => side.isOpen(thread));
-    if (isOpen.includes(true)) return isOpen.map((open) => (open ? `go ${thread} 1` : null));
-    const next = this.program[thread]?.[this.sides[0].trace.callsOf[thread].length];
-    return next === undefined ? null : this.sides.map(() => `begin ${thread} ${next}`);
-  }
-
-  turn(thread) {
-    const lines = this.linesOf(thread);
-    if (lines === null || this.turns.length === MOST_TURNS) return false;
-    this.sides.forEach((side, at) => side.take(lines[at]));
-    this.turns.push(thread);
-    return true;
-  }
-}
-return { ProgramFault, readProgram, programText, Sides };
-})();
-
-// activities/compare.js
-const $activities_compare = (() => {
-const { LISTS } = $made_rows;
-const { drawContents } = $draw_contents;
-const { drawCalls, scaleOf } = $draw_history;
-const { drawList, LOCK_HEIGHT } = $draw_list;
-const { LEAST } = $draw_room;
-const { byId, redraw } = $page_dom;
-const { toggleLecture } = $page_keys;
-const { askNow, change, now, show } = $page_now;
-const { copied, keepSoon, linkTo, visit } = $page_visit;
-const { addressOf, readAddress, warningOf } = $run_address;
-const { chipOf, escaped, tag } = $run_markup;
-const { momentAt, sentenceOf } = $run_sentences;
-const { ProgramFault, programText, readProgram, Sides } = $run_sides;
-const PRESETS = [
-  ["Who waits?", "#sides=coarse.lazy&quota=4&calls=0.add.5,1.contains.5&turns=0.0.0.0.1.1.1"],
-  ["Two removes of neighbours", "#sides=fine.optimistic&quota=4&opening=3.5.7&calls=0.remove.3,1.remove.7&turns=0.0.0.1.1.1"],
-  ["A reader beside a writer", "#sides=lazy.lock-free&quota=4&opening=3.5.7&calls=0.remove.5,1.contains.5&turns=0.0.0.0.0.1.1"],
-];
-
-function drawCompare() {
-  byId("sides-presets").innerHTML = PRESETS.map(([name, href]) => tag("a", { class: "button", href }, escaped(name))).join(" ");
+function textOfParts(parts) {
+  const missing = ["list", "threads", "quota"].find((name) => parts[name] === undefined);
+  if (missing !== undefined) throw new AddressFault(`the address has no "${missing}"`);
+  const opening = (parts.opening?.split(".") ?? []).map((key) => `opening ${key}`);
+  const events = (parts.s ? parts.s.split(",") : []).map(longLine);
+  const lines = [...opening, ...events];
+  const title = `listset-schedule ${parts.version ?? neededVersion(lines)}`;
+  return [title, `list ${parts.list}`, `threads ${parts.threads}`, `quota ${parts.quota}`, ...lines, ""].join("\n");
 }
 
-function openCompare(named) {
-  change("place", { activity: "compare", screen: "map" });
-  if (named !== null || shownSides.sides === null) openSides(named ?? readAddress(PRESETS[0][1]).sides);
-  show();
-}
-
-const titleOfSides = () => ["one", "other"].map((name) => LISTS[sidesPart(name).value].name).join(" beside ");
-
-const sidesPart = (name) => byId(`sides-${name}`);
-
-const shownSides = { sides: null, at: 0, quota: 4, opening: [] }; // at: how many turns are shown
-
-function beginSides(turns = []) {
-  try {
-    const program = readProgram(sidesPart("program").value);
-    const opening = sidesPart("opening").value.split(/[\s,]+/).filter((key) => key !== "");
-    const kinds = ["one", "other"].map((name) => sidesPart(name).value);
-    Object.assign(shownSides, { sides: new Sides(askNow, kinds, { program, quota: shownSides.quota, opening }), at: 0, opening });
-    for (const thread of turns) if (!shownSides.sides.turn(thread)) break;
-    shownSides.at = shownSides.sides.turns.length;
-    sidesPart("told").textContent = "";
-    drawSides();
-  } catch (fault) {
-    if (!(fault instanceof ProgramFault)) throw fault;
-    sidesPart("told").textContent = fault.message;
-  }
-}
-
-function turnOf(thread) {
-  const { sides, at } = shownSides;
-  const turns = sides.turns.slice(0, at);
-  if (at < sides.turns.length) beginSides(turns);
-  const isMade = shownSides.sides.turn(thread);
-  shownSides.at = shownSides.sides.turns.length;
-  drawSides();
-  if (!isMade) sidesPart("told").innerHTML = `${chipOf(thread)} has ended all its calls in both lists.`;
-}
-
-function drawSide(side, thread, place) {
-  const count = side.counts[shownSides.at];
-  const moment = momentAt(side.state, count);
-  const hasWaited = shownSides.at > 0 && count === side.counts[shownSides.at - 1];
-  const said = hasWaited ? `${chipOf(thread)} has ended its call here, and waits for the other list.` : sentenceOf(moment);
-  const width = Math.max(320, sidesPart("pictures").clientWidth / (innerWidth < 940 ? 1 : 2) - 48);
-  const scale = scaleOf(side.trace, count, width, now.prefs.hides);
-  side.said = said;
-  return tag(
-    "section",
-    { "aria-label": LISTS[side.kind].name },
-    tag("h3", {}, `${LISTS[side.kind].name} <small>${count} events</small>`),
-    tag("p", { class: hasWaited ? "said waits" : "said" }, said),
-    tag("div", { class: "scrolls" }, drawSideList(side, moment.event, width, place, scale.height)),
-    tag("div", { class: "scrolls" }, drawCalls(side.trace, scale), drawContents(side.trace, scale)),
-    tag("p", { class: "note" }, tag("a", { class: "button", href: addressOf(side.schedule, count) ?? "#" }, "Watch this run")),
-  );
-}
-
-function drawSideList({ state }, event, width, place, ofBars) {
-  const most = now.place.view === "lecture" ? Math.max(220, 420 - ofBars) : 230;
-  const height = LEAST.beside + (state.trace.kind === "coarse" ? 0 : LOCK_HEIGHT); // so that both are drawn in one scale
-  return drawList(state, event, width, most, { width: 0, height }, `side-${place}`);
-}
-
-function turnTo(at) {
-  shownSides.at = Math.min(Math.max(at, 0), shownSides.sides.turns.length);
-  drawSides();
-}
-
-function pressForSides(event) {
-  const { sides, at } = shownSides;
-  const by = { ArrowRight: 1, PageDown: 1, ArrowLeft: -1, PageUp: -1, Home: -Infinity, End: Infinity }[event.key];
-  if (sides === null) return;
-  if (by !== undefined) {
-    event.preventDefault();
-    turnTo(at + by);
-  } else if (/^[0-9]$/.test(event.key) && now.prefs.letters && Number(event.key) < sides.program.length) {
-    turnOf(Number(event.key));
-  }
-}
-
-function drawSides() {
-  const { sides, at } = shownSides;
-  const buttons = sides.program.map((_, thread) => tag("button", { "data-thread": thread }, `${chipOf(thread)} next step`));
-  redraw(sidesPart("turns"), buttons.join(" "));
-  Object.assign(sidesPart("slider"), { max: sides.turns.length, value: at });
-  const words = `turn ${at} of ${sides.turns.length}`;
-  sidesPart("slider").setAttribute("aria-valuetext", words);
-  sidesPart("where").textContent = words;
-  sidesPart("pictures").innerHTML = sides.sides.map((side, place) => drawSide(side, sides.turns[at - 1], place)).join("");
-  sidesPart("heard").innerHTML = sides.sides.map((side) => `${LISTS[side.kind].name}: ${side.said}`).join(" ");
-  visit.sides = addressOfSides();
-  keepSoon();
-}
-
-function showSides() {
-  if (now.place.activity === "compare" && shownSides.sides !== null) drawSides();
-}
-
-function addressOfSides() {
-  const { sides, quota, opening } = shownSides;
-  const calls = sides.program.flatMap((own, thread) => own.map((call) => `${thread}.${call.replace(" ", ".")}`));
-  const parts = [`sides=${sides.sides.map(({ kind }) => kind).join(".")}`, `quota=${quota}`];
-  if (opening.length > 0) parts.push(`opening=${opening.join(".")}`);
-  return `#${[...parts, `calls=${calls.join()}`, `turns=${sides.turns.join(".")}`].join("&")}`;
-}
-
-function openSides({ sides, calls, turns = "", quota = "4", opening = "" }) {
-  const program = [];
-  for (const call of (calls ?? "").split(",").filter((one) => one !== "")) {
-    const [thread, operation, key] = call.split(".");
-    (program[Number(thread)] ??= []).push(`${operation} ${key}`);
-  }
-  [sidesPart("one").value, sidesPart("other").value] = sides.split(".");
-  sidesPart("program").value = programText(Array.from(program, (own) => own ?? []));
-  sidesPart("opening").value = opening.replaceAll(".", " ");
-  shownSides.quota = Number(quota);
-  beginSides(turns.split(".").filter((thread) => thread !== "").map(Number));
-}
-
-async function copySides() {
-  const link = linkTo(addressOfSides());
-  const isCopied = await copied(link);
-  sidesPart("told").innerHTML = `${isCopied ? "The link is copied" : "Copy this link"}: <code>${escaped(link)}</code>${warningOf(link)}`;
-}
-
-function listenToSides() {
-  for (const name of ["one", "other"]) {
-    sidesPart(name).append(...Object.entries(LISTS).map(([kind, { name: words }]) => new Option(words, kind)));
-    sidesPart(name).onchange = () => beginSides();
-  }
-  sidesPart("other").value = "lock-free";
-  sidesPart("begin").onclick = () => beginSides();
-  sidesPart("link").onclick = copySides;
-  sidesPart("lecture").onclick = toggleLecture;
-  sidesPart("back").onclick = () => turnTo(shownSides.at - 1);
-  sidesPart("turns").onclick = ({ target }) => {
-    const thread = target.closest("[data-thread]")?.dataset.thread;
-    if (thread !== undefined) turnOf(Number(thread));
-  };
-  sidesPart("slider").oninput = () => turnTo(Number(sidesPart("slider").value));
-}
-return { drawCompare, openCompare, titleOfSides, pressForSides, showSides, listenToSides };
+const warningOf = (link) =>
+  link.startsWith("file:") ? " Others cannot open it, since it leads to a file on this computer: copy it from a page on a web server." : "";
+return { LONGEST_ADDRESS, AddressFault, addressOf, longLine, readAddress, warningOf };
 })();
 
 // course/course_link.js
@@ -4381,43 +5320,6 @@ function lessonText({ list, threads, quota, opening }, lines) {
   return [...header, ...opening.map((key) => `opening ${key}`), ...lines, ""].join("\n");
 }
 return { COURSE_TITLE, readCourse, lessonText };
-})();
-
-// run/draft.js
-const $run_draft = (() => {
-const { isTrace, Trace } = $run_trace;
-const MOST_TRIED = 1000; // steps of a thread that does not come to where it is sent, to see for what it waits
-const DRAFT_LINE = /^go \d+ (?:out|to \d+)$/m;
-
-function scheduleOfDraft(ask, text, lacks = null) {
-  if (!DRAFT_LINE.test(text)) return { text, fault: null };
-  if (lacks !== null) return scheduleOfLackingDraft(ask, lacks, text);
-  const made = ask("listset_draft", text.replace(/^listset-(?:schedule|draft) [12]$/m, "listset-draft 2"));
-  return made.status === 0 ? { text: made.text, fault: null } : { text: null, fault: made.text.trim() };
-}
-
-function stepsOfLacking(ask, lacks, lines, thread, row) {
-  const fault = (cause) => ({ count: null, fault: `listset: line ${lines.length + 1}: ${cause}` });
-  const { text } = ask("listset_lacking", lacks, `${[...lines, `go ${thread} ${MOST_TRIED}`].join("\n")}\n`, "trace");
-  if (!isTrace(text)) return { count: null, fault: text.trim() };
-  const steps = new Trace(text).events().filter(({ line }) => line === lines.length + 1);
-  const end = steps.findIndex(({ answer }) => answer !== undefined);
-  const at = row === undefined ? end : steps.findIndex(({ answer, changes }) => answer === undefined && changes.pc === Number(row));
-  if (at !== -1) return { count: at + 1, fault: null };
-  return fault(end !== -1 || steps.length === 0 ? "Idle" : "Waits");
-}
-
-function scheduleOfLackingDraft(ask, lacks, text) {
-  const lines = [];
-  for (const line of text.split("\n").slice(0, -1)) {
-    const asked = /^go (\d+) (?:out|to (\d+))$/.exec(line);
-    const { count, fault } = asked === null ? { count: null, fault: null } : stepsOfLacking(ask, lacks, lines, asked[1], asked[2]);
-    if (fault !== null) return { text: null, fault };
-    lines.push(asked === null ? line : `go ${asked[1]} ${count}`);
-  }
-  return { text: [...lines, ""].join("\n"), fault: null };
-}
-return { scheduleOfDraft };
 })();
 
 // course/lesson.js
@@ -5757,936 +6659,13 @@ end
 return { EXAMPLES, TRACES };
 })();
 
-// draw/glide.js
-const $draw_glide = (() => {
-const TIME = 260; // milliseconds
-const EASE = { duration: TIME, easing: "cubic-bezier(.2, .7, .2, 1)" };
-
-const wantsStill = () => matchMedia("(prefers-reduced-motion: reduce)").matches;
-
-function placesIn(box) {
-  const places = new Map();
-  for (const part of box.querySelectorAll("[data-part]")) {
-    const { x = "0", y = "0", to = "" } = part.dataset;
-    places.set(part.dataset.part, { x: Number(x), y: Number(y), to, d: part.querySelector("path")?.getAttribute("d") ?? "" });
-  }
-  return places;
-}
-
-function glideArrow(part, before) {
-  const path = part.querySelector("path");
-  if (path === null || path.getAttribute("d") === before.d) return;
-  if (part.dataset.to === before.to) {
-    const forms = [before.d, path.getAttribute("d")].map((d) => ({ d: `path("${d}")` }));
-    path.animate(forms, EASE);
-  } else {
-    const length = path.getTotalLength();
-    const strokeDasharray = `${length} ${length}`;
-    path.animate([{ strokeDasharray, strokeDashoffset: length }, { strokeDasharray, strokeDashoffset: 0 }], EASE);
-  }
-}
-
-function glide(box, draw, isNear) {
-  const before = isNear && !wantsStill() && !document.hidden ? placesIn(box) : null;
-  draw();
-  if (before === null || before.size === 0) return;
-  for (const part of box.querySelectorAll("[data-part]")) {
-    const was = before.get(part.dataset.part);
-    if (was === undefined) part.animate([{ opacity: 0 }, { opacity: 1 }], EASE);
-    else if (part.dataset.part.startsWith("link ")) glideArrow(part, was);
-    else {
-      const [dx, dy] = [was.x - Number(part.dataset.x), was.y - Number(part.dataset.y)];
-      if (dx !== 0 || dy !== 0) part.animate([{ translate: `${dx}px ${dy}px` }, { translate: "0 0" }], EASE);
-    }
-  }
-}
-return { glide };
-})();
-
-// made/code.js
-const $made_code = (() => {
-// The proved loops of the lists as they stand in crates/, with the rows of its list's table that each line makes, by page/build: for
-// show alone.
-
-const CODE = {
-  "crates/lset_loops/src/coarse.rt": [
-    { name: "walk", first: 15, steps: [{"line": 22, "rows": [2]}, {"line": 24, "rows": [3]}, {"line": 28, "rows": [4]}], calls: [], text: `
-/// Walks from the head to the first key that is not below that of the call.
-fn walk<P: Pause, N: Rounds>(caller: &Caller<CoarseList, P>, place: &mut TableSeat) -> Option<Found>
-    requires { AtHead caller.now.origin caller.now.slots place.old }
-    ensures { IfSome result (λ f. StopsAt caller.now.origin caller.now.slots f place.new) }
-{
-    let key = caller.key;
-    let mut pred = Node::head();
-    let mut curr = Node::behind(caller.load_link(place, pred)); // row 2
-    for round in 0..N::MOST {
-        let word = caller.load_key(place, curr); // row 3
-        if word >= key {
-            return Some(Found { pred, curr, word });
-        }
-        let link = caller.load_link(place, curr); // row 4
-        pred = curr;
-        curr = Node::behind(link);
-    }
-    None
-}` },
-    { name: "act", first: 35, steps: [{"line": 46, "rows": [5, 6, 7]}, {"line": 50, "rows": [8]}, {"line": 51, "rows": [9]}], calls: [], text: `
-/// Does what the call does at the key that was found.
-fn act<P: Pause>(
-    caller: &Caller<CoarseList, P>,
-    place: &mut TableSeat,
-    found: Found,
-) -> (OwnSlots, Reply)
-    requires { StopsAt caller.now.origin caller.now.slots found place.old }
-    ensures { Leaves caller.now.origin result place.new }
-{
-    match decide(caller.call, found.word, caller.slots) {
-        Decision::PutIn => {
-            caller.put_in(place, found); // rows 5, 6, 7
-            (one_more(caller.slots), Reply::True)
-        }
-        Decision::TakeOut => {
-            let link = caller.load_link(place, found.curr); // row 8
-            caller.store_link(place, found.pred, Link::To(Node::behind(link))); // row 9
-            (caller.slots, Reply::True)
-        }
-        Decision::Answer(reply) => (caller.slots, reply),
-    }
-}` },
-    { name: "coarse_within", first: 58, steps: [{"line": 71, "rows": [1]}, {"line": 74, "rows": [10]}], calls: [[72, "walk"], [73, "act"]], text: `
-/// Makes a whole call: it takes the lock, walks to its key, acts there, and gives the lock back. (Herlihy and Shavit's
-/// coarse-grained list.) \`None\` where a loop of it has made \`N::MOST\` rounds.
-pub fn coarse_within<P: Pause, N: Rounds>(
-    table: &Words<CoarseList>,
-    place: &mut TableSeat,
-    slots: OwnSlots,
-    call: Call,
-    pause: &P,
-) -> Option<(OwnSlots, Reply)>
-    requires { MayCall coarse table.now.table_id table.now.key slots place.old }
-    ensures { IfSome result (λ r. HasCalled coarse call place.old r place.new) }
-{
-    let caller = Caller::new(table, place, slots, call, pause);
-    caller.begin_locked::<N>(place, LOCK)?; // row 1
-    let found = walk::<P, N>(&caller, place)?;
-    let answer = act(&caller, place, found);
-    caller.release_last(place, LOCK); // row 10
-    Some(answer)
-}` },
-  ],
-  "crates/lset_loops/src/fine.rt": [
-    { name: "walk", first: 16, steps: [{"line": 23, "rows": [2]}, {"line": 25, "rows": [3]}, {"line": 26, "rows": [4]}, {"line": 30, "rows": [5]}, {"line": 31, "rows": [6]}], calls: [], text: `
-/// Walks hand over hand from the head, which is locked, to the first key that is not below that of the call.
-fn walk<P: Pause, N: Rounds>(caller: &Caller<FineList, P>, place: &mut TableSeat) -> Option<Found>
-    requires { AtHead caller.now.origin caller.now.slots place.old }
-    ensures { IfSome result (λ f. StopsAt caller.now.origin caller.now.slots f place.new) }
-{
-    let key = caller.key;
-    let mut pred = Node::head();
-    let mut curr = Node::behind(caller.load_link(place, pred)); // row 2
-    for round in 0..N::MOST {
-        caller.lock::<N>(place, curr)?; // row 3
-        let word = caller.load_key(place, curr); // row 4
-        if word >= key {
-            return Some(Found { pred, curr, word });
-        }
-        caller.unlock(place, pred); // row 5
-        let link = caller.load_link(place, curr); // row 6
-        pred = curr;
-        curr = Node::behind(link);
-    }
-    None
-}` },
-    { name: "act", first: 38, steps: [{"line": 49, "rows": [7, 8, 9]}, {"line": 53, "rows": [10]}, {"line": 54, "rows": [11]}], calls: [], text: `
-/// Does what the call does at the key that was found, between two nodes that it has locked.
-fn act<P: Pause>(
-    caller: &Caller<FineList, P>,
-    place: &mut TableSeat,
-    found: Found,
-) -> (OwnSlots, Reply)
-    requires { StopsAt caller.now.origin caller.now.slots found place.old }
-    ensures { Leaves caller.now.origin found result place.new }
-{
-    match decide(caller.call, found.word, caller.slots) {
-        Decision::PutIn => {
-            caller.put_in(place, found); // rows 7, 8, 9
-            (one_more(caller.slots), Reply::True)
-        }
-        Decision::TakeOut => {
-            let link = caller.load_link(place, found.curr); // row 10
-            caller.store_link(place, found.pred, Link::To(Node::behind(link))); // row 11
-            (caller.slots, Reply::True)
-        }
-        Decision::Answer(reply) => (caller.slots, reply),
-    }
-}` },
-    { name: "fine_within", first: 61, steps: [{"line": 74, "rows": [1]}, {"line": 77, "rows": [12]}, {"line": 78, "rows": [13]}], calls: [[75, "walk"], [76, "act"]], text: `
-/// Makes a whole call: it walks to its key, locking each node before it gives up the one behind it, acts there, and gives
-/// both locks back. (Herlihy and Shavit's fine-grained list.) \`None\` where a loop of it has made \`N::MOST\` rounds.
-pub fn fine_within<P: Pause, N: Rounds>(
-    table: &Words<FineList>,
-    place: &mut TableSeat,
-    slots: OwnSlots,
-    call: Call,
-    pause: &P,
-) -> Option<(OwnSlots, Reply)>
-    requires { MayCall fine table.now.table_id table.now.key slots place.old }
-    ensures { IfSome result (λ r. HasCalled fine call place.old r place.new) }
-{
-    let caller = Caller::new(table, place, slots, call, pause);
-    caller.begin_locked::<N>(place, lock_index(HEAD))?; // row 1
-    let found = walk::<P, N>(&caller, place)?;
-    let answer = act(&caller, place, found);
-    caller.unlock(place, found.curr); // row 12
-    caller.unlock_last(place, found.pred); // row 13
-    Some(answer)
-}` },
-  ],
-  "crates/lset_loops/src/optimistic.rt": [
-    { name: "walk", first: 22, steps: [{"line": 37, "rows": [2]}, {"line": 42, "rows": [3]}], calls: [], text: `
-/// Walks from the head, whose link led to \`first\`, to the first key that is not below that of the call.
-#[inline(always)]
-fn walk<P: Pause, N: Rounds>(
-    caller: &Caller<OptimisticList, P>,
-    place: &mut TableSeat,
-    first: Node,
-) -> Option<Stopped>
-    requires { AtKey caller.now.origin caller.now.slots 0 first.number 0 place.old }
-    ensures { IfSome result (λ f. StopsAt caller.now.origin caller.now.slots f place.new) }
-{
-    let key = caller.key;
-    let mut pred = Node::head();
-    let mut before = 0;
-    let mut curr = first;
-    for round in 0..N::MOST {
-        let word = caller.load_key(place, curr); // row 2
-        if word >= key {
-            let found = Found { pred, curr, word };
-            return Some(Stopped { found, before });
-        }
-        let link = caller.load_link(place, curr); // row 3
-        pred = curr;
-        before = word;
-        curr = Node::behind(link);
-    }
-    None
-}` },
-    { name: "reaches", first: 50, steps: [{"line": 68, "rows": [6]}, {"line": 70, "rows": [7]}], calls: [], text: `
-/// Walks a second time from the head, as far as \`pred\`. Answers whether it came there: not where it saw a key above that of
-/// \`pred\`.
-#[inline(always)]
-fn reaches<P: Pause, N: Rounds>(
-    caller: &Caller<OptimisticList, P>,
-    place: &mut TableSeat,
-    stopped: Stopped,
-) -> Option<bool>
-    requires { HasLocked caller.now.origin caller.now.slots stopped place.old }
-    ensures { IfSome result (λ r. HasReached caller.now.origin caller.now.slots stopped.found r place.new) }
-{
-    let pred = stopped.found.pred.number;
-    let before = stopped.before;
-    if pred == HEAD {
-        return Some(true);
-    }
-    let mut node = Node::head();
-    for round in 0..N::MOST {
-        let link = caller.load_link(place, node); // row 6
-        node = Node::behind(link);
-        let word = caller.load_key(place, node); // row 7
-        if word > before {
-            return Some(false);
-        }
-        if node.number == pred {
-            return Some(true);
-        }
-    }
-    None
-}` },
-    { name: "validate", first: 81, steps: [{"line": 94, "rows": [8]}], calls: [[91, "reaches"]], text: `
-/// Whether \`pred\` is still in the list and leads to \`curr\`, both of which are locked.
-fn validate<P: Pause, N: Rounds>(
-    caller: &Caller<OptimisticList, P>,
-    place: &mut TableSeat,
-    stopped: Stopped,
-) -> Option<bool>
-    requires { HasLocked caller.now.origin caller.now.slots stopped place.old }
-    ensures { IfSome result (λ r. HasValidated caller.now.origin caller.now.slots stopped.found r place.new) }
-{
-    let found = stopped.found;
-    if !reaches::<P, N>(caller, place, stopped)? {
-        return Some(false);
-    }
-    let link = caller.load_link(place, found.pred); // row 8
-    if link / 2 != found.curr.number {
-        return Some(false);
-    }
-    Some(true)
-}` },
-    { name: "act", first: 101, steps: [{"line": 112, "rows": [9, 10, 11]}, {"line": 116, "rows": [12]}, {"line": 117, "rows": [13]}], calls: [], text: `
-/// Does what the call does at the key that was found, between two nodes that it has locked.
-fn act<P: Pause>(
-    caller: &Caller<OptimisticList, P>,
-    place: &mut TableSeat,
-    found: Found,
-) -> (OwnSlots, Reply)
-    requires { AreNeighbours caller.now.origin caller.now.slots found place.old }
-    ensures { Leaves caller.now.origin found result place.new }
-{
-    match decide(caller.call, found.word, caller.slots) {
-        Decision::PutIn => {
-            caller.put_in(place, found); // rows 9, 10, 11
-            (one_more(caller.slots), Reply::True)
-        }
-        Decision::TakeOut => {
-            let link = caller.load_link(place, found.curr); // row 12
-            caller.store_link(place, found.pred, Link::To(Node::behind(link))); // row 13
-            (caller.slots, Reply::True)
-        }
-        Decision::Answer(reply) => (caller.slots, reply),
-    }
-}` },
-    { name: "optimistic_within", first: 124, steps: [{"line": 138, "rows": [1], "begins": true, "answers": false}, {"line": 142, "rows": [4]}, {"line": 143, "rows": [5]}, {"line": 146, "rows": [14], "begins": false, "answers": true}, {"line": 147, "rows": [15], "begins": false, "answers": true}, {"line": 150, "rows": [14], "begins": false, "answers": false}, {"line": 151, "rows": [15], "begins": false, "answers": false}, {"line": 152, "rows": [1], "begins": false, "answers": false}], calls: [[140, "walk"], [144, "validate"], [145, "act"]], text: `
-/// Makes a whole call: it walks to its key without a lock, locks the two nodes there, looks by a second walk whether they
-/// are still neighbours in the list, and acts, or gives them back and starts over. (Herlihy and Shavit's optimistic list.)
-/// \`None\` where a loop of it has made \`N::MOST\` rounds.
-pub fn optimistic_within<P: Pause, N: Rounds>(
-    table: &Words<OptimisticList>,
-    place: &mut TableSeat,
-    slots: OwnSlots,
-    call: Call,
-    pause: &P,
-) -> Option<(OwnSlots, Reply)>
-    requires { MayCall optimistic table.now.table_id table.now.key slots place.old }
-    ensures { IfSome result (λ r. HasCalled optimistic call place.old r place.new) }
-{
-    let caller = Caller::new(table, place, slots, call, pause);
-    let mut link = caller.begin_at_head(place); // row 1
-    for round in 0..N::MOST {
-        let stopped = walk::<P, N>(&caller, place, Node::behind(link))?;
-        let found = stopped.found;
-        caller.lock::<N>(place, found.pred)?; // row 4
-        caller.lock::<N>(place, found.curr)?; // row 5
-        if validate::<P, N>(&caller, place, stopped)? {
-            let answer = act(&caller, place, found);
-            caller.unlock(place, found.pred); // row 14
-            caller.unlock_last(place, found.curr); // row 15
-            return Some(answer);
-        }
-        caller.unlock(place, found.pred); // row 14
-        caller.unlock(place, found.curr); // row 15
-        link = caller.load_link(place, Node::head()); // row 1
-    }
-    None
-}` },
-  ],
-  "crates/lset_loops/src/lazy.rt": [
-    { name: "walk", first: 17, steps: [{"line": 31, "rows": [2]}, {"line": 35, "rows": [3]}], calls: [], text: `
-/// Walks from the head, whose link led to \`first\`, to the first key that is not below that of the call.
-#[inline(always)]
-fn walk<P: Pause, N: Rounds>(
-    caller: &Caller<LazyList, P>,
-    place: &mut TableSeat,
-    first: Node,
-) -> Option<Found>
-    requires { AtKey caller.now.origin caller.now.slots 0 first.number place.old }
-    ensures { IfSome result (λ f. StopsAt caller.now.origin caller.now.slots f place.new) }
-{
-    let key = caller.key;
-    let mut pred = Node::head();
-    let mut curr = first;
-    for round in 0..N::MOST {
-        let word = caller.load_key(place, curr); // row 2
-        if word >= key {
-            return Some(Found { pred, curr, word });
-        }
-        let link = caller.load_link(place, curr); // row 3
-        pred = curr;
-        curr = Node::behind(link);
-    }
-    None
-}` },
-    { name: "validate", first: 42, steps: [{"line": 51, "rows": [6]}, {"line": 55, "rows": [7]}], calls: [], text: `
-/// Whether \`pred\` leads to \`curr\`, and neither has a mark: then the answer is the node behind \`curr\`.
-fn validate<P: Pause>(
-    caller: &Caller<LazyList, P>,
-    place: &mut TableSeat,
-    found: Found,
-) -> Option<Node>
-    requires { HasLocked caller.now.origin caller.now.slots found place.old }
-    ensures { HasValidated caller.now.origin caller.now.slots found result place.new }
-{
-    let before = caller.load_link(place, found.pred); // row 6
-    if before != 2 * found.curr.number {
-        return None;
-    }
-    let after = caller.load_link(place, found.curr); // row 7
-    if after % 2 != 0 {
-        return None;
-    }
-    Some(Node::behind(after))
-}` },
-    { name: "act", first: 62, steps: [{"line": 74, "rows": [8, 9, 10]}, {"line": 78, "rows": [11]}, {"line": 79, "rows": [12]}], calls: [], text: `
-/// Does what the call does at the key that was found, between two nodes that it has locked.
-fn act<P: Pause>(
-    caller: &Caller<LazyList, P>,
-    place: &mut TableSeat,
-    found: Found,
-    succ: Node,
-) -> (OwnSlots, Reply)
-    requires { AreNeighbours caller.now.origin caller.now.slots found succ place.old }
-    ensures { Leaves caller.now.origin found result place.new }
-{
-    match decide(caller.call, found.word, caller.slots) {
-        Decision::PutIn => {
-            caller.put_in(place, found); // rows 8, 9, 10
-            (one_more(caller.slots), Reply::True)
-        }
-        Decision::TakeOut => {
-            caller.store_link(place, found.curr, Link::Marked(succ)); // row 11
-            caller.store_link(place, found.pred, Link::To(succ)); // row 12
-            (caller.slots, Reply::True)
-        }
-        Decision::Answer(reply) => (caller.slots, reply),
-    }
-}` },
-    { name: "lazy_change_within", first: 86, steps: [{"line": 101, "rows": [1], "begins": true, "answers": false}, {"line": 104, "rows": [4]}, {"line": 105, "rows": [5]}, {"line": 109, "rows": [13], "begins": false, "answers": true}, {"line": 110, "rows": [14], "begins": false, "answers": true}, {"line": 114, "rows": [13], "begins": false, "answers": false}, {"line": 115, "rows": [14], "begins": false, "answers": false}, {"line": 116, "rows": [1], "begins": false, "answers": false}], calls: [[103, "walk"], [106, "validate"], [108, "act"]], text: `
-/// Makes a whole \`add\` or \`remove\` on a LazyList: it walks to its place without a lock, locks the two nodes there, looks
-/// whether they are still neighbours in the list, and acts, or gives them back and starts over. (Herlihy and Shavit's lazy
-/// list, after Heller and others.) \`None\` where a loop of it has made \`N::MOST\` rounds.
-pub fn lazy_change_within<P: Pause, N: Rounds>(
-    table: &Words<LazyList>,
-    place: &mut TableSeat,
-    slots: OwnSlots,
-    call: Call,
-    pause: &P,
-) -> Option<(OwnSlots, Reply)>
-    requires may { MayCall lazy table.now.table_id table.now.key slots place.old }
-    requires changes { first_row call ≡ 1 }
-    ensures { IfSome result (λ r. HasCalled lazy call place.old r place.new) }
-{
-    let caller = Caller::new(table, place, slots, call, pause);
-    let mut link = caller.begin_at_head(place); // row 1
-    for round in 0..N::MOST {
-        let found = walk::<P, N>(&caller, place, Node::behind(link))?;
-        caller.lock::<N>(place, found.pred)?; // row 4
-        caller.lock::<N>(place, found.curr)?; // row 5
-        match validate(&caller, place, found) {
-            Some(succ) => {
-                let answer = act(&caller, place, found, succ);
-                caller.unlock(place, found.curr); // row 13
-                caller.unlock_last(place, found.pred); // row 14
-                return Some(answer);
-            }
-            None => {
-                caller.unlock(place, found.curr); // row 13
-                caller.unlock(place, found.pred); // row 14
-                link = caller.load_link(place, Node::head()); // row 1
-            }
-        }
-    }
-    None
-}` },
-  ],
-  "crates/lset_loops/src/reads.rt": [
-    { name: "contains_on", first: 42, steps: [{"line": 59, "rows": [20], "begins": true, "answers": false}, {"line": 61, "rows": [21]}, {"line": 67, "rows": [22]}, {"line": 70, "rows": [20], "begins": false, "answers": false}], calls: [], text: `
-/// Makes a whole \`contains\` of \`key\`: it goes on to the first key that is not below its own, and asks for the mark of a node
-/// that has it. (Herlihy and Shavit's wait-free \`contains\`.)
-///
-/// \`place\` is the place of an idle seat of these words, and \`slots\` are those of its thread. The answer is the slots and the
-/// reply. \`pause\` is asked after each step that does not answer. It waits for nobody, and returns.
-pub fn contains_on<M: ReadsByRows, P: Pause>(
-    table: &Words<M>,
-    place: &mut TableSeat,
-    slots: OwnSlots,
-    key: Key,
-    pause: &P,
-) -> (OwnSlots, Reply)
-    requires { MayCall M.table table.now.table_id table.now.key slots place.old }
-    ensures { HasCalled M.table (Contains key) place.old result place.new }
-{
-    let caller = Caller::new(table, place, slots, Call::Contains(key), pause);
-    let target = caller.key;
-    let mut curr = Node::behind(caller.begin_at_head(place)); // row 20
-    loop {
-        let word = caller.look_at_key(place, curr); // row 21
-        if word > target {
-            return (caller.slots, Reply::False);
-        }
-        caller.goes_on();
-        if word == target {
-            let mark = caller.look_at_link(place, curr); // row 22
-            return (caller.slots, reply_by_mark(mark));
-        }
-        let link = caller.look_at_link(place, curr); // row 20
-        caller.goes_on();
-        curr = Node::behind(link);
-    }
-}` },
-  ],
-  "crates/lset_loops/src/lock_free.rt": [
-    { name: "find", first: 16, steps: [{"line": 30, "rows": [2]}, {"line": 33, "rows": [3]}, {"line": 39, "rows": [1], "begins": false, "answers": false}, {"line": 42, "rows": [4]}], calls: [], text: `
-/// Walks from the head, whose link led to \`first\`, to the first key that is not below that of the call, and takes marked
-/// nodes out on its way (Herlihy and Shavit's \`find\`).
-fn find<P: Pause, N: Rounds>(
-    caller: &Caller<LockFreeList, P>,
-    place: &mut TableSeat,
-    first: Node,
-) -> Option<Found>
-    requires { AtLink caller.now.origin caller.now.slots 0 first.number place.old }
-    ensures { IfSome result (λ f. StopsAt caller.now.origin caller.now.slots f place.new) }
-{
-    let key = caller.key;
-    let mut pred = Node::head();
-    let mut curr = first;
-    for round in 0..N::MOST {
-        let link = caller.load_link(place, curr); // row 2
-        let succ = Node::behind(link);
-        if link % 2 != 0 {
-            if caller.exchange(place, pred, Link::To(curr), Link::To(succ)) { // row 3
-                caller.goes_on();
-                curr = succ;
-                continue;
-            }
-            pred = Node::head();
-            curr = Node::behind(caller.load_link(place, pred)); // row 1
-            continue;
-        }
-        let word = caller.look_at_key(place, curr); // row 4
-        if word >= key {
-            return Some(Found { pred, curr, word });
-        }
-        caller.goes_on();
-        pred = curr;
-        curr = succ;
-    }
-    None
-}` },
-    { name: "attempt", first: 53, steps: [{"line": 65, "rows": [5, 6]}, {"line": 66, "rows": [7]}, {"line": 73, "rows": [8]}, {"line": 74, "rows": [9]}, {"line": 78, "rows": [10]}], calls: [], text: `
-/// Does what the call does at the key that was found. \`None\` where a link was another by then.
-fn attempt<P: Pause>(
-    caller: &Caller<LockFreeList, P>,
-    place: &mut TableSeat,
-    found: Found,
-) -> Option<(OwnSlots, Reply)>
-    requires { StopsAt caller.now.origin caller.now.slots found place.old }
-    ensures { HasTried caller.now.origin caller.now.slots result place.new }
-{
-    match decide(caller.call, found.word, caller.slots) {
-        Decision::PutIn => {
-            caller.goes_on();
-            let node = caller.fill_slot(place, found.curr); // rows 5, 6
-            if !caller.exchange(place, found.pred, Link::To(found.curr), Link::To(node)) { // row 7
-                return None;
-            }
-            Some((one_more(caller.slots), Reply::True))
-        }
-        Decision::TakeOut => {
-            caller.goes_on();
-            let succ = Node::behind(caller.load_link(place, found.curr)); // row 8
-            if !caller.exchange(place, found.curr, Link::To(succ), Link::Marked(succ)) { // row 9
-                return None;
-            }
-            caller.goes_on();
-            caller.exchange_last(place, found.pred, Link::To(found.curr), Link::To(succ)); // row 10
-            Some((caller.slots, Reply::True))
-        }
-        Decision::Answer(reply) => Some((caller.slots, reply)),
-    }
-}` },
-    { name: "lock_free_change_within", first: 85, steps: [{"line": 100, "rows": [1], "begins": true, "answers": false}, {"line": 105, "rows": [1], "begins": false, "answers": false}], calls: [[102, "find"], [103, "attempt"]], text: `
-/// Makes a whole \`add\` or \`remove\` on a LockFreeList: it walks to its place, and puts its next slot in there, or marks the
-/// node and tries once to take it out; or starts over where a link has changed. (Herlihy and Shavit's lock-free list.)
-/// \`None\` where a loop of it has made \`N::MOST\` rounds.
-pub fn lock_free_change_within<P: Pause, N: Rounds>(
-    table: &Words<LockFreeList>,
-    place: &mut TableSeat,
-    slots: OwnSlots,
-    call: Call,
-    pause: &P,
-) -> Option<(OwnSlots, Reply)>
-    requires may { MayCall lock_free table.now.table_id table.now.key slots place.old }
-    requires changes { first_row call ≡ 1 }
-    ensures { IfSome result (λ r. HasCalled lock_free call place.old r place.new) }
-{
-    let caller = Caller::new(table, place, slots, call, pause);
-    let mut link = caller.begin_at_head(place); // row 1
-    for round in 0..N::MOST {
-        let found = find::<P, N>(&caller, place, Node::behind(link))?;
-        match attempt(&caller, place, found) {
-            Some(answer) => return Some(answer),
-            None => link = caller.load_link(place, Node::head()), // row 1
-        }
-    }
-    None
-}` },
-  ],
-};
-
-const CODE_OF = {
-  "coarse": ["crates/lset_loops/src/coarse.rt"],
-  "fine": ["crates/lset_loops/src/fine.rt"],
-  "optimistic": ["crates/lset_loops/src/optimistic.rt"],
-  "lazy": ["crates/lset_loops/src/lazy.rt", "crates/lset_loops/src/reads.rt"],
-  "lock-free": ["crates/lset_loops/src/lock_free.rt", "crates/lset_loops/src/reads.rt"],
-};
-return { CODE, CODE_OF };
-})();
-
-// draw/listing.js
-const $draw_listing = (() => {
-const { CODE, CODE_OF } = $made_code;
-const { LISTS } = $made_rows;
-const { callText, chipOf, escaped, tag } = $run_markup;
-function stepsAt(functions, row) {
-  return functions.flatMap((code) => code.steps.filter(({ rows }) => rows.includes(row)).map((step) => ({ code, ...step })));
-}
-
-function codeOf(kind, { operation }) {
-  const { rows } = LISTS[kind].calls[operation];
-  const file = CODE_OF[kind].find((name) => rows.every((row) => stepsAt(CODE[name], row).length > 0));
-  return file === undefined ? null : { file, functions: CODE[file] };
-}
-
-function stepOf(functions, held) {
-  let found = stepsAt(functions, held.pc);
-  const came = stepsAt(functions, held.came).map(({ code }) => code.name);
-  const tests = [
-    ({ begins = false }) => begins === (held.came === 0),
-    ({ answers = false }) => answers === (held.reply !== "none"),
-    ({ code }) => came.includes(code.name),
-    ({ code }) => code.calls.some(([, name]) => came.includes(name)),
-  ];
-  for (const test of tests) if (found.length > 1 && found.some(test)) found = found.filter(test);
-  return found[0];
-}
-
-function callersOf(functions, name) {
-  const calls = functions.flatMap((code) => code.calls.map(([line, called]) => ({ line, called, name: code.name })));
-  const direct = calls.filter(({ called }) => called === name);
-  return [...direct.map(({ line }) => line), ...direct.flatMap((caller) => callersOf(functions, caller.name))];
-}
-
-const rowText = (kind, number) => {
-  const { step, then, book } = LISTS[kind].rows[number];
-  return `row ${number}: ${escaped(step)} <span class="then">→ ${escaped(then)}</span> <small>${escaped(book)}</small>`;
-};
-
-function standingText(kind, threads) {
-  const rows = [...new Set(threads.map(({ held }) => held.pc))];
-  const chips = (row) => threads.filter(({ held }) => held.pc === row).map(({ thread }) => chipOf(thread)).join(" ");
-  return rows.map((row) => tag("p", {}, `${chips(row)} ${rowText(kind, row)}`)).join("");
-}
-
-function lineItem(number, text, isSaid, kind, threads) {
-  const here = threads.filter(({ step }) => step.line === number);
-  const inside = threads.filter(({ callers }) => callers.includes(number));
-  const shown = [tag("i", {}, number), tag("code", isSaid ? { class: "said-of-it" } : {}, escaped(text)), standingText(kind, here)];
-  const isOfEvent = here.some(({ isMoved }) => isMoved);
-  if (here.length > 0) return tag("li", { class: isOfEvent ? "here moved" : "here", "aria-current": "step" }, ...shown);
-  return tag("li", inside.length > 0 ? { class: "inside" } : {}, ...shown);
-}
-
-function functionOf(code, kind, threads) {
-  const lines = code.text.trimStart().split("\n");
-  const body = lines.indexOf("{");
-  const items = lines.map((text, index) => lineItem(code.first + index, text, index < body, kind, threads));
-  return tag("ol", { class: "code" }, ...items);
-}
-
-function fileOf(file, functions, kind, threads) {
-  const calls = threads.map(({ thread, held }) => `${chipOf(thread)} ${callText(held.call)}`).join(" ");
-  return tag("section", {}, tag("h3", {}, `${calls} <small>${file}</small>`), ...functions.map((code) => functionOf(code, kind, threads)));
-}
-
-function rowsOf(kind, { thread, held }) {
-  const items = LISTS[kind].calls[held.call.operation].rows.map((number) => {
-    const given = number === held.pc ? { class: "here", "aria-current": "step" } : {};
-    return tag("li", given, rowText(kind, number));
-  });
-  const head = tag("h3", {}, `${chipOf(thread)} ${callText(held.call)} <small>by the interpreter, row by row</small>`);
-  return tag("section", {}, head, tag("ol", { class: "rows" }, ...items));
-}
-
-function drawListing({ trace, state, event }) {
-  const { kind } = trace;
-  const open = state.threads.map((held, thread) => ({ held, thread })).filter(({ held }) => held.pc !== 0);
-  if (open.length === 0) return tag("p", { class: "note" }, "No call is open.");
-  const byFile = new Map();
-  for (const one of open) {
-    const file = codeOf(kind, one.held.call)?.file;
-    byFile.set(file, [...(byFile.get(file) ?? []), one]);
-  }
-  const byRows = (byFile.get(undefined) ?? []).map((one) => rowsOf(kind, one));
-  byFile.delete(undefined);
-  const parts = [...byFile].map(([file, threads]) => {
-    const standing = threads.map(({ held, thread }) => {
-      const step = stepOf(CODE[file], held);
-      return { held, thread, step, callers: callersOf(CODE[file], step.code.name), isMoved: thread === event?.thread };
-    });
-    return fileOf(file, CODE[file], kind, standing);
-  });
-  return tag("div", { class: "listings" }, ...parts, ...byRows);
-}
-return { codeOf, stepOf, drawListing };
-})();
-
-// draw/table.js
-const $draw_table = (() => {
-const { LISTS } = $made_rows;
-const { chipOf, escaped, tag } = $run_markup;
-function drawTable({ trace, state, event, before }) {
-  const made = event === null || event.deed === "begin" ? null : before.pc;
-  const at = new Map();
-  state.threads.forEach((held, thread) => at.set(held.pc, [...(at.get(held.pc) ?? []), thread]));
-  const lines = Object.entries(LISTS[trace.kind].rows).map(([number, row]) => {
-    const here = (at.get(Number(number)) ?? []).map(chipOf).join(" ");
-    const by = made === Number(number) ? ` <small>made by</small> ${chipOf(event.thread)}` : "";
-    const cells = [here, `<b>${number}</b>${by}`, escaped(row.step), escaped(row.then), `<small>${escaped(row.book)}</small>`];
-    return tag("tr", by === "" ? {} : { class: "moved" }, ...cells.map((text) => tag("td", {}, text)));
-  });
-  const heads = ["next", "row", "step", "then", "in the book"].map((text) => tag("th", { scope: "col" }, text));
-  return tag("table", {}, tag("thead", {}, tag("tr", {}, ...heads)), tag("tbody", {}, ...lines));
-}
-return { drawTable };
-})();
-
-// draw/threads.js
-const $draw_threads = (() => {
-const { LISTS } = $made_rows;
-const { callText, chipOf, keyText, tag } = $run_markup;
-const MOST_ROWS = 8; // of more threads only those with an open call are shown at first
-
-function threadsShown(state, event, all) {
-  const every = state.threads.map((_, thread) => thread);
-  if (all || every.length <= MOST_ROWS) return every;
-  return every.filter((thread) => state.threads[thread].pc !== 0 || thread === event?.thread);
-}
-
-function callCell(held, moved, event, hidesReplies) {
-  if (held.pc !== 0) return callText(held.call);
-  if (moved && event.answer !== undefined) return `${callText(held.call)} <b>${hidesReplies ? "…" : event.answer}</b>`;
-  return '<span class="pale">idle</span>';
-}
-
-function rowCell(held, kind) {
-  if (held.pc === 0) return "";
-  const row = LISTS[kind].rows[held.pc];
-  return `<b>${held.pc}</b> ${row ? `${row.step} <small>${row.book}</small>` : ""}`;
-}
-
-const hasRegister = (kind, call, name) => LISTS[kind].calls[call.operation].registers.includes(name);
-
-function registerCell(held, name, moved, event, kind) {
-  if (held.pc === 0 || !hasRegister(kind, held.call, name)) return "";
-  const value = keyText(held[name]);
-  if (moved && event.changes[name] !== undefined) return `<b class="new">${value}</b>`;
-  return held[name] === "head" || held[name] === "-inf" ? `<span class="pale">${value}</span>` : value;
-}
-
-function threadRow(state, thread, event, hidesReplies) {
-  const { kind, quota } = state.trace;
-  const held = state.threads[thread];
-  const moved = event?.thread === thread;
-  const cells = [
-    tag("td", {}, callCell(held, moved, event, hidesReplies)),
-    tag("td", { class: "next" }, rowCell(held, kind)),
-    ...LISTS[kind].registers.map((name) => tag("td", {}, registerCell(held, name, moved, event, kind))),
-    tag("td", {}, held.pc !== 0 && held.reply !== "none" && !hidesReplies ? held.reply : ""),
-    tag("td", {}, `${held.used} of ${quota}`),
-  ];
-  return tag("tr", moved ? { class: "moved" } : {}, tag("th", { scope: "row" }, chipOf(thread)), ...cells);
-}
-
-function drawThreads(state, event, all, hidesReplies = false) {
-  const { registers } = LISTS[state.trace.kind];
-  const heads = ["thread", "call", "next row of the step table", ...registers, "reply", "slots used"];
-  const rows = threadsShown(state, event, all).map((thread) => threadRow(state, thread, event, hidesReplies));
-  if (rows.length === 0) rows.push(`<tr><td colspan="${heads.length}" class="pale">every thread is idle</td></tr>`);
-  const head = tag("tr", {}, ...heads.map((text) => tag("th", { scope: "col" }, text)));
-  return tag("table", {}, tag("thead", {}, head), tag("tbody", {}, ...rows));
-}
-return { MOST_ROWS, drawThreads };
-})();
-
-// page/view.js
-const $page_view = (() => {
-const { LISTS } = $made_rows;
-const { drawContents, drawOrder } = $draw_contents;
-const { glide } = $draw_glide;
-const { drawCalls, heightOfCalls, scaleOf } = $draw_history;
-const { drawList } = $draw_list;
-const { drawListing } = $draw_listing;
-const { arranged, shapeFor } = $draw_places;
-const { forgetRoom, roomOf } = $draw_room;
-const { drawTable } = $draw_table;
-const { drawThreads, MOST_ROWS } = $draw_threads;
-const { colourOf } = $run_markup;
-const { momentAt, sentenceOf } = $run_sentences;
-const { byId, keepHeight, setAble, setHtml } = $page_dom;
-const { hiddenOutcomes, isJudging, now } = $page_now;
-const { slideZoom } = $page_places;
-const LINE_HEIGHT = 21;
-
-function showRun(moment) {
-  const [wide, historyWide] = [byId("list").clientWidth, byId("history").clientWidth];
-  showList(moment, wide);
-  scrollToTouched(wide);
-  showThreads(moment.event);
-  showTable(moment);
-  showListing(moment);
-  if (!isJudging()) showHistory(moment.event, historyWide);
-  scrollToLine(moment.event);
-}
-
-const glided = { trace: null, count: 0, shape: null };
-
-function showList({ state, event }, wide) {
-  const { trace, count } = now.run;
-  if (wide === 0) return; // it is not there: a map is shown, or the history alone
-  const shape = shapeFor(wide);
-  if (glided.shape !== shape) forgetRoom(); // the page is as narrow as a phone now, or no longer
-  const sizeAt = (number) => arranged(state, momentAt(state, number).event, shape);
-  const room = roomOf(trace, sizeAt, arranged(state, event, shape), wide);
-  state.moveTo(count);
-  const isNear = glided.trace === trace && Math.abs(glided.count - count) === 1 && byId("speed").value !== "fast";
-  Object.assign(glided, { trace, count, shape });
-  const draw = () => (byId("list").innerHTML = drawList(state, event, wide, listHeight(), room));
-  glide(byId("list"), draw, isNear);
-  if (event !== null) byId("list").firstElementChild.classList.add(colourOf(event.thread));
-}
-
-function keepHeights() {
-  for (const id of ["said", "order"]) keepHeight(byId(id), now.task.work);
-}
-
-function showBar(moment) {
-  const { trace, count } = now.run;
-  const { total } = trace;
-  const name = `${LISTS[trace.kind].name}${trace.lacks === null ? "" : " without one check"}`;
-  byId("title").textContent = `${name}, ${trace.threads} thread${trace.threads > 1 ? "s" : ""}`;
-  byId("source").textContent = now.run.source;
-  setHtml(byId("said"), sentenceOf(moment, hiddenOutcomes()));
-  const slider = byId("slider");
-  Object.assign(slider, { max: total, value: count });
-  slider.setAttribute("aria-valuetext", `event ${count} of ${total}: ${byId("said").textContent}`);
-  byId("where").textContent = `event ${count} of ${total}`;
-  for (const name of ["first", "back"]) setAble(name, count > 0);
-  for (const name of ["next", "last"]) setAble(name, count < total);
-}
-
-function showThreads(event) {
-  if (!byId("threads-box").open) return;
-  const many = now.run.trace.threads > MOST_ROWS;
-  byId("threads").innerHTML = drawThreads(now.run.state, event, now.prefs.allThreads, hiddenOutcomes().includes("reply"));
-  byId("all-threads").hidden = !many;
-  byId("all-threads").textContent = now.prefs.allThreads ? "show only those with a pending call" : `show all ${now.run.trace.threads}`;
-}
-
-function showTable(moment) {
-  const which = now.run.lacks === null ? "" : "the correct ";
-  byId("table-title").textContent = `Step table of ${which}${LISTS[now.run.trace.kind].name}`;
-  if (byId("table-box").open) byId("table").innerHTML = drawTable(moment);
-}
-
-function showListing(moment) {
-  if (!byId("listing-box").open) return;
-  const box = byId("listing");
-  box.innerHTML = drawListing(moment);
-  const line = box.querySelector(".moved") ?? box.querySelector(".here");
-  if (line === null) return;
-  const y = line.offsetTop - box.offsetTop;
-  if (y < box.scrollTop + 40 || y > box.scrollTop + box.clientHeight - 80) box.scrollTop = y - box.clientHeight / 2;
-}
-
-const drawnHistory = { scale: null }; // that of the history, for who clicks there
-const ALL_LANES = 400; // pixels: a history that is no higher does not scroll
-
-function showHistory(event, wide) {
-  const { trace, count } = now.run;
-  const { hides } = now.prefs;
-  const scale = scaleOf(trace, count, Math.max(300, wide), hides);
-  setHtml(byId("calls"), drawCalls(trace, scale));
-  setHtml(byId("contents"), drawContents(trace, scale));
-  setHtml(byId("order"), drawOrder(trace, count, hides));
-  drawnHistory.scale = scale;
-  const box = byId("calls");
-  if (event === null || scale.height <= ALL_LANES || box.scrollHeight <= box.clientHeight) return;
-  const y = scale.y(event.thread);
-  if (y < box.scrollTop + 20 || y > box.scrollTop + box.clientHeight - 20) box.scrollTop = y - box.clientHeight / 2;
-}
-
-function listHeight() {
-  if (now.place.view === "list" || now.place.view === "history" || innerWidth <= 560) return Infinity;
-  if (now.place.view === "lecture") return slideHeight();
-  const below = byId("bar").clientHeight + heightBelowBar();
-  return Math.max(isJudging() ? 190 : 260, innerHeight - byId("list").getBoundingClientRect().top - scrollY - below);
-}
-
-function heightBelowBar() {
-  if (isJudging()) return byId("judge").offsetHeight + 90;
-  return 142 + callsHeight();
-}
-
-const callsHeight = () => Math.min(ALL_LANES, heightOfCalls(now.run.trace, Math.max(300, byId("history").clientWidth)));
-
-function slideHeight() {
-  const below = isJudging() ? byId("judge").offsetHeight + 16 : 66 + callsHeight();
-  const others = ["task", "said", "bar"].reduce((sum, name) => sum + byId(name).clientHeight, 0);
-  return Math.max(150, innerHeight / slideZoom(innerWidth, innerHeight) - others - below - 54);
-}
-
-function scrollToTouched(wide) {
-  const box = byId("list");
-  const touched = box.querySelector("[data-hot]");
-  const drawn = box.firstElementChild;
-  if (touched === null || Number(drawn.getAttribute("width")) <= wide) return;
-  const x = (touched.x.baseVal.value + touched.width.baseVal.value / 2) * (drawn.clientWidth / drawn.viewBox.baseVal.width);
-  if (x < box.scrollLeft + 60 || x > box.scrollLeft + box.clientWidth - 60) box.scrollLeft = x - box.clientWidth / 2;
-}
-
-const editor = { isSeen: false };
-
-function watchEditor() {
-  /** @param {IntersectionObserverEntry[]} seen */
-  const look = ([{ isIntersecting }]) => {
-    editor.isSeen = isIntersecting;
-    if (!isIntersecting || now.run.trace === null) return;
-    scrollToLine(now.run.count > 0 ? now.run.trace.event(now.run.count) : null);
-    showMarks();
-  };
-  new IntersectionObserver(look).observe(byId("editor"));
-}
-
-function scrollToLine(event) {
-  const box = byId("schedule");
-  if (!editor.isSeen || event === null || document.activeElement === box || box.value !== now.run.text) return;
-  const y = LINE_HEIGHT * (event.line - 1);
-  if (y < box.scrollTop || y > box.scrollTop + box.clientHeight - 2 * LINE_HEIGHT) box.scrollTop = y - box.clientHeight / 2;
-}
-
-function showMarks() {
-  const box = byId("schedule");
-  const isStale = box.value !== now.run.text;
-  const top = editor.isSeen ? box.scrollTop : 0;
-  const mark = (line, kind) => `<div class="${kind}" style="top:${6 + LINE_HEIGHT * (line - 1) - top}px"></div>`;
-  const event = now.run.count > 0 ? now.run.trace.event(now.run.count) : null;
-  const lines = [];
-  if (event !== null && now.run.isRun) lines.push(mark(event.line, "event"));
-  if (now.run.faultLine !== null) lines.push(mark(now.run.faultLine, "bad"));
-  byId("marks").innerHTML = isStale ? "" : lines.join("");
-  byId("run").classList.toggle("stale", isStale);
-  byId("run").textContent = isStale ? "Run the changes" : "Run";
-}
-return { showRun, keepHeights, showBar, drawnHistory, watchEditor, showMarks };
-})();
-
 // page/example.js
 const $page_example = (() => {
 const { EXAMPLES, TRACES } = $made_traces;
 const { readExamples } = $engine_answers;
 const { Trace } = $run_trace;
+const { showMarks } = $page_editor;
 const { askNow, change, held, takeScheduleOfTrace, takeTrace } = $page_now;
-const { showMarks } = $page_view;
 const KEPT_BESIDE = "a trace that is kept beside the page";
 const known = { examples: null };
 
@@ -6711,6 +6690,101 @@ function openKept(name, count) {
   showMarks();
 }
 return { examples, isExample, exampleText, openKept };
+})();
+
+// page/kept.js
+const $page_kept = (() => {
+const { BOOK_NAME } = $made_book;
+const { CLASSICS } = $made_classics;
+const { byId } = $page_dom;
+const { announce, held, now } = $page_now;
+const KEPT = "listset-page-2";
+const KEPT_BEFORE = "listset-page"; // one text, as the page kept it before
+const HERE = "listset-here"; // the address of what was shown last
+const MOST_WORKS = 60; // the oldest ones go
+
+function keptUnder(name) {
+  try {
+    return JSON.parse(localStorage.getItem(name));
+  } catch {
+    return null;
+  }
+}
+
+function keepUnder(name, value) {
+  try {
+    localStorage.setItem(name, JSON.stringify(value));
+    return true;
+  } catch {
+    return false;
+  }
+}
+
+const isText = (value) => typeof value === "string";
+const isWork = (kept) => typeof kept?.text === "string" && typeof kept.box === "string" && Number.isInteger(kept.count);
+const KINDS = ["own", "example", "lesson", "seed"];
+const isTask = (task) => KINDS.includes(task?.kind) && isText(task.id) && isText(task.course);
+
+function taskOfName(name) {
+  const [, lesson, course = BOOK_NAME] = /^lesson ([a-z0-9-]+)(?: of (.+?))?(?: \d+)?$/.exec(name) ?? [];
+  if (lesson !== undefined) return { kind: "lesson", id: lesson, course };
+  const [, example] = /^from ([a-z-]+)(?: \d+)?$/.exec(name) ?? [];
+  if (Object.hasOwn(CLASSICS, example)) return { kind: "example", id: example, course: "" };
+  return { kind: "own", id: "", course: "" };
+}
+
+/** @type {(entry: any[]) => [string, any]} */
+const workOf = ([name, kept]) => [name, { ...kept, task: isTask(kept.task) ? kept.task : taskOfName(name) }];
+
+const works = {
+  /** @type {Map<string, any>} */
+  byName: new Map(),
+  isKept: true,
+
+  load() {
+    const kept = keptUnder(KEPT);
+    const before = keptUnder(KEPT_BEFORE);
+    const entries = Array.isArray(kept) ? kept : isWork(before) ? [["my schedule", before]] : [];
+    const isGood = (entry) => Array.isArray(entry) && isText(entry[0]) && isWork(entry[1]);
+    this.byName = new Map(entries.filter(isGood).map(workOf));
+  },
+
+  set(name, work) {
+    this.byName.delete(name);
+    this.byName.set(name, work);
+    const names = [...this.byName.keys()];
+    for (const old of names.slice(0, Math.max(0, names.length - MOST_WORKS))) this.byName.delete(old);
+    this.isKept = keepUnder(KEPT, [...this.byName]);
+  },
+
+  last(isWanted) {
+    return [...this.byName].findLast(([, work]) => isWanted(work))?.[0] ?? null;
+  },
+
+  nameOf(text, lacks = null) {
+    return this.last((work) => work.text === text && (work.lacks ?? null) === lacks);
+  },
+
+  newName(word) {
+    for (let number = 1; ; number++) {
+      const name = number === 1 ? word : `${word} ${number}`;
+      if (!this.byName.has(name)) return name;
+    }
+  },
+};
+
+function keepWork() {
+  const box = byId("schedule").value;
+  const { run, task } = now;
+  const isLookedAt = box === run.text && run.text === task.begun;
+  if (held.engine === null || run.text === "" || isLookedAt || task.work === "") return;
+  const before = works.byName.get(task.work);
+  if (before?.text === run.text && before.box === box && before.count === run.count) return;
+  const { kind, id } = task;
+  works.set(task.work, { text: run.text, box, count: run.count, lacks: run.lacks, task: { kind, id, course: "" } });
+  announce("kept");
+}
+return { HERE, keptUnder, keepUnder, isText, works, keepWork };
 })();
 
 // page/run_text.js
@@ -6747,19 +6821,17 @@ return { runText };
 
 // page/work.js
 const $page_work = (() => {
-const { forgetRoom } = $draw_room;
 const { scheduleOfDraft } = $run_draft;
 const { withOpening } = $run_schedule_text;
 const { eventsInCommon } = $run_trace;
 const { byId } = $page_dom;
+const { showMarks } = $page_editor;
 const { exampleText } = $page_example;
 const { keepWork, works } = $page_kept;
 const { askNow, change, now, tellLine } = $page_now;
 const { runText } = $page_run_text;
-const { showMarks } = $page_view;
 function beginTask(task, lacks = null) {
   keepWork();
-  forgetRoom();
   change("task", { task, lacks });
 }
 
@@ -6944,6 +7016,441 @@ function refreshReport() {
 return { saveText, comparedTrace, openFile, refreshReport };
 })();
 
+// run/seed.js
+const $run_seed = (() => {
+const { AddressFault } = $run_address;
+const { isTrace, Trace } = $run_trace;
+const KINDS = ["coarse", "fine", "optimistic", "lazy", "lock-free"];
+const TRIES = 200;
+const MOST_TRIED_CALLS = 8; // of a run with more calls the first is taken
+const MOST_SEEN = 60; // events that are told apart by eye
+
+const seedOf = (kind, number, { threads = 2, calls = 5, keys = 2 } = {}) => `${kind}.${threads}.${calls}.${keys}.${number}`;
+
+function partsOfSeed(seed) {
+  const [kind, ...values] = seed.split(".");
+  const [threads, calls, keys, number] = values.map(Number);
+  return { kind, threads, calls, keys, number };
+}
+
+function scheduleOfSeed(ask, seed) {
+  const { kind, threads, calls, keys, number } = partsOfSeed(seed);
+  const tries = calls > MOST_TRIED_CALLS ? 1 : TRIES;
+  let text = "";
+  for (let tried = 0; tried < tries; tried++) {
+    const answer = ask("listset_gen", [kind, threads, 4, calls, keys, number * TRIES + tried].join("\0"));
+    if (answer.status !== 0) throw new AddressFault(`the address names no run: ${answer.text.trim()}`);
+    text = answer.text;
+    const traced = ask("listset_trace", text).text;
+    if (!isTrace(traced)) throw new AddressFault(`the run of the address has no trace: ${traced.trim()}`);
+    if (isWorthIt(new Trace(traced))) break;
+  }
+  return joined(text);
+}
+
+function isWorthIt({ calls, changes, total }) {
+  const puts = changes.some(({ put }) => put !== undefined) && changes.some(({ took }) => took !== undefined);
+  const isBeside = (one, other) => one.thread !== other.thread && one.begun < other.ended && other.begun < one.ended;
+  const beside = calls.filter((one) => calls.some((other) => isBeside(one, other)));
+  const isTold = beside.some(({ changes: own, operation, reply }) => !own && (operation === "contains" || reply === "false"));
+  return puts && isTold && total <= MOST_SEEN && calls.every(({ ended }) => ended !== null);
+}
+
+function joined(text) {
+  const lines = [];
+  for (const line of text.trimEnd().split("\n")) {
+    const [thread, steps] = /^go (\d+) (\d+)$/.exec(line)?.slice(1) ?? [];
+    const [before, count] = /^go (\d+) (\d+)$/.exec(lines.at(-1) ?? "")?.slice(1) ?? [];
+    if (thread !== undefined && thread === before) lines[lines.length - 1] = `go ${thread} ${Number(count) + Number(steps)}`;
+    else lines.push(line);
+  }
+  return `${lines.join("\n")}\n`;
+}
+
+function anotherSeed(before, kind = null) {
+  const list = kind ?? KINDS[Math.floor(Math.random() * KINDS.length)];
+  const number = 1 + Math.floor(Math.random() * 9999);
+  const seed = seedOf(list, number);
+  return seed === before ? seedOf(list, (number % 9999) + 1) : seed;
+}
+return { seedOf, partsOfSeed, scheduleOfSeed, anotherSeed };
+})();
+
+// data/levels.js
+const $data_levels = (() => {
+const BREAK_LEVELS = {
+  lock: {
+    story: "One thread at a time, they say. Let two of them meet.",
+    hints: [
+      "Two adds of different keys, both between 3 and 7.",
+      "Let both threads walk to the same place: pred is the node of 3, curr that of 7.",
+      "Stop A just before it writes pred.next. Let B do its whole add. Then let A end.",
+    ],
+    lacks: "It continues although another thread holds the lock.",
+    others: {
+      "It releases the lock before it writes the link.": "it releases the lock only after that",
+      "It writes the link of pred before that of its own node.": "it writes the link of its own node first",
+    },
+    start: [["add", 5], ["add", 4]], shortest: [20, 2],
+    missing: [{ row: 1, part: "lock the list" }],
+  },
+  "mark-in-remove": {
+    story: "Two threads remove one key. One of them should answer that it came too late.",
+    hints: [
+      "Two removes of the same key, 3.",
+      "Let both threads find the node of 3 before either of them marks it.",
+      "Stop A before the step that sets the mark; let B set its own; then let both end.",
+    ],
+    lacks: "A remove marks a node that is marked already.",
+    others: {
+      "A remove takes its node out before it marks it.": "it marks the node first",
+      "A remove does not look whether its key is there.": "it compares curr.key with its key",
+    },
+    start: [["remove", 3], ["remove", 3]], shortest: [14, 2],
+    missing: [{ row: 9, part: "no mark" }],
+  },
+  mark: {
+    story: "Removing a node is one compare-and-set here. Fast. Too fast?",
+    hints: [
+      "An add of 5, and a remove of the node in front of it.",
+      "The pred of the add must be the node of 3, which the other thread removes.",
+      "Stop A before the step that links 5 in. Let B remove 3. Then one step of A.",
+    ],
+    lacks: "A remove unlinks its node without marking it first.",
+    others: {
+      "A remove marks a node that is marked already.": "it marks no node at all",
+      "An add writes its link without comparing.": "it compares with what it saw",
+    },
+    start: [["add", 5], ["remove", 3]], shortest: [15, 2],
+    missing: [{ row: 9, part: "CAS curr.next: succ, no mark → mark" }],
+  },
+  "new-slot": {
+    story: "Each key that is added needs a node of its own. Does it get one?",
+    hints: ["One thread is enough. It adds.", "Two adds of different keys, one after the other.", "Let A add 4, and then 5. Where is 4?"],
+    lacks: "An add writes into the node of its last key.",
+    others: {
+      "An add does not look whether its key is there.": "it compares curr.key with its key",
+      "An add writes its link without comparing.": "it compares with what it saw",
+    },
+    start: [["add", 4], ["add", 5]], shortest: [20, 2],
+    missing: [{ row: 5, part: "new " }],
+  },
+  "second-lock": {
+    story: "Hand over hand, the book says: two locks at a time. Here one hand stays in the pocket.",
+    hints: [
+      "An add of 5 beside a remove of 3, its neighbour.",
+      "The add must hold the lock of 3 while the other thread removes that node.",
+      "Let B step through its add until just before it writes pred.next, with 3 as its pred. Then try a remove of 3 by A.",
+    ],
+    lacks: "A remove locks only pred, and not the node that it unlinks.",
+    others: {
+      "A remove does not lock pred.": "it locks pred, and keeps that lock until it has written",
+      "A remove releases its lock before it writes.": "it releases its lock only after that",
+    },
+    start: [["remove", 3], ["add", 5]], shortest: [21, 2],
+    missing: [{ row: 3, part: "lock curr," }],
+  },
+  "hand-over-hand": {
+    story: "A walk should never be without a lock, not for one moment.",
+    hints: [
+      "An add of 5 beside a remove of 3, its neighbour.",
+      "There is a moment in which the walk of the add holds no lock. Find it.",
+      "Stop B on its way from the node of 3 to that of 7. Let A remove 3. Then let B end.",
+    ],
+    lacks: "A walk releases one lock before it has the next.",
+    others: {
+      "It releases its locks before it writes.": "it releases them only after that",
+      "A walk does not lock the head.": "it locks the head first of all",
+    },
+    start: [["remove", 3], ["add", 5]], shortest: [24, 2],
+    missing: [{ row: 3, part: "pred still locked" }],
+  },
+  "second-walk": {
+    story: "It locks two nodes, and looks again. But what does it look at?",
+    hints: [
+      "An add of 5 beside a remove of 3, its neighbour.",
+      "The node that the add has found as pred may be unlinked before it is locked.",
+      "Stop A before it locks pred, which is the node of 3. Let B remove 3. Then let A end.",
+    ],
+    lacks: "With the locks it does not walk again: pred may not be in the list any more.",
+    others: {
+      "It does not lock curr.": "it locks pred and curr",
+      "It does not look whether pred still leads to curr.": "it looks at that, with both locks",
+    },
+    start: [["add", 5], ["remove", 3]], shortest: [23, 2],
+    missing: [{ row: 6, part: "walk from the head again" }, { row: 7, part: "until pred is met, else not valid" }],
+  },
+  "marks-in-validation": {
+    story: "Marks are set here. Does everybody read them?",
+    hints: [
+      "An add of 5 beside a remove of 3, its neighbour.",
+      "The node that the add has found as pred may be removed before it is locked.",
+      "Stop A before it locks pred, which is the node of 3. Let B remove 3. Then let A end.",
+    ],
+    lacks: "The validation does not look at the marks.",
+    others: {
+      "The validation does not look whether pred still leads to curr.": "it looks at that, with both locks",
+      "A remove does not mark its node.": "it marks the node before it unlinks it",
+    },
+    start: [["add", 5], ["remove", 3]], shortest: [25, 2],
+    missing: [{ row: 6, part: "pred unmarked," }, { row: 7, part: "and curr unmarked" }],
+  },
+  "mark-in-add": {
+    story: "A marked link must not change. Somebody changes it all the same.",
+    hints: [
+      "An add of 5, and a remove of the node in front of it.",
+      "The remove must have marked the node of 3, and done no more.",
+      "Stop A before its last step. Let B remove 3 until it has set the mark. Then let A end.",
+    ],
+    lacks: "An add inserts its node behind a marked one.",
+    others: {
+      "A remove does not mark its node.": "it marks the node before it unlinks it",
+      "An add does not look whether its key is there.": "it compares curr.key with its key",
+    },
+    start: [["add", 5], ["remove", 3]], shortest: [17, 2],
+    missing: [{ row: 7, part: "no mark" }],
+  },
+  "same-node": {
+    story: "The second walk looks for pred. It meets something that looks like it.",
+    hints: [
+      "Three calls: an add of 5, and of the other thread a remove and an add of one key.",
+      "The node of 3 is unlinked, and another node of 3 is inserted.",
+      "Stop A before it locks pred, the old node of 3. Let B remove 3 and add 3 again. Then let A end.",
+    ],
+    lacks: "The second walk looks for the key of pred, and not for the node itself.",
+    others: {
+      "It does not walk a second time.": "it walks from the head again, with its locks",
+      "It does not lock pred.": "it locks pred and curr",
+    },
+    start: [["add", 5], ["remove", 3]], shortest: [36, 3],
+    missing: [{ row: 7, part: "pred is met" }],
+  },
+  "mark-at-key": {
+    story: "A marked node can stay in the chain for a while. Who reads it there?",
+    hints: [
+      "Three calls: an add of 5, a remove of 7, and then a contains of 7.",
+      "A remove whose last compare-and-set fails leaves its node in the chain, marked.",
+      "Stop A before it links 5 in. Let B remove 7 up to its last step. Link 5 in, let B end. Then call contains(7).",
+    ],
+    lacks: "A contains does not look at the mark of the node with its key.",
+    others: {
+      "A remove does not mark its node.": "it marks the node before it unlinks it",
+      "A contains stops before it comes to its key.": "it walks on while curr.key is below its key",
+    },
+    start: [["add", 5], ["remove", 7]], shortest: [26, 3],
+    missing: [{ row: 22, part: "and unmarked" }],
+  },
+  "mark-in-ceiling": {
+    story: "ceiling(2) asks for the smallest key from 2 on. It takes the first node that it finds. Any node?",
+    hints: [
+      "A remove of 3, and a ceiling of 2. Let something end in between.",
+      "The remove has marked the node of 3 and has not ended. A contains of 3 answers false. And then the ceiling?",
+      "Stop A after it set the mark. Let B call contains(3), and then ceiling(2).",
+    ],
+    lacks: "A ceiling does not look at the mark of its node.",
+    others: {
+      "A ceiling stops before it comes to its key.": "it walks on while curr.key is below its key",
+      "A remove does not mark its node.": "it marks the node before it unlinks it",
+    },
+    start: [["remove", 3], ["contains", 3]], shortest: [16, 3],
+    missing: [{ row: 25, part: "if marked: start again;" }],
+  },
+  "mark-in-contains": {
+    story: "Here contains does not look at the mark. No schedule is known after which no order explains the calls. Why not?",
+    hints: [
+      "A remove of 3, and a contains of 3 by the other thread.",
+      "The remove has set its mark and is still pending. So it may come after the contains.",
+      "When the remove has ended, can a new contains still reach its node? In this list a remove ends after the node is unlinked.",
+    ],
+    lacks: "A contains does not look at the mark of its node.",
+    others: {},
+    start: [["remove", 3], ["contains", 3]], shortest: null,
+    missing: [{ row: 22, part: "and unmarked" }],
+  },
+};
+return { BREAK_LEVELS };
+})();
+
+// data/chapter.js
+const $data_chapter = (() => {
+const { BREAK_LEVELS } = $data_levels;
+const CHAPTER = [
+  "lock", "second-lock", "hand-over-hand", "second-walk", "same-node", "marks-in-validation", "mark-in-remove", "mark", "mark-in-add",
+  "mark-at-key",
+];
+const BEYOND = ["new-slot", "mark-in-ceiling", "mark-in-contains"];
+
+const NUMBERED = Object.keys(BREAK_LEVELS);
+const numberOfLevel = (name) => NUMBERED.indexOf(name) + 1;
+const levelOfNumber = (number) => NUMBERED[Number(number) - 1];
+
+const whyWrong = (name, sentence) => `No: ${BREAK_LEVELS[name].others[sentence]}. Look for the line that this list makes differently.`;
+return { CHAPTER, BEYOND, numberOfLevel, levelOfNumber, whyWrong };
+})();
+
+// page/scene_address.js
+const $page_scene_address = (() => {
+const { levelOfNumber } = $data_chapter;
+const { AddressFault, addressOf, LONGEST_ADDRESS, longLine } = $run_address;
+const { startOfLacking } = $run_broken;
+const { eventsAsked } = $run_schedule_text;
+const SCENES = ["assignment", "story", "ask", "code", "teachers"]; // run/address.js reads the others, with their schedules
+const SCENE_VIEWS = ["lecture", "embed"];
+
+function sceneOfHash(hash) {
+  const { view = null, ...parts } = Object.fromEntries(new URLSearchParams(hash.replace(/^#/, "")));
+  const activity = SCENES.find((name) => name in parts);
+  if (activity === undefined) return null;
+  if (view !== null && !SCENE_VIEWS.includes(view)) throw new AddressFault(`"${view.slice(0, 60)}" is no view of a page`);
+  const { [activity]: id, ...given } = parts;
+  return { activity, id, given, view };
+}
+
+const START_OF_CODE = [3, 7];
+const shortLine = (line) => `${line[0]}${line.split(" ").slice(1).join(".")}`;
+const linesOfCode = (s) => s.split(",").filter((line) => /^(b\d+\.[a-z]+\.\d+|g\d+\.\d+)$/.test(line)).map(longLine);
+
+const SET_OF_CODE = { threads: 2, quota: 9 };
+
+function addressOfCode(list, opening, lines, set = SET_OF_CODE) {
+  const ofOpening = opening.join() === START_OF_CODE.join() && lines.length === 0 ? "" : `&opening=${opening.join(".")}`;
+  const ofSet = ["threads", "quota"].map((name) => (set[name] === SET_OF_CODE[name] ? "" : `&${name}=${set[name]}`)).join("");
+  return `#code=${list}${ofSet}${ofOpening}${lines.length > 0 ? `&s=${lines.map(shortLine).join()}` : ""}`;
+}
+
+function addressOfLevel({ id }, { text }) {
+  const name = levelOfNumber(id);
+  if (id === "" || text === "" || text === startOfLacking(name)) return id === "" ? "#break" : `#break=${id}`;
+  return `#break=${id}&${addressOf(text, eventsAsked(text))?.slice(1) ?? ""}`;
+}
+
+function addressOfLesson({ id }, { text }, { course }) {
+  const named = `${course === null ? "#" : `${course}&`}learn${id === "" ? "" : `=${id}`}`;
+  const own = text === "" ? null : addressOf(text, eventsAsked(text));
+  const whole = own === null ? named : `${named}&${own.slice(1)}`;
+  return whole.length <= LONGEST_ADDRESS ? whole : named;
+}
+
+const addressOfAssignment = ({ id, given }) => `#${new URLSearchParams({ assignment: id, ...given })}`.replaceAll("%2C", ",");
+
+const plainAddress = ({ activity, id }) => `#${activity}${id === "" ? "" : `=${id}`}`;
+
+const ADDRESSES = {
+  code: ({ id, given }, { text }) => text || `#${new URLSearchParams({ code: id, ...given })}`,
+  compare: (place, { text }) => text || plainAddress(place),
+  break: addressOfLevel,
+  learn: addressOfLesson,
+  assignment: addressOfAssignment,
+};
+
+const addressOfScene = ({ place, scene }, given) =>
+  `${(ADDRESSES[place.activity] ?? plainAddress)(place, scene, given)}${place.view === null ? "" : `&view=${place.view}`}`;
+return { sceneOfHash, START_OF_CODE, linesOfCode, SET_OF_CODE, addressOfCode, addressOfAssignment, addressOfScene };
+})();
+
+// page/address_of.js
+const $page_address_of = (() => {
+const { CLASSICS } = $made_classics;
+const { LISTS } = $made_rows;
+const { addressOf } = $run_address;
+const { inLetters } = $run_markup;
+const { partsOfSeed } = $run_seed;
+const { addressOfScene } = $page_scene_address;
+function ofRun(state) {
+  const { task, run } = state;
+  if (task.kind === "own") return addressOf(run.text, run.count, run.lacks);
+  return `#${task.kind}=${task.id}&event=${run.count}`;
+}
+
+function addressIn(state, given) {
+  const { place, exercise } = state;
+  if (place.screen === "scene") return addressOfScene(state, given);
+  const view = place.view === null ? "" : `&view=${place.view}`;
+  const address = ofRun(state);
+  return address === null ? null : `${address}${exercise === null ? "" : "&judge"}${view}`;
+}
+
+const WHOLE = "Why not just one lock?";
+
+function titleIn(state, titleOfScene) {
+  const { place, task, run } = state;
+  const list = run.trace === null ? "" : LISTS[run.trace.kind].name;
+  if (place.screen === "scene") return titleOfScene(place);
+  const judged = state.exercise === null ? "" : "Judge: ";
+  const ofTask = {
+    example: () => `${judged}${inLetters(CLASSICS[task.id].question)}`,
+    seed: () => `${judged}Run ${partsOfSeed(task.id).number} of ${list}`,
+    own: () => `${judged}${task.work}: ${list}`,
+  };
+  return `${ofTask[task.kind]()} · ${WHOLE}`;
+}
+return { addressIn, titleIn };
+})();
+
+// page/visit.js
+const $page_visit = (() => {
+const { warningOf } = $run_address;
+const { escaped } = $run_markup;
+const { addressIn } = $page_address_of;
+const { HERE, keepUnder, keepWork } = $page_kept;
+const { held, now, tell } = $page_now;
+const { entryOf } = $page_state;
+const MOMENT = 400; // milliseconds: the bar follows once nothing has moved for so long, since browsers refuse quick changes of it
+const visit = { timer: 0, entry: null, isRead: false, course: null };
+
+const addressHere = () => addressIn(held.state, visit);
+
+function keepSoon() {
+  clearTimeout(visit.timer);
+  visit.timer = setTimeout(keepNow, MOMENT);
+}
+
+function keepNow() {
+  clearTimeout(visit.timer);
+  keepWork();
+  if (visit.isRead) setAddress();
+}
+
+function setAddress() {
+  const address = addressHere();
+  const entry = entryOf(held.state);
+  const isNew = visit.entry !== null && visit.entry !== entry;
+  visit.entry = entry;
+  if (held.state.place.view !== "embed") keepUnder(HERE, address);
+  if (!isNew && location.hash === (address ?? "")) return;
+  const { text, count, lacks } = now.run;
+  const kept = address === null ? { text, count, lacks } : null;
+  const how = isNew ? "pushState" : "replaceState";
+  const place = address ?? location.pathname + location.search;
+  try {
+    history[how](kept, "", place);
+  } catch {
+    history[how](null, "", place); // a state may be too large for a browser
+  }
+}
+
+const linkTo = (address) => location.href.replace(/#.*$/, "") + address;
+
+async function copyLink() {
+  const address = now.run.isRun ? addressHere() : null;
+  if (address === null) return tell("This schedule has no link: it is refused, or too long for an address. Save it as a file.");
+  const link = linkTo(address);
+  const shown = `<code>${escaped(link)}</code>${warningOf(link)}`;
+  tell(`Copy this link: ${shown}`);
+  if (await copied(link)) tell(`The link is copied: ${shown}`);
+}
+
+async function copied(text) {
+  try {
+    await navigator.clipboard.writeText(text);
+    return true;
+  } catch {
+    return false;
+  }
+}
+return { visit, keepSoon, keepNow, linkTo, copyLink, copied };
+})();
+
 // story/kept_story.js
 const $story_kept_story = (() => {
 const { LACKING } = $made_classics;
@@ -6952,9 +7459,9 @@ const { change } = $page_now;
 const STORY = "listset-story";
 const BROKEN = "listset-broken"; // of each list that was broken the line that is handed in
 const NAMED = "listset-named-checks"; // the lists of which the reader has said what they lack
-const NOTHING = { at: 1, done: {}, asks: {}, student: "", number: "" };
+const NOTHING = { at: 1, done: {}, asks: {}, student: "", number: "", homework: null };
 
-/** @returns {{ at: number, done: Record<string, boolean>, asks: Record<string, string>, student: string, number: string }} */
+/** @returns {{ at: number, done: Record<string, boolean>, asks: Record<string, string>, student: string, number: string, homework: any }} */
 const keptStory = () => ({ ...NOTHING, ...keptUnder(STORY) });
 const keepStory = (change) => keepUnder(STORY, { ...keptStory(), ...change });
 
@@ -7211,6 +7718,7 @@ const $story_scene = (() => {
 const { change, dispatch, now } = $page_now;
 const { byId, setHtml } = $page_dom;
 const { tag } = $run_markup;
+const { isNarrow } = $story_figure_parts;
 /**
  * @typedef {object} View
  * @property {string} kind  the class of the place
@@ -7226,7 +7734,7 @@ const { tag } = $run_markup;
 
 /** @type {Record<string, View>} of an activity, or of one without an id its map */
 const VIEWS = {};
-const scene = { key: "", view: null, figure: null, isFirst: true };
+const scene = { key: "", view: null, figure: null, isFirst: true, isNew: false };
 
 const part = (selector) => byId("scene").querySelector(selector);
 const viewOf = ({ activity, id }) => (id === "" ? VIEWS[`${activity} map`] : undefined) ?? VIEWS[activity];
@@ -7234,7 +7742,25 @@ const titleOfScene = (place) => viewOf(place).title(place);
 const faultOfScene = (place) => viewOf(place).fault?.(place) ?? null;
 const isScene = ({ place }) => place.screen === "scene";
 const setScene = (given) => dispatch("scene", given);
-const talk = (html) => setHtml(part("#talk"), html);
+
+function talk(html) {
+  const box = part("#talk");
+  if (!setHtml(box, html) || scene.isNew || hiddenBelow() <= 0) return;
+  box.lastElementChild.scrollIntoView({ block: "end", behavior: "smooth" });
+}
+
+function hiddenBelow() {
+  const [last, bar] = [part("#talk")?.lastElementChild, part(".foot")];
+  return last == null || bar === null ? 0 : last.getBoundingClientRect().bottom - bar.getBoundingClientRect().top;
+}
+
+function fitFigure({ spec }) {
+  const list = scene.figure.part("list").firstElementChild;
+  const over = hiddenBelow();
+  if (over <= 0 || list === null || isNarrow()) return;
+  Object.assign(spec, { high: (Number(list.getAttribute("height")) - over - 8) / innerHeight, least: 110 });
+  scene.figure.draw();
+}
 
 function takeFigure(figure) {
   scene.figure?.end();
@@ -7261,8 +7787,11 @@ function renderScene({ place, scene: state }) {
   box.className = view.kind;
   box.innerHTML = view.html(place);
   scrollTo(0, 0);
+  scene.isNew = true;
   view.begin?.(place);
   view.draw?.(now.scene);
+  if (scene.figure !== null) fitFigure(scene.figure);
+  scene.isNew = false;
   if (!scene.isFirst && document.activeElement === document.body) box.querySelector("h1")?.focus({ preventScroll: true });
   scene.isFirst = false; // who comes by a key goes on at the title of what is opened
 }
@@ -7303,12 +7832,12 @@ const optionButtons = (texts, wrong = []) => {
 
 const lowered = (text) => text[0].toLowerCase() + text.slice(1);
 
-function replyTo(options, chosen) {
+function replyTo(options, chosen, isToCome) {
   const option = options?.[chosen];
   if (option === undefined) return "";
   const { text, say, right = false } = option;
   const said = `You said: ${lowered(text)}${text.endsWith("?") ? "" : "."}`;
-  return `<p class="you ${right ? "right" : "wrong"}"><b>${said}</b> ${say || (right ? "Let us see." : "")}</p>`;
+  return `<p class="you ${right ? "right" : "wrong"}"><b>${said}</b> ${say || (right && isToCome ? "Let us see." : "")}</p>`;
 }
 
 function drawLedger(run) {
@@ -7374,180 +7903,6 @@ const askMapView = { kind: "asks", title: () => "Guess, then see · Why not just
 return { drawCard, askMapView };
 })();
 
-// story/phases.js
-const $story_phases = (() => {
-const walkers = (...rows) => Object.fromEntries(rows.map((row) => [row, "walk"]));
-
-const PHASES = {
-  plain: { ...walkers(1, 2, 3, 4), 5: "make", 6: "make", 7: "link", 8: "unlink", 9: "unlink", 10: "answer" },
-  coarse: { 1: "lock", ...walkers(2, 3, 4), 5: "make", 6: "make", 7: "link", 8: "unlink", 9: "unlink", 10: "unlock" },
-  fine: {
-    1: "first", 2: "next", 3: "next", 4: "next", 5: "letgo", 6: "next", 7: "make", 8: "make", 9: "link", 10: "unlink", 11: "unlink",
-    12: "unlock", 13: "unlock",
-  },
-  optimistic: {
-    ...walkers(1, 2, 3), 4: "locks", 5: "locks", 6: "again", 7: "again", 8: "again", 9: "make", 10: "make", 11: "link", 12: "unlink",
-    13: "unlink", 14: "unlock", 15: "unlock",
-  },
-  lazy: {
-    ...walkers(1, 2, 3, 20, 21, 23, 24), 25: "look", 4: "locks", 5: "locks", 6: "check", 7: "check", 8: "make", 9: "make", 10: "link", 11: "mark",
-    12: "tidy", 13: "unlock", 14: "unlock", 22: "look",
-  },
-  "lock-free": {
-    ...walkers(1, 2, 4, 8, 20, 21, 23, 24), 25: "look", 3: "snip", 5: "make", 6: "make", 7: "swing", 9: "marktry", 10: "tidytry", 22: "look",
-  },
-};
-
-const phaseAt = (list, row, plain) => PHASES[plain ? "plain" : list][row] ?? "answer";
-const joinedRows = (list, plain) => (plain ? [10] : list === "lock-free" || list === "lazy" ? [22, 25] : []);
-
-const WORDS = {
-  walk: ({ key }) => `walk to the place of ${key}`,
-  make: ({ key }) => `make a node for ${key}`,
-  link: ({ key }) => `hang ${key} in`,
-  unlink: ({ key }) => `point past ${key}`,
-  answer: () => "answer",
-  lock: () => "take the lock",
-  unlock: () => "let go, and answer",
-  first: () => "lock the head",
-  next: () => "lock the next node",
-  letgo: () => "let go of the one behind",
-  locks: () => "lock pred and curr",
-  again: () => "look once more",
-  check: () => "look at the marks",
-  mark: ({ key }) => `mark ${key}: removed`,
-  tidy: ({ key }) => `take ${key} out of the chain`,
-  look: () => "look at the mark",
-  snip: () => "take the marked node out",
-  swing: ({ key }) => `try to hang ${key} in`,
-  marktry: ({ key }) => `try to mark ${key}`,
-  tidytry: ({ key }) => `try to take ${key} out`,
-};
-
-const phaseText = (phase, call) => WORDS[phase](call);
-return { phaseAt, joinedRows, phaseText };
-})();
-
-// story/tale.js
-const $story_tale = (() => {
-const { isLock, ownerIn } = $run_outcomes;
-const { callText, colourOf, keyText, tag } = $run_markup;
-const { phaseAt } = $story_phases;
-const letterOf = (thread) => (thread < 26 ? String.fromCharCode(65 + Number(thread)) : String(thread));
-const chip = (thread) => tag("span", { class: `who ${colourOf(Number(thread))}` }, letterOf(thread));
-function inLetters(text) {
-  const letters = (numbers) => numbers.replace(/\d+/g, (number) => letterOf(Number(number)));
-  const some = text.replace(/\bthreads (\d+(?:, \d+)*(?:,? and \d+)?)/gi, (_, numbers) => letters(numbers));
-  return some.replace(/\bthread (\d+)/gi, (_, number) => letterOf(Number(number))).replace(/\bt(\d+)\b/g, (_, number) => letterOf(Number(number)));
-}
-
-const bold = (text) => `<b>${text}</b>`;
-
-const nodeName = (state, name) => {
-  if (name === "head") return "the head";
-  if (name === "tail") return "the end";
-  return name in state.nodes ? keyText(state.nodes[name].key) : "";
-};
-const bare = (link) => link.replace("*", "");
-
-const answerText = (answer) => answer.replace(/^at-/, "");
-
-function taleOf(moment, { plain = false } = {}) {
-  const { event } = moment;
-  if (event === null) return "";
-  const said = toldBy(moment, plain);
-  const { call } = event;
-  const answer = event.answer === undefined ? "" : ` ${bold(`${callText(call)} answers ${answerText(event.answer)}.`)}`;
-  return `${chip(event.thread)} ${said}${answer}`;
-}
-
-function toldBy(moment, plain) {
-  const { trace, state, event, before, held } = moment;
-  const { kind } = trace;
-  if (event.deed === "begin") return `begins ${bold(callText(event.call))}.`;
-  const owner = ownerIn(event.word);
-  const who = nodeName(state, owner);
-  if (isLock(event.word)) return lockTold(event, who, plain, event.changes.pc === before.pc);
-  const phase = phaseAt(kind, before.pc, plain);
-  const key = event.call.key;
-  if (event.deed === "load" && event.word.endsWith(".key")) return keyTold(event, owner, key, phase, held);
-  if (event.deed === "load") return linkTold(moment, owner, who, phase);
-  if (event.deed === "store" && event.word.endsWith(".key")) return `makes a node for ${key}. Nobody else sees it yet.`;
-  return writeTold(moment, owner, who);
-}
-
-function lockTold(event, who, plain, waits) {
-  if (plain) return event.deed === "store" ? "is done." : "sets out.";
-  const what = who === undefined || event.word === "list.lock" ? "the lock" : `the lock of ${who}`;
-  if (event.deed === "store") return `gives back ${what}.`;
-  if (event.saw === event.from) return `takes ${what}.`;
-  return `wants ${what}, but ${chip(event.saw.slice(1))} has it. ${bold(waits ? "It waits." : "It goes on all the same.")}`;
-}
-
-function keyTold(event, owner, key, phase, held) {
-  if (phase === "again") {
-    if (held.pc === 14 && held.reply === "none") return `is past the place of its pred, and has not met it: ${bold("pred is not in the list any more.")} It lets go and starts again.`;
-    return held.node === held.pred ? "meets its pred: it is still in the list." : "walks on: this is not its pred.";
-  }
-  if (owner === "tail") return "has come to the end: here is the place.";
-  const seen = Number(event.saw);
-  if (seen < key) return `reads ${bold(seen)}: too small, it goes on.`;
-  if (event.call.operation === "ceiling") return `reads ${bold(seen)}: big enough.`;
-  if (seen === key) return `reads ${bold(seen)}: found.`;
-  return `reads ${bold(seen)}: too big. The place of ${key} is just before it.`;
-}
-
-function linkTold(moment, owner, who, phase) {
-  const { trace, state, event, held, before } = moment;
-  const isMarked = event.saw.endsWith("*");
-  const to = nodeName(state, bare(event.saw));
-  if (phase === "look" || (event.answer !== undefined && isMarked)) return isMarked ? `sees the mark: ${bold(`this ${who} has been removed.`)}` : `sees no mark: ${who} is in.`;
-  if (phase === "check") {
-    if (held.reply === "none" && held.pc === 13) {
-      if (owner === before.pred && isMarked) return `sees a mark on its pred: ${bold("it was removed meanwhile.")} It lets go and starts again.`;
-      return isMarked ? `sees a mark on ${who}. It lets go and starts again.` : `sees that ${who} points to ${to} now. It lets go and starts again.`;
-    }
-    return owner === before.pred ? "sees no mark on its pred, which still points to curr." : `sees no mark on ${who}. It may write.`;
-  }
-  if (phase === "again") {
-    if (owner === before.pred && before.pc === 8) {
-      if (held.pc === 14 && held.reply === "none") return `sees that ${who} points to ${to} now: ${bold("something came in between.")} It lets go and starts again.`;
-      return "sees that pred still points to curr.";
-    }
-    return `walks from ${who} once more.`;
-  }
-  if (phase === "unlink" || before.pc === 8) return `looks what comes after ${who}: ${to}.`;
-  if (trace.kind === "lock-free" && event.changes.curr === undefined) {
-    return isMarked ? `meets ${who}, which is marked: it will take it out on its way.` : `looks at the arrow of ${who}: no mark.`;
-  }
-  return owner === "head" ? `sets out from the head: curr is on ${to}.` : `moves on: curr is on ${to}.`;
-}
-
-function writeTold(moment, owner, who) {
-  const { state, event, before } = moment;
-  const key = event.call.key;
-  const to = nodeName(state, bare(event.to ?? ""));
-  const isDone = event.deed === "store" || event.saw === event.from;
-  if (event.to.endsWith("*")) {
-    if (isDone) return `marks ${who}: ${bold(`${key} is removed.`)}`;
-    return event.saw.endsWith("*") ? `wants to mark ${who}, but it is marked already. ${bold("It was too late")}, and looks again.` : `wants to mark ${who}, but its arrow has changed. It looks again.`;
-  }
-  if (!state.nodes[owner].reached && event.put === undefined && event.took === undefined && event.deed === "store" && owner !== before.pred) {
-    return `lets its node point to ${to}.`;
-  }
-  if (event.put !== undefined) {
-    const isIn = state.chain().includes(bare(event.to));
-    return isIn ? `lets ${who} point to ${key}: ${bold(`${key} is in.`)}` : `lets its pred point to ${key}. ${bold("But that pred is not in the list.")}`;
-  }
-  if (!isDone) {
-    const rest = event.answer !== undefined ? "That does not matter: the mark counts." : "It looks again.";
-    return `wants to change the arrow of ${who}, but it is not what it saw. ${rest}`;
-  }
-  return `lets ${who} point to ${to}: ${nodeName(state, before.curr)} is out of the chain.`;
-}
-return { letterOf, chip, inLetters, answerText, taleOf };
-})();
-
 // story/assignment.js
 const $story_assignment = (() => {
 const { BOOK, BOOK_NAME } = $made_book;
@@ -7558,12 +7913,13 @@ const { levelOfNumber, numberOfLevel } = $data_chapter;
 const { BREAK_LEVELS } = $data_levels;
 const { keptUnder } = $page_kept;
 const { askNow } = $page_now;
+const { addressOfAssignment } = $page_scene_address;
 const { AddressFault, addressOf, readAddress } = $run_address;
 const { NO_TASK } = $run_broken;
+const { inLetters } = $run_markup;
 const { eventsAsked } = $run_schedule_text;
 const { partsOfSeed, scheduleOfSeed } = $run_seed;
 const { brokenLines } = $story_kept_story;
-const { inLetters } = $story_tale;
 const known = { course: null };
 
 const bookCourse = () => (known.course ??= triedCourse(askNow, BOOK));
@@ -7573,10 +7929,9 @@ const allLevels = () => Object.keys(BREAK_LEVELS).filter((name) => name !== NO_T
 const wordsIn = (text, sign = ".") => (text ?? "").split(sign).filter((word) => word !== "");
 const isSeed = (word) => /^(coarse|fine|optimistic|lazy|lock-free)\.\d{1,2}\.\d{1,2}\.\d{1,2}\.\d{1,9}$/.test(word);
 
-function addressOfAssignment({ title, learn, levels, seeds }) {
-  const parts = [["assignment", title], ["learn", learn.join(".")], ["break", levels.join(".")], ["judge", seeds.join(",")]];
-  const given = new URLSearchParams(parts.filter(([, value]) => value !== ""));
-  return `#${given.toString().replaceAll("%2C", ",")}`;
+function addressOfTasks(title, { learn, levels, seeds }) {
+  const parts = Object.entries({ learn: learn.join("."), break: levels.join("."), judge: seeds.join(",") });
+  return addressOfAssignment({ id: title, given: Object.fromEntries(parts.filter(([, value]) => value !== "")) });
 }
 
 /** @typedef {{ id: string, kind: "Solve" | "Break" | "Judge", title: string, says: string, href: string, seed?: string }} Task */
@@ -7601,6 +7956,11 @@ function seedTask(seed) {
   const { kind, number, calls } = partsOfSeed(seed);
   const says = `${calls} calls: what does each answer, and where does it take effect?`;
   return { id: `judge ${seed}`, kind: "Judge", title: `Run ${number}, ${LISTS[kind].name}`, says, href: `#seed=${seed}&judge`, seed };
+}
+
+function hasTask(given, { activity, id }, { kind, id: seed }) {
+  if (activity === "judge") return kind === "seed" && wordsIn(given.judge, ",").includes(seed);
+  return ["learn", "break"].includes(activity) && wordsIn(given[activity]).includes(id);
 }
 
 function tasksOf(given) {
@@ -7644,7 +8004,7 @@ function linesDone(tasks) {
   };
   return Object.fromEntries(tasks.map((task) => [task.id, lineOf[task.kind](task)]));
 }
-return { bookCourse, allLevels, addressOfAssignment, tasksOf, taskOfJudged, linesDone };
+return { bookCourse, allLevels, addressOfTasks, hasTask, tasksOf, taskOfJudged, linesDone };
 })();
 
 // story/kept_lessons.js
@@ -7687,156 +8047,6 @@ function ownOf(kept) {
   };
 }
 return { KeptLessons };
-})();
-
-// story/live_run.js
-const $story_live_run = (() => {
-const { askNow } = $page_now;
-const { askList, verdictOnLacking } = $run_broken;
-const { scheduleOfDraft } = $run_draft;
-const { isFailed, isLock } = $run_outcomes;
-const { scheduleOfTrace, titleOf } = $run_schedule_text;
-const { keysInChain, promisedKeys, State } = $run_state;
-const { isTrace, Trace } = $run_trace;
-const { joinedRows, phaseAt } = $story_phases;
-const MOST_STEPS = 80; // of one call, in the short lists of the story
-
-const linesOf = (schedule) => schedule.split("\n").filter((line) => /^(begin|go) /.test(line));
-
-/**
- * @typedef {object} RunSpec
- * @property {string} list
- * @property {string | null} [lacks]  the check that the list lacks
- * @property {number} [threads]
- * @property {number} [quota]
- * @property {number[]} [opening]
- * @property {string[]} [lines]  the schedule's first lines, also those of a draft
- * @property {number} [version]  of the schedule's text
- * @property {boolean} [free]  the reader may begin any call, and stop before each look
- * @property {boolean} [plain]  the list's lock is ignored, and nothing is told of it
- */
-class LiveRun {
-  /** @param {RunSpec} spec */
-  constructor(spec) {
-    this.spec = { lacks: null, threads: 2, quota: 2, opening: [], plain: false, version: 2, ...spec };
-    this.first = this.expanded(spec.lines ?? []);
-    this.take(this.first);
-  }
-
-  expanded(lines) {
-    const { text, fault } = scheduleOfDraft(askNow, this.textOf(lines), this.spec.lacks);
-    if (fault !== null) throw new Error(fault);
-    return linesOf(text);
-  }
-
-  textOf(lines) {
-    const { list, threads, quota, opening, version } = this.spec;
-    const head = [titleOf(version), `list ${list}`, `threads ${threads}`, `quota ${quota}`];
-    return `${[...head, ...opening.map((key) => `opening ${key}`), ...lines].join("\n")}\n`;
-  }
-
-  traceOf(lines) {
-    const { text } = askList(askNow, "listset_trace", this.spec.lacks, this.textOf(lines));
-    if (!isTrace(text)) throw new Error(text.trim());
-    return new Trace(text, this.spec.version);
-  }
-
-  take(lines) {
-    this.lines = [...lines];
-    this.trace = this.traceOf(this.lines);
-    this.state = new State(this.trace);
-    this.moveTo(this.trace.total);
-  }
-
-  linesHere() {
-    return linesOf(scheduleOfTrace(this.trace, this.count));
-  }
-
-  get schedule() {
-    return this.textOf(this.lines);
-  }
-
-  moveTo(count) {
-    this.count = Math.max(0, Math.min(this.trace.total, count));
-    this.state.moveTo(this.count);
-  }
-
-  rowOf(thread) {
-    return this.state.threads[thread].pc;
-  }
-
-  isIdle(thread) {
-    return this.rowOf(thread) === 0;
-  }
-
-  nextOf(thread, call = null) {
-    const isBegin = this.isIdle(thread);
-    const lines = isBegin ? [...this.lines, `begin ${thread} ${call.join(" ")}`] : this.lines;
-    const trace = this.traceOf([...lines, `go ${thread} ${MOST_STEPS}`]);
-    const begun = this.trace.total + lines.length - this.lines.length;
-    const row = isBegin ? trace.event(begun).changes.pc : this.rowOf(thread);
-    return { ...this.chunk(trace, begun, row), thread, row, isBegin };
-  }
-
-  chunk(trace, begun, row) {
-    const { list, plain } = this.spec;
-    const phase = phaseAt(list, row, plain);
-    const joined = this.spec.free && !plain ? [] : joinedRows(list, plain);
-    let steps = 0;
-    let before = row;
-    for (let number = begun + 1; number <= trace.total; number++) {
-      const event = trace.event(number);
-      steps++;
-      if (event.answer !== undefined) break;
-      const after = event.changes.pc;
-      const ofLock = isFailed(event) && isLock(event.word);
-      const waits = ofLock && after === before; // a broken list may go on all the same
-      if (waits || (isFailed(event) && !ofLock)) return { steps, phase, waits };
-      before = after;
-      if (phaseAt(list, after, plain) !== phase && !joined.includes(after)) break;
-    }
-    return { steps, phase, waits: false };
-  }
-
-  stepsUntil(thread, isThere) {
-    const { total } = this.trace;
-    const trace = this.traceOf([...this.lines, `go ${thread} ${MOST_STEPS}`]);
-    for (let number = total + 1; number <= trace.total; number++) {
-      const event = trace.event(number);
-      if (event.answer !== undefined || isThere(event) || this.waitsAt(event)) return number - total;
-    }
-    return 1;
-  }
-
-  waitsAt(event) {
-    return isFailed(event) && isLock(event.word) && this.spec.lacks !== "lock";
-  }
-
-  begin(thread, [operation, key]) {
-    this.take([...this.lines, `begin ${thread} ${operation} ${key}`]);
-  }
-
-  go(thread, steps) {
-    this.take([...this.lines, `go ${thread} ${steps}`]);
-  }
-
-  promised() {
-    return promisedKeys(this.trace);
-  }
-
-  has() {
-    return keysInChain(this.state);
-  }
-
-  verdict() {
-    return verdictOnLacking(askNow, this.spec.lacks, this.schedule);
-  }
-
-  isBroken() {
-    return this.spec.lacks !== null && this.verdict().kind === "broken";
-  }
-}
-return { linesOf, LiveRun };
 })();
 
 // story/learning.js
@@ -7936,9 +8146,13 @@ class Learning {
   }
 }
 
-const learning = { panel: null }; // once the engine is there
-const startLearning = () => (learning.panel = new Learning());
-return { learning, startLearning };
+const learning = {
+  get panel() {
+    return (made.panel ??= new Learning());
+  },
+};
+const made = { panel: null };
+return { learning };
 })();
 
 // story/learn_map.js
@@ -7975,7 +8189,13 @@ function drawLearnMap() {
   begin();
 }
 
-const begin = () => part("#learn-folds").append(byId("lesson-folds"));
+function begin() {
+  const { kept, course } = learning.panel;
+  part("#learn-folds").append(byId("lesson-folds"));
+  byId("lesson-course").replaceChildren(...[BOOK_NAME, ...kept.courses.keys()].map((name) => new Option(name)));
+  byId("lesson-course").value = course.name;
+  byId("lesson-student").value = kept.student;
+}
 const end = () => byId("courses").append(byId("lesson-folds"));
 
 /** @type {import("./scene.js").View} */
@@ -7998,7 +8218,7 @@ return { drawLearnMap, learnMapView };
 // draw/judged.js
 const $draw_judged = (() => {
 const { lastMoment, nameOfCall } = $run_judged;
-const { callText, chipOf, colourOf, escaped, label, tag, title } = $run_markup;
+const { callText, chipOf, colourOf, escaped, label, letterOf, tag, title } = $run_markup;
 const { recordedInWords } = $run_recorded;
 const { placeLabels, ROW_HEIGHT, signOf, widthOf } = $draw_labels;
 const JUDGE_LEFT = 50;
@@ -8042,7 +8262,7 @@ const momentInWords = (at) => (Number.isInteger(at) ? `at ${at}` : `after ${Math
 
 function drawJudgedLane(scale, place, thread = place) {
   const y = scale.y(place);
-  const badge = tag("rect", { x: 2, y: y - 10, width: 38, height: 20, rx: 4 }) + label({ x: 21, y: y + 5 }, `t${thread}`);
+  const badge = tag("rect", { x: 2, y: y - 10, width: 38, height: 20, rx: 4 }) + label({ x: 21, y: y + 5 }, letterOf(thread));
   const lane = { class: "lane", x1: JUDGE_LEFT - 6, x2: scale.width - JUDGE_RIGHT, y1: y, y2: y };
   return tag("line", lane) + tag("g", { class: `badge ${colourOf(thread)}` }, badge);
 }
@@ -8343,22 +8563,16 @@ const { learning } = $story_learning;
 const { JUDGED } = $activities_judging;
 const lessonPart = (name) => byId(`lesson-${name}`);
 
-function takeCourseText(panel, text) {
+function takeCourseText(text) {
   const course = triedCourse(askNow, text);
   const { faults, name, lessons } = course;
   const lines = faults.map(({ line, fault }) => `line ${line}: ${fault}`);
   lessonPart("faults").textContent = lines.length > 0 ? lines.join("\n") : `${name}: ${counted(lessons.length, "lesson")}, all good.`;
   lessonPart("faults").dataset.isGood = faults.length > 0 ? "no" : "yes";
   lessonPart("link-text").hidden = true;
-  if (faults.length === 0) panel.takeCourse(course);
-  fillCourses(panel);
+  if (faults.length === 0) learning.panel.takeCourse(course);
   drawLearnMap();
   return faults.length === 0;
-}
-
-function fillCourses({ kept, course }) {
-  lessonPart("course").replaceChildren(...[BOOK_NAME, ...kept.courses.keys()].map((name) => new Option(name)));
-  lessonPart("course").value = course.name;
 }
 
 async function takeCourseOfAddress(letters) {
@@ -8374,11 +8588,13 @@ async function takeCourseOfAddress(letters) {
 function showCourseText(text) {
   lessonPart("course-text").value = text;
   lessonPart("write").open = true;
-  takeCourseText(learning.panel, text);
+  takeCourseText(text);
 }
 
-async function copyCourseLink(panel) {
-  const address = await courseAddress(panel.course.text);
+async function copyCourseLink() {
+  const { course } = learning.panel;
+  const address = await courseAddress(course.text);
+  if (course !== learning.panel.course || lessonPart("faults").dataset.isGood !== "yes") return; // another text was checked meanwhile
   const tooLong = "This course is too long for a link: save it, and hand out the file.";
   if (address === null) return (lessonPart("faults").textContent = tooLong);
   const link = linkTo(address);
@@ -8387,33 +8603,34 @@ async function copyCourseLink(panel) {
   box.hidden = false;
   box.select();
   const isCopied = await copied(link);
-  lessonPart("faults").textContent = `${isCopied ? "The link is copied" : "Copy the link below"}: it opens "${panel.course.name}".${warningOf(link)}`;
+  if (box.hidden) return;
+  lessonPart("faults").textContent = `${isCopied ? "The link is copied" : "Copy the link below"}: it opens "${course.name}".${warningOf(link)}`;
 }
 
-function listenToCourses(panel) {
-  fillCourses(panel);
+function listenToCourses() {
   const box = lessonPart("course-text");
   lessonPart("course").onchange = () => {
     const name = lessonPart("course").value;
-    takeCourseText(panel, name === BOOK_NAME ? BOOK : panel.kept.courses.get(name));
-    box.value = panel.course.text;
+    takeCourseText(name === BOOK_NAME ? BOOK : learning.panel.kept.courses.get(name));
+    box.value = learning.panel.course.text;
   };
   lessonPart("write").ontoggle = () => {
-    if (box.value === "") box.value = panel.course.text;
+    if (box.value === "") box.value = learning.panel.course.text;
   };
   lessonPart("file").onchange = async () => {
     box.value = await lessonPart("file").files[0].text();
     lessonPart("file").value = "";
     lessonPart("write").open = true;
-    takeCourseText(panel, box.value);
+    takeCourseText(box.value);
   };
-  lessonPart("try").onclick = () => takeCourseText(panel, box.value);
-  lessonPart("link").onclick = () => takeCourseText(panel, box.value) && copyCourseLink(panel);
+  lessonPart("try").onclick = () => takeCourseText(box.value);
+  lessonPart("link").onclick = () => takeCourseText(box.value) && copyCourseLink();
   lessonPart("save").onclick = () => saveText("lessons.course", box.value);
 }
 
 
-async function handIn(panel) {
+async function handIn() {
+  const { panel } = learning;
   const lessons = panel.course.lessons.filter(({ name }) => panel.isSolved(name));
   const solutions = lessons.map(({ name }) => ({ name, schedule: panel.own.solutions.get(name) }));
   const orders = Object.values(keptUnder(JUDGED) ?? {}).filter(isText);
@@ -8427,10 +8644,10 @@ async function handIn(panel) {
   lessonPart("told").textContent = (await copied(box.value)) ? `The text with ${count} is copied.` : `Copy this text: it has ${count}.`;
 }
 
-function listenToHandIn(panel) {
-  lessonPart("student").value = panel.kept.student;
-  lessonPart("hand-in").onclick = () => handIn(panel);
+function listenToHandIn() {
+  lessonPart("hand-in").onclick = handIn;
   lessonPart("student").onchange = () => {
+    const { panel } = learning;
     panel.kept.student = lessonPart("student").value.trim();
     if (!panel.kept.save()) lessonPart("told").textContent = "This browser keeps nothing: hand in before you leave the page.";
   };
@@ -8482,7 +8699,7 @@ return { beginJudging, listenToJudging };
 // page/menu.js
 const $page_menu = (() => {
 const { CLASSICS } = $made_classics;
-const { tag } = $run_markup;
+const { inLetters, tag } = $run_markup;
 const { eventsAsked } = $run_schedule_text;
 const { byId, redraw } = $page_dom;
 const { examples, openKept } = $page_example;
@@ -8526,707 +8743,92 @@ function showQuestion() {
   const { turns } = classic;
   const place = (event) => `left: calc(8px + (100% - 16px) * ${event / total})`;
   byId("ticks").innerHTML = box.open && !isJudging() ? turns.map((event) => `<i style="${place(event)}"></i>`).join("") : "";
-  byId("question").textContent = classic.question;
-  byId("turns-on").textContent = classic.turnsOn;
-  byId("without").textContent = classic.without;
+  byId("question").textContent = inLetters(classic.question);
+  byId("turns-on").textContent = inLetters(classic.turnsOn);
+  byId("without").textContent = inLetters(classic.without);
   const here = (event) => (event === now.run.count ? { "aria-current": "true" } : {});
   redraw(byId("turns"), turns.map((event) => tag("button", { "data-event": event, ...here(event) }, event)).join(" "));
 }
 return { fillWorks, fillExamples, chooseInList, pickExample, showQuestion };
 })();
 
-// data/book_code.js
-const $data_book_code = (() => {
-const CHANGES = ["add", "remove"];
+// page/seen.js
+const $page_seen = (() => {
+const isStage = ({ screen }) => screen === "stage";
 
-const READS = [
-  { of: ["contains"], text: "contains(key):  no lock, no retry" },
-  { of: ["contains"], text: "  curr = curr.next, from the head", rows: [20] },
-  { of: ["contains"], text: "  while curr.key < key: go on", rows: [21] },
-  { of: ["contains"], text: "  return key is there and unmarked", rows: [22] },
-  { of: ["ceiling"], text: "ceiling(key):" },
-  { of: ["ceiling"], text: "  curr = curr.next, from the head", rows: [23] },
-  { of: ["ceiling"], text: "  while curr.key < key: go on", rows: [24] },
-  { of: ["ceiling"], text: "  if marked: start again; return curr.key", rows: [25] },
-];
-
-const BOOK_CODE = {
-  coarse: [
-    { text: "lock the list", rows: [1] },
-    { text: "pred = head; curr = pred.next", rows: [2] },
-    { text: "while curr.key < key:", rows: [3] },
-    { text: "    pred = curr; curr = curr.next", rows: [4] },
-    { of: ["add"], text: "add, if curr.key ≠ key:" },
-    { of: ["add"], text: "    node = new Node(key, next = curr)", rows: [5, 6] },
-    { of: ["add"], text: "    pred.next = node", rows: [7] },
-    { of: ["remove"], text: "remove, if curr.key = key:" },
-    { of: ["remove"], text: "    pred.next = curr.next", rows: [8, 9] },
-    { text: "unlock the list; return", rows: [10] },
-  ],
-  fine: [
-    { text: "lock head; pred = head", rows: [1] },
-    { text: "curr = pred.next", rows: [2] },
-    { text: "loop: lock curr, pred still locked", rows: [3] },
-    { text: "    if curr.key ≥ key: leave the loop", rows: [4] },
-    { text: "    unlock pred", rows: [5] },
-    { text: "    pred = curr; curr = curr.next", rows: [6] },
-    { of: ["add"], text: "add, if curr.key ≠ key:" },
-    { of: ["add"], text: "    node = new Node(key, next = curr)", rows: [7, 8] },
-    { of: ["add"], text: "    pred.next = node", rows: [9] },
-    { of: ["remove"], text: "remove, if curr.key = key:" },
-    { of: ["remove"], text: "    pred.next = curr.next", rows: [10, 11] },
-    { text: "unlock curr; unlock pred; return", rows: [12, 13] },
-  ],
-  optimistic: [
-    { text: "pred = head; curr = pred.next", rows: [1] },
-    { text: "while curr.key < key:", rows: [2] },
-    { text: "    pred = curr; curr = curr.next", rows: [3] },
-    { text: "lock pred; lock curr", rows: [4, 5] },
-    { text: "validate: walk from the head again", rows: [6] },
-    { text: "    until pred is met, else not valid", rows: [7] },
-    { text: "    pred.next = curr? else not valid", rows: [8] },
-    { of: ["add"], text: "add, if curr.key ≠ key:" },
-    { of: ["add"], text: "    node = new Node(key, next = curr)", rows: [9, 10] },
-    { of: ["add"], text: "    pred.next = node", rows: [11] },
-    { of: ["remove"], text: "remove, if curr.key = key:" },
-    { of: ["remove"], text: "    pred.next = curr.next", rows: [12, 13] },
-    { text: "unlock pred; unlock curr", rows: [14, 15] },
-    { text: "if not valid: start again; return", isPlain: true },
-  ],
-  lazy: [
-    { of: CHANGES, text: "pred = head; curr = pred.next", rows: [1] },
-    { of: CHANGES, text: "while curr.key < key:", rows: [2] },
-    { of: CHANGES, text: "    pred = curr; curr = curr.next", rows: [3] },
-    { of: CHANGES, text: "lock pred; lock curr", rows: [4, 5] },
-    { of: CHANGES, text: "validate: pred unmarked, leads to curr", rows: [6] },
-    { of: CHANGES, text: "    and curr unmarked", rows: [7] },
-    { of: ["add"], text: "add, if curr.key ≠ key:" },
-    { of: ["add"], text: "    node = new Node(key, next = curr)", rows: [8, 9] },
-    { of: ["add"], text: "    pred.next = node", rows: [10] },
-    { of: ["remove"], text: "remove, if curr.key = key:" },
-    { of: ["remove"], text: "    mark curr", rows: [11] },
-    { of: ["remove"], text: "    pred.next = curr.next", rows: [12] },
-    { of: CHANGES, text: "unlock curr; unlock pred", rows: [13, 14] },
-    { of: CHANGES, text: "if not valid: start again; return", isPlain: true },
-    ...READS,
-  ],
-  "lock-free": [
-    { of: CHANGES, text: "find: pred = head; curr = pred.next", rows: [1] },
-    { of: CHANGES, text: "    succ, marked = curr.next", rows: [2] },
-    { of: CHANGES, text: "    marked? CAS pred.next: curr → succ", rows: [3] },
-    { of: CHANGES, text: "    if curr.key < key: go one node on", rows: [4] },
-    { of: ["add"], text: "add, if curr.key ≠ key:" },
-    { of: ["add"], text: "    node = new Node(key, next = curr)", rows: [5, 6] },
-    { of: ["add"], text: "    CAS pred.next: curr, no mark → node", rows: [7] },
-    { of: ["add"], text: "    else start again", isPlain: true },
-    { of: ["remove"], text: "remove, if curr.key = key:" },
-    { of: ["remove"], text: "    succ = curr.next", rows: [8] },
-    { of: ["remove"], text: "    CAS curr.next: succ, no mark → mark", rows: [9] },
-    { of: ["remove"], text: "    else start again", isPlain: true },
-    { of: ["remove"], text: "    CAS pred.next: curr → succ, once", rows: [10] },
-    ...READS,
-  ],
-};
-
-const IDEAS = {
-  coarse: "One lock for the whole list",
-  fine: "A lock in each node, taken hand over hand",
-  optimistic: "Walk without locks, lock two nodes, look again",
-  lazy: "A mark says: removed. Reads take no lock",
-  "lock-free": "No lock at all: compare-and-swap of link and mark",
-};
-return { BOOK_CODE, IDEAS };
-})();
-
-// story/code.js
-const $story_code = (() => {
-const { BOOK_CODE } = $data_book_code;
-const { colourOf, escaped, tag } = $run_markup;
-const { chip, letterOf } = $story_tale;
-const WORDS = /\b(while|if|else|return|start again|loop|until|unlock|lock|find|validate|CAS|mark|new)\b/g;
-
-/**
- * @typedef {object} CodeSpec  What of the code is shown, and how.
- * @property {string} list
- * @property {string[]} operations  the calls whose lines are shown
- * @property {boolean} [plain]
- * @property {number[]} [fresh]  rows that this list has anew
- * @property {number[]} [hides]  rows that are not shown
- * @property {Record<number, string>} [instead]  the words of a row, in place of its own
- * @property {{ row: number, part: string }[]} [struck]  what is struck out, of the line of a row
- * @property {{ thread: number, row: number }[]} next  the threads, and the rows that they make next
- * @property {{ thread: number, row: number } | null} made  the row that was just made
- * @property {boolean} canStep
- * @property {number} active  the thread that runs to a line where none stands
- */
-
-/** @param {CodeSpec} spec */
-function linesShown({ list, operations, plain, hides = [], instead = {} }) {
-  const isShown = ({ of, rows = [0] }) =>
-    (of === undefined || of.some((name) => operations.includes(name))) && !rows.every((row) => hides.includes(row));
-  const lines = BOOK_CODE[list].filter(isShown).map((line) => ({ ...line, text: instead[line.rows?.[0]] ?? line.text }));
-  if (!plain) return lines;
-  return lines.filter(({ rows }) => rows?.[0] !== 1).map((line) => (line.rows?.includes(10) ? { text: "return", rows: [10] } : line));
-}
-
-function wordsOf(text, rows, struck) {
-  const inBold = (words) => escaped(words).replace(WORDS, "<b>$1</b>");
-  const part = struck.find(({ row }) => rows.includes(row))?.part;
-  if (part === undefined || !text.includes(part)) return inBold(text);
-  const at = text.indexOf(part);
-  const missing = tag("del", {}, tag("span", { class: "unseen" }, "missing: "), escaped(part));
-  return `${inBold(text.slice(0, at))}${missing}${inBold(text.slice(at + part.length))}`;
-}
-
-/** @param {any} line @param {CodeSpec} spec */
-function drawOwnLine({ text, rows = [], isPlain = false }, { next, made, fresh = [], struck = [], canStep, active }) {
-  const here = next.filter(({ row }) => rows.includes(row)).map(({ thread }) => thread);
-  const isMade = made !== null && rows.includes(made.row);
-  const isHead = rows.length === 0 && !isPlain;
-  const kinds = [
-    "line",
-    isHead ? "of" : "",
-    isMade ? `made ${colourOf(made.thread)}` : "",
-    here.length > 0 ? `lit ${colourOf(here[0])}` : "",
-    rows.some((row) => fresh.includes(row)) ? "fresh" : "",
-  ];
-  const words = isHead ? escaped(text.trim()) : wordsOf(text.trim(), rows, struck);
-  const depth = text.match(/^ */)[0].length;
-  const gutter = tag("span", { class: "gutter", "data-run": letterOf(active) }, here.map(chip).join(""));
-  const inside = gutter + tag("code", { style: `padding-left:${depth * 0.4}em` }, words);
-  const given = { class: kinds.filter((kind) => kind !== "").join(" "), "data-rows": rows.join(" ") };
-  if (rows.length === 0 || !canStep) return tag("li", given, tag("span", { class: "row" }, inside));
-  const what = here.length > 0 ? `next line of ${here.map(letterOf).join(" and ")}: press to step` : `${letterOf(active)} runs to this line`;
-  const button = { class: "row", title: what, "aria-label": `${text.trim()}; ${what}`, "data-threads": here.join(" ") };
-  return tag("li", given, tag("button", button, inside));
-}
-
-/** @param {CodeSpec} spec */
-const drawOwnCode = (spec) => tag("ol", { class: "steps" }, ...linesShown(spec).map((line) => drawOwnLine(line, spec)));
-return { drawOwnCode };
-})();
-
-// story/dock.js
-const $story_dock = (() => {
-const { drawContents } = $draw_contents;
-const { drawCalls, scaleOf } = $draw_history;
-const { redraw } = $page_dom;
-const { callText, colourOf, tag } = $run_markup;
-const { phaseText } = $story_phases;
-const { answerText, chip, letterOf } = $story_tale;
-const AGAIN = `<span class="again"><button data-undo class="quiet small" title="take the last press back">↶ One back</button>
-  <button data-again class="quiet small">↺ Start over</button></span>`;
-
-function showDock(figure) {
-  const { spec, run } = figure;
-  const isChanged = run.lines.length !== run.first.length && spec.again !== false;
-  const rows = figure.shown.map((thread) => rowOf(figure, thread)).join("");
-  const isShut = spec.dock === false || figure.hidesDock;
-  redraw(figure.part("dock"), isShut ? "" : rows + (isChanged ? AGAIN : ""));
-}
-
-function rowOf(figure, thread) {
-  const { run, spec } = figure;
-  const own = run.trace.calls.filter((call) => call.thread === thread && call.begun <= run.count);
-  const [next] = figure.left(thread);
-  const isIdle = run.isIdle(thread);
-  if (isIdle && next === undefined) return spec.free ? chooser(figure, thread, own) : restOf(run, thread, own.at(-1));
-  const call = isIdle ? { operation: next[0], key: next[1] } : own.at(-1);
-  const plan = run.nextOf(thread, next);
-  const words = spec.words?.[plan.phase] ?? phaseText(plan.phase, call);
-  const key = letterOf(thread).toLowerCase();
-  const given = { class: "step", "data-step": thread, "aria-keyshortcuts": key, ...(figure.isOpen ? {} : { disabled: "" }) };
-  const button = tag("button", given, words, `<kbd aria-hidden="true">${key}</kbd>`);
-  const waits = plan.waits && plan.steps === 1 ? '<span class="waits">has to wait</span>' : "";
-  return threadRow(thread, `<code>${callText(call)}</code> ${button} ${waits}`);
-}
-
-function threadRow(thread, inside) {
-  const given = { class: `thread ${colourOf(thread)}`, "data-thread": thread, role: "group", "aria-label": `thread ${letterOf(thread)}` };
-  return tag("div", given, chip(thread), " ", inside);
-}
-
-function restOf(run, thread, last) {
-  if (last === undefined) return threadRow(thread, "");
-  const reply = last.ended !== null && run.count >= last.ended ? `<b class="reply ${last.reply}">${answerText(last.reply)}</b>` : "";
-  return threadRow(thread, `<code>${callText(last)}</code> <span class="does">${reply}</span>`);
-}
-
-function chooser(figure, thread, own) {
-  const last = own.at(-1);
-  const [operation, key] = figure.chosen[thread] ?? [last?.operation ?? "add", last?.key ?? 5];
-  const names = figure.spec.operations ?? ["add", "remove", "contains"];
-  const options = names.map((name) => tag("option", name === operation ? { selected: "" } : {}, name));
-  const letter = letterOf(thread);
-  const field = { type: "number", min: 0, max: 999, value: key, "data-key": thread, "aria-label": `number of ${letter}’s call` };
-  const fields = tag("select", { "data-call": thread, "aria-label": `call of ${letter}` }, ...options) + tag("input", field);
-  const reply = last === undefined ? "" : `<small>${callText(last)}: <b class="reply ${last.reply}">${answerText(last.reply)}</b></small>`;
-  return threadRow(thread, `<span class="choose">${fields}<button data-begin="${thread}">begin</button></span> ${reply}`);
-}
-
-function showStrip(figure, lettered) {
-  const { run } = figure;
-  const box = figure.part("strip");
-  const wide = Math.max(280, box.clientWidth);
-  const room = 26 + 9 * `{${run.promised().join(", ")}}`.length; // right of the last event, for what is in the set then
-  const scale = scaleOf(run.trace, run.count, wide - room, true);
-  Object.assign(scale, { edge: scale.edge + room, width: wide });
-  box.innerHTML = drawCalls(run.trace, scale) + drawContents(run.trace, scale);
-  box.querySelectorAll("svg").forEach(lettered);
-}
-
-const SCRUB = `<button class="small" data-move="-1" aria-label="one step back">◂</button>
-  <input type="range" min="0" aria-label="moment of the run"><button class="small" data-move="1" aria-label="one step on">▸</button>
-  <span class="small count"></span>`;
-
-function showScrub(figure) {
-  const box = figure.part("scrub");
-  const { count, trace } = figure.run;
-  if (box.firstElementChild === null) {
-    box.innerHTML = SCRUB;
-    box.querySelector("input").oninput = ({ target }) => figure.moveTo(Number(target.value));
-  }
-  const slider = box.querySelector("input");
-  Object.assign(slider, { max: trace.total, value: count });
-  slider.setAttribute("aria-valuetext", `step ${count} of ${trace.total}: ${figure.part("tale").textContent}`);
-  box.querySelector(".count").textContent = `${count} of ${trace.total}`;
-  box.hidden = !figure.isOpen;
-}
-return { showDock, showStrip, showScrub };
-})();
-
-// story/figure_parts.js
-const $story_figure_parts = (() => {
-const { glide } = $draw_glide;
-const { drawList } = $draw_list;
-const { arranged, shapeFor } = $draw_places;
-const { callText, colourOf } = $run_markup;
-const { momentAt } = $run_sentences;
-const { drawOwnCode } = $story_code;
-const { showDock, showScrub, showStrip } = $story_dock;
-const { inLetters, letterOf, taleOf } = $story_tale;
-const MOST_SCALE = 1.75;
-const MOST_HEIGHT = 0.4; // of the window, for the list
-const NARROW = "(max-width: 760px)";
-const isNarrow = () => matchMedia(NARROW).matches;
-
-
-const codeBox = ({ codeTitle, codeNote = "" }) => `<details class="codebox" ${isNarrow() ? "" : "open"}><summary><b>${codeTitle}</b></summary>
-    <p class="small code-note" ${codeNote === "" ? "hidden" : ""}>${codeNote}</p><span class="runs"></span><div class="lines"></div>
-    <p class="small hint">Press the lit line to step, another line to run there.</p></details>`;
-
-function frameOf({ box, spec }) {
-  box.innerHTML = `<div class="stage"><div class="list" tabindex="0" role="group" aria-label="the list"></div>
-    <p class="tale" aria-live="polite"></p><div class="strip"></div><div class="scrub"></div><div class="dock"></div></div>
-    ${spec.code === false ? "" : codeBox(spec)}`;
-  box.classList.add("fig");
-  box.classList.toggle("wide", spec.code === false);
-  box.classList.toggle("plain", spec.plain === true);
-  box.classList.toggle("short", spec.short === true);
-  box.classList.toggle("undoes", spec.again !== false);
-}
-
-function drawFigure(figure, moment, isNear) {
-  const { run, spec, box } = figure;
-  placeTheList(figure, moment, isNear);
-  const tale = figure.told ?? taleHere(figure, moment);
-  const words = tale === "" ? (spec.tale ?? "") : tale;
-  if (figure.part("tale").innerHTML !== words) figure.part("tale").innerHTML = words;
-  box.classList.toggle("at-end", run.count === run.trace.total);
-  box.classList.toggle("shut", !figure.canStep);
-  showCode(figure, moment);
-  showDock(figure);
-  if (spec.strip) showStrip(figure, lettered);
-  if (spec.scrub) showScrub(figure);
-}
-
-function taleHere({ run, spec }, moment) {
-  if (moment.event === null) return "";
-  const isOfLock = spec.plain === true && moment.event.word === "list.lock";
-  if (!isOfLock || moment.event.answer === undefined) return taleOf(moment, spec);
-  const { answer, call } = moment.event;
-  const before = taleOf(momentAt(run.state, run.count - 1), spec);
-  run.state.moveTo(run.count);
-  return `${before} <b>${callText(call)} answers ${answer}.</b>`;
-}
-
-
-function placeTheList(figure, { state, event }, isNear) {
-  const box = figure.part("list");
-  const room = box.clientWidth;
-  figure.wide = room;
-  if (room === 0) return;
-  const size = arranged(state, event, { ...shapeFor(room), least: 0 });
-  figure.most.height = Math.max(figure.most.height, size.height);
-  const draw = () => {
-    box.innerHTML = drawList(state, event, room, Infinity, { width: 0, height: figure.most.height }, figure.id);
-    const svg = box.firstElementChild;
-    fitList(figure, svg, room, size);
-    if (event !== null) svg.classList.add(colourOf(event.thread));
-    lettered(svg);
-    for (const sign of svg.querySelectorAll("text.pointer")) plainSign(figure.spec, sign);
-    for (const name of svg.querySelectorAll("text.name")) if (/^n\d+$/.test(name.textContent)) name.remove();
+function factsOf(state, { hasEngine }) {
+  const { place, run, task, exercise } = state;
+  return {
+    ...place,
+    hasEngine,
+    kind: task.kind,
+    isJudging: exercise !== null,
+    isClaim: exercise?.level === "claim",
+    isBroken: run.lacks !== null,
   };
-  glide(box, draw, isNear);
 }
 
-function fitList({ spec, most }, svg, room, size) {
-  const [, top, , high] = svg.getAttribute("viewBox").split(" ").map(Number);
-  const isCompact = shapeFor(room).node < 90;
-  most.width = Math.max(most.width, size.width, (spec.roomFor ?? 0) * (isCompact ? 0.76 : 1));
-  const wide = most.width;
-  const tall = Math.max(innerHeight * (spec.high ?? MOST_HEIGHT), spec.least ?? 180);
-  const scale = Math.max(0.5, Math.min(MOST_SCALE, (room - 4) / wide, tall / high));
-  svg.setAttribute("viewBox", `${(size.width - wide) / 2} ${top} ${wide} ${high}`);
-  svg.setAttribute("width", wide * scale);
-  svg.setAttribute("height", high * scale);
-}
+const isFull = ({ view }) => view === null;
+const isSlide = ({ view }) => view === "lecture";
+const isFree = ({ isClaim }) => !isClaim; // of a claim there is no run to step through
 
-function plainSign(spec, sign) {
-  const [, letter, given] = /^(▲ \w+) (.*)$/.exec(sign.textContent);
-  const isTold = spec.list === "lock-free" && spec.isPath !== true;
-  const names = given.split(", ").filter((name) => name !== "succ" || isTold).map((name) => (name === "node" ? "2nd walk" : name));
-  if (names.length === 0) sign.remove();
-  else sign.textContent = `${letter} ${names.join(", ")}`;
-}
-
-function lettered(svg) {
-  for (const text of svg.querySelectorAll("text, title, tspan")) {
-    if (text.children.length === 0) text.textContent = inLetters(text.textContent);
-  }
-  const label = svg.getAttribute("aria-label");
-  if (label !== null) svg.setAttribute("aria-label", inLetters(label));
-}
-
-function markLostNodes({ run, box }) {
-  const has = run.has();
-  const isLost = ({ key }) => run.promised().some((one) => String(one) === key && !has.includes(one));
-  for (const [name, node] of Object.entries(run.state.nodes)) {
-    if (isLost(node)) box.querySelector(`.list [data-part="node ${name}"]`)?.classList.add("lost");
-  }
-}
-
-
-function operationsOf({ spec, run, isGuess }) {
-  const planned = Object.values(spec.calls ?? {}).flat().map(([operation]) => operation);
-  const begun = run.trace.calls.map(({ operation }) => operation);
-  const hidden = isGuess ? (spec.hidden?.operations ?? []) : [];
-  return [...new Set([...(spec.operations ?? []), ...planned, ...begun])].filter((name) => !hidden.includes(name));
-}
-
-function showCode(figure, { state, event, before }) {
-  const box = figure.part("lines");
-  if (box === null) return;
-  const { spec, run, canStep } = figure;
-  const { list, plain, fresh, struck, instead } = spec;
-  const isAble = (thread) => !run.isIdle(thread) || figure.left(thread).length > 0;
-  if (!isAble(figure.active)) figure.active = figure.shown.find(isAble) ?? figure.active;
-  const { active } = figure;
-  const made = event === null || event.deed === "begin" ? null : { row: before.pc, thread: event.thread };
-  const next = state.threads.map((own, thread) => ({ thread, row: own.pc })).filter(({ row }) => row !== 0);
-  const hides = (figure.isGuess ? spec.hidden?.hides : undefined) ?? spec.hides; // some is not told before the guess
-  const scroll = box.scrollTop;
-  box.innerHTML = drawOwnCode({ list, plain, fresh, struck, hides, instead, operations: operationsOf(figure), next, made, canStep, active });
-  box.scrollTop = scroll;
-  const toggles = figure.shown.filter(isAble).map((thread) => toggleOf(thread, active));
-  figure.part("runs").innerHTML = canStep && toggles.length > 1 ? toggles.join("") : "";
-  scrollToLit(box, active);
-}
-
-const toggleOf = (thread, active) => `<button class="who ${colourOf(thread)}" data-active="${thread}" aria-pressed="${thread === active}"
-  title="${letterOf(thread)} runs to another line that is pressed">${letterOf(thread)}</button>`;
-
-function scrollToLit(box, active) {
-  const line = box.querySelector(`.lit.${colourOf(active)}`) ?? box.querySelector(".lit") ?? box.querySelector(".made");
-  if (line === null || box.scrollHeight <= box.clientHeight) return;
-  const y = line.offsetTop - box.offsetTop;
-  if (y < box.scrollTop + 10 || y > box.scrollTop + box.clientHeight - 50) box.scrollTop = y - box.clientHeight / 2;
-}
-return { isNarrow, frameOf, drawFigure, markLostNodes };
-})();
-
-// story/figure_press.js
-const $story_figure_press = (() => {
-const { chip } = $story_tale;
-const MOST_KEY = 999;
-
-function pressed(figure, event) {
-  const button = event.target.closest("button");
-  if (button === null || !figure.box.contains(button)) return;
-  const { step, move, begin, active } = button.dataset;
-  if (step !== undefined) figure.step(Number(step));
-  else if (button.closest("[data-rows]") !== null) pressLine(figure, button);
-  else if (active !== undefined) figure.set({ active: Number(active) });
-  else if ("again" in button.dataset) figure.again();
-  else if ("undo" in button.dataset) figure.undo();
-  else if (move !== undefined) figure.moveTo(figure.run.count + Number(move));
-  else if (begin !== undefined) beginOwn(figure, Number(begin));
-}
-
-function pressLine(figure, button) {
-  if (figure.isBusy || !figure.canStep) return;
-  const rows = button.closest("[data-rows]").dataset.rows.split(" ").map(Number);
-  const here = (button.dataset.threads ?? "").split(" ").filter((text) => text !== "").map(Number);
-  const thread = here.length === 0 || here.includes(figure.active) ? figure.active : here[0];
-  const isIdle = figure.run.isIdle(thread);
-  if (isIdle && figure.left(thread).length === 0) return figure.tell(`${chip(thread)} has no call under way.`);
-  figure.leaves();
-  const from = figure.run.trace.total;
-  if (isIdle) figure.run.begin(thread, figure.left(thread)[0]);
-  const isThere = ({ changes }) => rows.includes(changes.pc);
-  const isOff = (event) => !isThere(event) || event.deed === "exchange";
-  figure.play(thread, figure.run.stepsUntil(thread, here.length > 0 ? isOff : isThere), from);
-}
-
-function chooseCall(figure, row) {
-  const call = [row.querySelector("select").value, row.querySelector("input").value];
-  figure.chosen = { ...figure.chosen, [row.dataset.thread]: call };
-}
-
-function beginOwn(figure, thread) {
-  if (figure.isBusy || !figure.canStep) return;
-  chooseCall(figure, figure.box.querySelector(`[data-thread="${thread}"]`));
-  const [operation, key] = figure.chosen[thread];
-  if (!/^\d+$/.test(key) || Number(key) > MOST_KEY) return figure.tell(`A number from 0 to ${MOST_KEY}, please.`);
-  figure.leaves();
-  figure.active = thread;
-  figure.run.begin(thread, [operation, Number(key)]);
-  figure.draw(true);
-  figure.onStep?.(figure);
-}
-return { pressed, chooseCall, beginOwn };
-})();
-
-// story/figure.js
-const $story_figure = (() => {
-const { momentAt } = $run_sentences;
-const { drawFigure, frameOf, isNarrow, markLostNodes } = $story_figure_parts;
-const { beginOwn, chooseCall, pressed } = $story_figure_press;
-const { LiveRun } = $story_live_run;
-const BIT = 300; // milliseconds between two steps of one press
-const BETWEEN = 450; // and between two presses that the page makes
-const wantsStill = () => matchMedia("(prefers-reduced-motion: reduce)").matches;
-const sleep = (time) => new Promise((done) => setTimeout(done, time));
-const drawn = { count: 0 };
-
-/**
- * @typedef {import("./live_run.js").RunSpec & { [name: string]: any }} FigureSpec  What a run needs; `calls`, of each thread those
- *   that it is to make; `shown`, the threads with a button; `dock`, `code`, `strip`, `scrub`: what is shown besides the list.
- */
-class Figure {
-  id = `f${drawn.count++}`;
-  past = []; // what stood there before each deed
-  isBusy = false; // steps are being shown
-  isHurried = false;
-  isEnded = false;
-  isOpen = true; // the reader may step
-  hidesDock = false;
-  isGuess = false; // what would tell the answer is not shown
-  isLost = false; // the nodes that are lost are lit
-  wide = 0;
-  told = null;
-  onStep = null;
-  onFork = null;
-
-  /** @param {any} box @param {FigureSpec} spec */
-  constructor(box, spec) {
-    this.box = box;
-    this.spec = spec;
-    this.run = new LiveRun(spec);
-    this.shown = spec.shown ?? Array.from({ length: this.run.spec.threads }, (_, thread) => thread);
-    this.active = spec.active ?? 0;
-    this.chosen = spec.chosen ?? {}; // of an idle thread, the call that stands in its fields
-    this.most = { width: 0, height: spec.tall && !isNarrow() ? 262 : 0 }; // room for a node that is sure to come
-    frameOf(this);
-    box.addEventListener("click", (event) => pressed(this, event));
-    box.addEventListener("input", ({ target }) => target.closest(".choose") !== null && chooseCall(this, target.closest("[data-thread]")));
-    this.stretch = new ResizeObserver(() => {
-      if (this.part("list").clientWidth !== this.wide) requestAnimationFrame(() => this.isEnded || this.draw());
-    });
-    this.stretch.observe(this.part("list"));
-    this.draw();
-  }
-
-  end() {
-    this.stretch.disconnect();
-    this.isEnded = true;
-  }
-
-  part(name) {
-    return this.box.querySelector(`.${name}`);
-  }
-
-  set(given) {
-    Object.assign(this, given);
-    this.draw();
-  }
-
-  get canStep() {
-    return this.isOpen && !this.hidesDock && this.spec.dock !== false;
-  }
-
-  left(thread) {
-    const own = this.spec.calls?.[thread] ?? [];
-    return own.slice(this.run.trace.calls.filter((call) => call.thread === thread).length);
-  }
-
-  reset() {
-    this.run.take(this.run.first);
-    Object.assign(this, { past: [], told: null, isLost: false });
-    this.draw();
-  }
-
-  leaves() {
-    this.onFork?.(this);
-    this.past.push([...this.run.lines]);
-  }
-
-  async step(thread) {
-    if (!this.isOpen) return;
-    if (this.isBusy) {
-      this.isHurried = true;
-      return;
-    }
-    const [call] = this.left(thread);
-    if (this.run.isIdle(thread) && call === undefined) return;
-    this.leaves();
-    const next = this.run.nextOf(thread, call);
-    const before = this.run.trace.total;
-    if (next.isBegin) this.run.begin(thread, call);
-    await this.play(thread, next.steps, before);
-  }
-
-  press(thread) {
-    if (!this.canStep || !this.shown.includes(thread)) return;
-    if (this.run.isIdle(thread) && this.left(thread).length === 0 && this.spec.free) beginOwn(this, thread);
-    else this.step(thread);
-  }
-
-  async play(thread, steps, from) {
-    this.active = thread;
-    this.run.go(thread, steps);
-    await this.show(from);
-    if (!this.isEnded) this.onStep?.(this);
-  }
-
-  async show(from) {
-    const { total } = this.run.trace;
-    this.isBusy = true;
-    this.isHurried = false;
-    document.body.dataset.busy = "yes";
-    for (let count = Math.min(from + 1, total); count <= total; count++) {
-      if (this.isEnded) return;
-      if (count < total && (this.isHurried || wantsStill() || this.isHidden(count))) continue;
-      this.run.moveTo(count);
-      this.part("tale").setAttribute("aria-live", count < total ? "off" : "polite"); // of a play only the last sentence is read out
-      this.isBusy = count < total;
-      this.draw(true);
-      if (count < total) await sleep(BIT);
-    }
-    this.isBusy = false;
-    document.body.dataset.busy = "no";
-  }
-
-  async replay(from = 0) {
-    if (this.isBusy) return;
-    this.run.moveTo(from);
-    this.draw();
-    await this.show(from);
-  }
-
-  isHidden(count) {
-    return this.spec.plain === true && this.run.trace.event(count).word === "list.lock";
-  }
-
-  async act(deeds) {
-    const { onStep } = this;
-    this.onStep = null;
-    for (const [thread, many = 1] of deeds) {
-      for (let bit = 0; many === "out" ? bit === 0 || !this.run.isIdle(thread) : bit < many; bit++) {
-        if (this.isEnded) return;
-        await this.step(thread);
-        await sleep(wantsStill() ? 0 : BETWEEN);
-      }
-    }
-    this.onStep = onStep;
-  }
-
-  undo() {
-    if (this.isBusy || this.past.length === 0) return;
-    this.run.take(this.past.pop());
-    this.isLost = false;
-    this.draw(true);
-    this.onStep?.(this);
-  }
-
-  again() {
-    if (this.isBusy) return;
-    this.reset();
-    this.onStep?.(this);
-  }
-
-  tell(text) {
-    this.told = text;
-    this.part("tale").innerHTML = text;
-  }
-
-  draw(isNear = false) {
-    if (isNear) this.told = null;
-    drawFigure(this, momentAt(this.run.state, this.run.count), isNear);
-    if (this.isLost && this.run.count === this.run.trace.total) markLostNodes(this);
-  }
-
-  moveTo(count) {
-    if (this.isBusy) return;
-    const isNear = Math.abs(count - this.run.count) <= 1;
-    this.run.moveTo(count);
-    this.draw(isNear);
-  }
-}
-return { Figure };
-})();
-
-// story/ask_figure.js
-const $story_ask_figure = (() => {
-const { BREAK_LEVELS } = $data_levels;
-const { now } = $page_now;
-const { QUESTIONS } = $story_ask;
-const { APPENDIX } = $story_ask_more;
-const { Figure } = $story_figure;
-const { LIST_WORDS, part, takeFigure } = $story_scene;
-const CHECK_WORDS = {
-  lock: "the lock is ignored",
-  "hand-over-hand": "it lets go of one lock before it has the next",
-  "second-walk": "it does not walk again",
-  "marks-in-validation": "it does not look at the marks",
-  "mark-in-remove": "it marks a node that is marked already",
-  "mark-in-add": "an add does not look at the mark of its pred",
-  "mark-at-key": "a contains does not look at the mark",
+const SEEN = {
+  top: isFull,
+  leave: ({ view }) => view !== null && view !== "embed",
+  scene: ({ screen }) => screen === "scene",
+  bench: ({ screen }) => screen !== "scene",
+  task: (facts) => isStage(facts) && (isFull(facts) || isSlide(facts)),
+  stage: isStage,
+  workshop: (facts) => isStage(facts) && isFull(facts),
+  "question-box": ({ kind, isJudging }) => kind === "example" && !isJudging,
+  "own-head": ({ kind }) => kind === "own",
+  "seed-box": ({ kind }) => kind === "seed",
+  "judge-head": ({ activity }) => activity === "judge",
+  "go-on-here": (facts) => facts.activity !== "judge" && isFull(facts) && facts.hasEngine,
+  past: ({ isJudging, view }) => !isJudging && view !== "list",
+  ticks: ({ isJudging }) => !isJudging,
+  judge: ({ isJudging }) => isJudging,
+  "judge-moments": ({ isClaim }) => isClaim,
+  "judge-note": isFree,
+  "judge-levels": ({ isBroken }) => !isBroken,
+  "report-box": ({ isJudging, hasEngine }) => !isJudging && hasEngine,
+  dock: (facts) => isStage(facts) && isFree(facts),
+  "run-figure": isFree,
+  "key-help-box": isFree,
+  "threads-box": isFree,
+  "table-box": isFree,
+  "listing-box": (facts) => isFree(facts) && !facts.isBroken,
+  told: isFull,
+  order: isFull,
+  "no-engine": ({ hasEngine }) => hasEngine === false,
 };
-const ALL = [...QUESTIONS, ...APPENDIX];
-const itemOf = ({ id }) => ALL.find(({ name }) => name === id);
-const isEmbed = () => now.place.view === "embed";
+return { factsOf, SEEN };
+})();
 
-function takeBranch({ lines, opening, lacks = null, isFree = false }) {
-  const item = itemOf(now.place);
-  const calls = isFree ? {} : item.calls;
-  return takeFigure(new Figure(freshBox(), {
-    list: item.list, lacks, lines, calls, threads: item.threads ?? 2, quota: item.quota ?? 4, opening: opening ?? item.opening,
-    operations: operationsIn(item),
-    strip: true, scrub: true, again: false, free: isFree, short: true, roomFor: 552, high: isEmbed() ? 0.34 : 0.23, least: isEmbed() ? 110 : 180,
-    code: !isEmbed(), codeTitle: LIST_WORDS[item.list], codeNote: lacks === null ? "" : `Here ${CHECK_WORDS[lacks]}.`,
-    struck: BREAK_LEVELS[lacks]?.missing,
-  }));
+// page/places.js
+const $page_places = (() => {
+const { byId, setHidden } = $page_dom;
+const { change } = $page_now;
+const { factsOf, SEEN } = $page_seen;
+function showParts(state) {
+  const facts = factsOf(state, { hasEngine: services.hasEngine });
+  for (const [id, isSeen] of Object.entries(SEEN)) setHidden(byId(id), !isSeen(facts), byId("skip"));
+  const { activity, screen, view } = state.place;
+  const key = [activity, screen, view, facts.hasEngine].join();
+  if (key === placed.key) return;
+  placed.key = key;
+  for (const part of document.querySelectorAll(".of-engine:not([id])")) part.hidden = !facts.hasEngine;
+  Object.assign(document.body.dataset, { activity, screen, view: view ?? "" });
+  for (const link of document.querySelectorAll("nav [data-to]")) {
+    if (link.dataset.to.split(" ").includes(activity)) link.setAttribute("aria-current", "page");
+    else link.removeAttribute("aria-current");
+  }
 }
+const placed = { key: "" };
+const services = { hasEngine: true }; // until it is known that there is none
 
-const operationsIn = ({ lines, rest }) => [...lines, ...rest].filter((line) => line.startsWith("begin")).map((line) => line.split(" ")[2]);
-
-function freshBox() {
-  const box = Object.assign(document.createElement("div"), { id: "figure" });
-  part("#figure").replaceWith(box);
-  return box;
-}
-return { CHECK_WORDS, ALL, itemOf, takeBranch };
+const setView = (view) => change("view", { view });
+return { showParts, services, setView };
 })();
 
 // activities/recorded.js
@@ -9358,92 +8960,19 @@ function drawSeedBox(seed, more) {
 return { FIRST, seedForm, listenToSeedForm, openSeed, taskOfWatch };
 })();
 
-// activities/judge_map.js
-const $activities_judge_map = (() => {
-const { CLASSICS } = $made_classics;
-const { byId } = $page_dom;
-const { examples } = $page_example;
-const { keptUnder } = $page_kept;
-const { escaped } = $run_markup;
-const { itemOf } = $story_ask_figure;
-const { drawCard } = $story_ask_map;
-const { LIST_WORDS } = $story_scene;
-const { JUDGED } = $activities_judging;
-const { drawRecordedBox, listenToRecorded } = $activities_recorded;
-const { listenToSeedForm, seedForm } = $activities_watch;
-function drawJudgeMap() {
-  const judged = Object.keys(keptUnder(JUDGED) ?? {});
-  const cardOf = ({ name, kind }) => {
-    const state = judged.some((run) => run.startsWith(`${name} `)) ? "done" : "";
-    const { title } = itemOf({ id: name });
-    return drawCard({ href: `#example=${name}&judge`, list: LIST_WORDS[kind], title, says: escaped(CLASSICS[name].question), state });
-  };
-  byId("map-judge").innerHTML = `<h1>Judge a run yourself</h1><p class="lead">You see a run without its replies. Say what each call
-    answers, and put a point where it takes effect. The proved <code>check</code> judges your order: any order that explains the run
-    is right.</p><h2>A random run</h2>${seedForm("judge-seed", "Judge a run")}${drawRecordedBox()}<h2>An example, by its question</h2>
-    <div class="cards">${examples().map(cardOf).join("")}</div>`;
-  listenToSeedForm("judge-seed", "&judge");
-  listenToRecorded();
-}
-return { drawJudgeMap };
-})();
-
-// activities/read.js
-const $activities_read = (() => {
-const { byId } = $page_dom;
-const { escaped, tag } = $run_markup;
-const { drawCard } = $story_ask_map;
-const PAGES = [
-  ["how-it-works.html", "How it works", "The five lists, from one lock to none, each with the runs that show why."],
-  ["classic.html", "The examples", "Eighteen runs, each with its question, the answer, and what goes wrong without the check."],
-  ["tables.html", "The step tables", "Each list row by row: what a step reads and writes, and which row comes next."],
-  ["tables.html#progress", "Progress: blocking, lock-free, wait-free", "Which calls of each list may block, and within how many steps a call ends."],
-];
-const TERMS = {
-  event: "The begin of a call, or one step of it: one load, store or compare-and-exchange of one word.",
-  schedule: "Which thread makes the next step, from the first event to the last. It is the whole input of a run.",
-  history: "The calls with their begin, end, thread and reply. Two calls overlap if neither ends before the other begins.",
-  pending: "A call that has begun and not ended.",
-  "takes effect": "At its linearization point: the moment between begin and end at which a call counts in the order.",
-  order: "The calls one after the other. It explains a run if a sequential set gives the same replies in this order.",
-  linearizable: "Some order explains the replies, and keeps each pair of calls that do not overlap as they were.",
-  "row, step table": "The algorithm as numbered steps; a row says what the thread does next.",
-  "pred, curr": "The two nodes that a walk holds: curr is the next one behind pred.",
-  marked: "A node whose key is removed; it may still be in the chain until it is unlinked.",
-  "quota, slot": "How many keys a thread can add in all. Each needs a slot, a node of its own; then add answers full.",
-  "not linearizable": "Proved of a report by a few of its calls: no order of them explains their replies.",
-};
-
-function drawReadMap() {
-  const cards = PAGES.map(([href, title, says]) => drawCard({ href, list: "", title, says: escaped(says) }));
-  const terms = Object.entries(TERMS).map(([term, says]) => `<div><dt>${term}</dt><dd>${escaped(says)}</dd></div>`);
-  const isAlone = document.body.dataset.alone !== undefined; // the page is one file, without the others beside it
-  const pages = isAlone ? "" : tag("div", { class: "cards" }, ...cards);
-  const words = tag("dl", { class: "words card" }, ...terms);
-  const heads = ["Read", "Terms", "What is proved, and what is not"].map((text, at) => tag(at === 0 ? "h1" : "h2", {}, text));
-  byId("map-read").innerHTML = [heads[0], pages, heads[1], words, heads[2]].join("");
-  const box = byId("proved").querySelector("details");
-  const copy = document.createElement("div");
-  copy.className = "proved";
-  copy.innerHTML = box.innerHTML.replace(/<summary>.*?<\/summary>/, "");
-  byId("map-read").append(copy);
-}
-return { PAGES, drawReadMap };
-})();
-
 // activities/open.js
 const $activities_open = (() => {
 const { TRACES } = $made_traces;
 const { numberOfLevel } = $data_chapter;
 const { byId } = $page_dom;
+const { showMarks } = $page_editor;
 const { isExample, openKept } = $page_example;
 const { HERE, isText, keepWork, keptUnder, works } = $page_kept;
 const { fillWorks, pickExample } = $page_menu;
 const { exampleShown, goTo, held, now, tell } = $page_now;
-const { goToPlace, setView } = $page_places;
+const { setView } = $page_places;
 const { stopPlay } = $page_play;
 const { entryOf } = $page_state;
-const { showMarks } = $page_view;
 const { keepSoon, visit } = $page_visit;
 const { sceneOfHash } = $page_scene_address;
 const { openTask, openWork, ownTask } = $page_work;
@@ -9452,29 +8981,18 @@ const { escaped } = $run_markup;
 const { learning } = $story_learning;
 const { keptStory } = $story_kept_story;
 const { faultOfScene, openScene } = $story_scene;
-const { openCompare } = $activities_compare;
 const { showCourseText, takeCourseOfAddress } = $activities_courses;
 const { beginJudging } = $activities_judge_begin;
-const { drawJudgeMap } = $activities_judge_map;
-const { drawReadMap } = $activities_read;
 const { showRecorded } = $activities_recorded;
 const { FIRST, openSeed } = $activities_watch;
-const MAPS = { judge: drawJudgeMap, read: drawReadMap };
 const WANTS_ENGINE = { learn: "a lesson", judge: "runs to judge", break: "a broken list", compare: "two lists side by side" };
 
 function needEngine(what) {
   if (held.engine === null) throw new AddressFault(`the address names ${what}, which cannot be run here`);
 }
 
-function showMap(activity) {
-  stopPlay();
-  MAPS[activity]();
-  goToPlace(activity, "map");
-  scrollTo(0, 0);
-}
-
 function openStory(place) {
-  needEngine("a place where threads step");
+  if (place.activity !== "read") needEngine(WANTS_ENGINE[place.activity] ?? "a place where threads step");
   if (place.activity === "story" && place.id === "") place.id = String(keptStory().at);
   const fault = faultOfScene({ id: "", given: {}, ...place });
   if (fault !== null) throw new AddressFault(fault);
@@ -9487,12 +9005,10 @@ const openLevel = (id, text, view) => openStory({ activity: "break", id, given: 
 
 /** @param {string[]} place @param {any} wanted */
 function openPlace([activity, value], { text, event, view }) {
-  if (activity in WANTS_ENGINE) needEngine(WANTS_ENGINE[activity]);
   if (activity === "break") return openLevel(value, text, view);
   if (activity === "watch" && value === "") return openStory({ activity: "ask", view });
-  if (activity === "compare") return openCompare(null);
   if (activity === "learn") return openStory({ activity, id: value, given: text === null ? {} : { text }, view });
-  if (activity !== "watch") return showMap(activity);
+  if (activity !== "watch") return openStory({ activity, view });
   if (text === null) openRun({ seed: null, example: value, event });
   else openLink({ text, event, lacks: null });
 }
@@ -9544,10 +9060,8 @@ async function openAddress(hash) {
     setView(wanted.view);
     if (wanted.course !== null) await openCourse(wanted);
     else if (wanted.place !== null) openPlace(wanted.place, wanted);
-    else if (wanted.sides !== null) {
-      needEngine("two lists side by side");
-      openCompare(wanted.sides);
-    } else if (wanted.example !== null || wanted.text !== null || wanted.seed !== null) openRun(wanted);
+    else if (wanted.sides !== null) openStory({ activity: "compare", given: wanted.sides, view: wanted.view });
+    else if (wanted.example !== null || wanted.text !== null || wanted.seed !== null) openRun(wanted);
     else return false;
     return true;
   } catch (fault) {
@@ -9558,7 +9072,7 @@ async function openAddress(hash) {
 }
 
 function openRecorded(text) {
-  showMap("judge");
+  openStory({ activity: "judge" });
   showRecorded(text);
 }
 
@@ -9616,93 +9130,136 @@ function bringBack() {
 return { openRecorded, openCourseFile, followAddress, showBeforehand, openFirst };
 })();
 
-// draw/code_column.js
-const $draw_code_column = (() => {
-const { LISTS } = $made_rows;
-const { BOOK_CODE, IDEAS } = $data_book_code;
-const { chipOf, colourOf, escaped, tag } = $run_markup;
-const KEYWORDS = /\b(while|if|else|return|loop|until|unlock|lock|find|validate|CAS|mark|new|add|remove|contains|ceiling)\b/g;
+// story/give.js
+const $story_give = (() => {
+const { copied } = $page_visit;
+const { part } = $story_scene;
+async function copyText(text, words) {
+  part("#scene-told").textContent = (await copied(text)) ? words : `Copy this by hand: ${text}`;
+}
+return { copyText };
+})();
 
-function linesFor(kind, operations) {
-  const calls = operations.length === 0 ? ["add", "remove", "contains"] : operations;
-  return BOOK_CODE[kind].filter(({ of }) => of === undefined || of.some((name) => calls.includes(name)));
+// story/assignment_view.js
+const $story_assignment_view = (() => {
+const { BOOK_NAME } = $made_book;
+const { handInText } = $course_hand_in;
+const { saveText } = $page_files;
+const { now } = $page_now;
+const { counted, escaped, tag } = $run_markup;
+const { linesDone, tasksOf } = $story_assignment;
+const { copyText } = $story_give;
+const { keepStory, keptStory, startAfresh } = $story_kept_story;
+const { foot, head, part } = $story_scene;
+const titleOfAssignment = ({ id }) => id || "Assignment";
+
+function doneOf(place) {
+  const { tasks, unknown } = tasksOf(place.given);
+  const lines = linesDone(tasks);
+  return { tasks, unknown, lines, done: tasks.filter(({ id }) => lines[id] !== undefined) };
 }
 
-const operationsOf = (trace) => [...new Set(trace.calls.map(({ operation }) => operation))];
-
-const LETTERS = 7; // that stand left of a line, the edge of a chip for one more each
-
-function drawWho(threads) {
-  const numbers = threads.map(String);
-  const cut = numbers.map((_, at) => [...numbers.slice(0, -1 - at), `+${at + 1}`]);
-  const lettersOf = (texts) => texts.reduce((sum, text) => sum + text.length + 1, 0);
-  const texts = [numbers.map((number) => `t${number}`), numbers, ...cut].find((form) => lettersOf(form) <= LETTERS);
-  return texts.map((text, at) => tag("span", { class: text.startsWith("+") ? "chip" : `chip ${colourOf(threads[at])}` }, text)).join("");
+function itemOf({ kind, title, says, href }, isDone) {
+  const tick = tag("i", { class: "tick", role: "img", "aria-label": isDone ? "done" : "open" }, isDone ? "✓" : "");
+  const words = `${tag("span", { class: "kind" }, kind)}<b>${escaped(title)}</b>${tag("span", { class: "says" }, escaped(says))}`;
+  return tag("li", { class: isDone ? "done" : "" }, tag("a", { class: "task", href }, tick, words));
 }
 
-function drawLine(line, number, { made, next }) {
-  const { text, rows = [] } = line;
-  const isMade = rows.includes(made);
-  const threads = next.filter(({ row }) => rows.includes(row)).map(({ thread }) => thread);
-  const depth = text.match(/^ */)[0].length;
-  const [code, colon = "", prose = ""] = rows.length === 0 ? text.trim().split(/(?<=\)(:)) {2}/) : [text.trim()]; // a heading ends in a remark
-  const words = escaped(code).replace(KEYWORDS, "<b>$1</b>") + (colon === "" ? "" : `&ensp;<i>${escaped(prose)}</i>`);
-  const kind = ["code-line", rows.length === 0 && !line.isPlain ? "heads" : "", isMade ? "made" : "", threads.length > 0 ? "next" : ""];
-  const names = threads.map((thread) => `t${thread}`).join(" and ");
-  const told = threads.length > 0 ? tag("span", { class: "unseen" }, `, next of ${names}`) : "";
-  return tag(
-    "li",
-    { class: kind.filter((word) => word !== "").join(" "), ...(rows.length > 0 ? { title: `row ${rows.join(", ")} of the table` } : {}) },
-    tag("span", { class: "who", "aria-hidden": "true" }, drawWho(threads)),
-    tag("code", { style: `padding-left:${depth * 0.45}em` }, words, told),
-  );
+const HAND = ({ student, number }, count) => `<section class="panel hand" id="hand"><h2>Hand in</h2>
+  <div class="line"><label>Name <input id="hand-student" autocomplete="name" value="${escaped(student)}"></label>
+  <label>Student number <input id="hand-number" inputmode="numeric" value="${escaped(number)}"></label>
+  <button data-do="copy">Copy the text</button><button data-do="save">Save as a file</button>
+  <button class="quiet" data-do="afresh">Start afresh on this computer</button></div>
+  <p class="small" id="scene-told" role="status">The text has your ${count} solutions as schedules. Your teacher’s page runs each of them again.</p>
+  <details><summary>See the text</summary><pre id="hand-text"></pre></details></section>`;
+
+function html(place) {
+  const { tasks, unknown, lines, done } = doneOf(place);
+  const first = tasks.find(({ id }) => lines[id] === undefined);
+  const wrong = unknown.length === 0 ? "" : `<p class="again">This page does not know: ${escaped(unknown.join(", "))}. Tell your teacher.</p>`;
+  const lead = `<p class="lead">${counted(tasks.length, "task")}, ${done.length} done in this browser. Come back by the same link: what is done stays ticked.</p>
+    <progress max="${tasks.length || 1}" value="${done.length}" aria-label="${done.length} of ${tasks.length} done"></progress>${wrong}
+    <p class="small">New to this? <a href="#story=1">Why not just one lock?</a> Fifteen minutes, from nothing.</p>`;
+  const verb = done.length === 0 ? "Begin" : "Go on";
+  const next = (task) => tag("a", { class: "button primary", href: task.href }, `${verb}: ${escaped(task.title)} →`);
+  const bar = first === undefined ? foot("All done.", '<button class="primary" data-do="hand">Hand in ↑</button>') : foot("", next(first));
+  const items = tasks.map((task) => itemOf(task, lines[task.id] !== undefined));
+  const title = head("Assignment", escaped(titleOfAssignment(place)), lead, "title");
+  return `${title}${tag("ol", { class: "tasks" }, ...items)}${HAND(keptStory(), done.length)}${bar}`;
 }
 
-function drawCode({ trace, state, event, before }) {
-  const { kind } = trace;
-  const made = event === null || event.deed === "begin" ? null : before.pc;
-  const next = state.threads.map((held, thread) => ({ thread, row: held.pc })).filter(({ row }) => row !== 0);
-  const lines = linesFor(kind, operationsOf(trace));
-  const known = new Set(lines.flatMap(({ rows = [] }) => rows));
-  const lost = next.filter(({ row }) => !known.has(row)).map(({ thread }) => chipOf(thread));
-  const own = lost.length === 0 ? "" : tag("p", { class: "note" }, `${lost.join(" ")} at a step that the correct list does not have.`);
-  const lacks = trace.lacks === null ? "" : tag("p", { class: "lacks" }, "The code of the correct list. The list that runs here lacks one of its checks.");
-  const items = lines.map((line, index) => drawLine(line, index + 1, { made, next }));
-  const head = tag("div", { class: "code-head" }, tag("h2", {}, LISTS[kind].name), tag("p", {}, IDEAS[kind]));
-  return `${head}${lacks}${tag("ol", { class: "book-code", "aria-label": `the algorithm of ${LISTS[kind].name}` }, ...items)}${own}`;
+function begin({ id, given }) {
+  keepStory({ homework: { id, given } }); // its tasks lead back to it
+  for (const name of ["student", "number"]) part(`#hand-${name}`).oninput = fill;
+  fill();
 }
-return { drawCode };
+
+function textNow() {
+  const [student, number] = ["student", "number"].map((name) => part(`#hand-${name}`).value.trim());
+  keepStory({ student, number });
+  const { done, lines } = doneOf(now.place);
+  return handInText(BOOK_NAME, `${student || "?"}${number === "" ? "" : ` (${number})`}`, [], done.map(({ id }) => lines[id]));
+}
+
+const fill = () => (part("#hand-text").textContent = textNow());
+
+function isNamed() {
+  if (part("#hand-student").value.trim() !== "") return true;
+  part("#scene-told").textContent = "Your name first, please.";
+  part("#hand-student").focus();
+  return false;
+}
+
+const fileName = () => `${part("#hand-student").value.trim().toLowerCase().replace(/\W+/g, "-") || "hand-in"}.txt`;
+
+/** @type {import("./scene.js").View} */
+const assignmentView = {
+  kind: "assignment",
+  title: (place) => `${titleOfAssignment(place)} · Why not just one lock?`,
+  html,
+  begin,
+  deeds: {
+    copy: () => isNamed() && copyText(textNow(), "The text is copied: paste it where you hand in."),
+    save: () => isNamed() && saveText(fileName(), textNow()),
+    afresh: startAfresh,
+    hand: () => {
+      part("#hand").scrollIntoView({ behavior: "smooth" });
+      part("#hand-student").focus();
+    },
+  },
+};
+return { titleOfAssignment, assignmentView };
 })();
 
 // activities/place.js
 const $activities_place = (() => {
-const { drawCode } = $draw_code_column;
 const { titleIn } = $page_address_of;
-const { byId, setHtml } = $page_dom;
+const { byId } = $page_dom;
 const { held, now } = $page_now;
-const { titleOfSides } = $activities_compare;
-const { addressOfCode } = $page_scene_address;
+const { addressOfAssignment, addressOfCode } = $page_scene_address;
 const { scheduleOfTrace } = $run_schedule_text;
+const { hasTask } = $story_assignment;
+const { titleOfAssignment } = $story_assignment_view;
+const { keptStory } = $story_kept_story;
 const { linesOf } = $story_live_run;
 const { titleOfScene } = $story_scene;
 const { taskOfWatch } = $activities_watch;
-const TASKS = { watch: taskOfWatch, judge: taskOfWatch };
-const TITLES = {
-  get sides() {
-    return titleOfSides();
-  },
-  get scene() {
-    return titleOfScene(now.place);
-  },
-};
+function showHome() {
+  const { homework } = keptStory();
+  const isTask = homework !== null && now.place.view === null && hasTask(homework.given, now.place, now.task);
+  byId("home").hidden = !isTask;
+  if (!isTask) return;
+  byId("home").textContent = `← Back to ${titleOfAssignment(homework)}`;
+  byId("home").href = addressOfAssignment(homework);
+}
 
-function showPlace(moment) {
-  document.title = titleIn(held.state, TITLES);
+function showPlace() {
+  document.title = titleIn(held.state, titleOfScene);
+  showHome();
   if (now.place.screen !== "stage") return;
-  setHtml(byId("book-code"), drawCode(moment));
   const { trace, count } = now.run;
   byId("go-on-here").hash = addressOfCode(trace.kind, trace.opening, linesOf(scheduleOfTrace(trace, count)), trace);
-  const links = TASKS[now.place.activity]();
+  const links = taskOfWatch();
   for (const name of ["before", "next"]) {
     byId(`task-${name}`).hidden = links[name] === null;
     if (links[name] !== null) byId(`task-${name}`).href = links[name];
@@ -9712,175 +9269,47 @@ function showPlace(moment) {
 return { showPlace };
 })();
 
-// page/save_picture.js
-const $page_save_picture = (() => {
-const { byId } = $page_dom;
-const { saveText } = $page_files;
-const { isJudging } = $page_now;
-const DRAWN_BY = ["fill", "stroke", "stroke-width", "stroke-dasharray", "fill-opacity", "stroke-opacity", "opacity", "font-family",
-  "font-size", "font-weight", "font-style", "text-anchor", "paint-order", "text-decoration-line"];
+// story/ask_figure.js
+const $story_ask_figure = (() => {
+const { BREAK_LEVELS } = $data_levels;
+const { now } = $page_now;
+const { QUESTIONS } = $story_ask;
+const { APPENDIX } = $story_ask_more;
+const { Figure } = $story_figure;
+const { LIST_WORDS, part, takeFigure } = $story_scene;
+const CHECK_WORDS = {
+  lock: "the lock is ignored",
+  "hand-over-hand": "it lets go of one lock before it has the next",
+  "second-walk": "it does not walk again",
+  "marks-in-validation": "it does not look at the marks",
+  "mark-in-remove": "it marks a node that is marked already",
+  "mark-in-add": "an add does not look at the mark of its pred",
+  "mark-at-key": "a contains does not look at the mark",
+};
+const ALL = [...QUESTIONS, ...APPENDIX];
+const itemOf = ({ id }) => ALL.find(({ name }) => name === id);
+const isEmbed = () => now.place.view === "embed";
 
-function drawnOut(svg) {
-  const copy = svg.cloneNode(true);
-  const parts = [...svg.querySelectorAll("*")];
-  [...copy.querySelectorAll("*")].forEach((part, index) => {
-    const style = getComputedStyle(parts[index]);
-    for (const name of DRAWN_BY) part.style.setProperty(name, style.getPropertyValue(name));
-  });
-  return copy;
+function takeBranch({ lines, opening, lacks = null, isFree = false }) {
+  const item = itemOf(now.place);
+  const calls = isFree ? {} : item.calls;
+  return takeFigure(new Figure(freshBox(), {
+    list: item.list, lacks, lines, calls, threads: item.threads ?? 2, quota: item.quota ?? 4, opening: opening ?? item.opening,
+    operations: operationsIn(item),
+    strip: true, scrub: true, again: false, free: isFree, short: true, roomFor: 552, high: isEmbed() ? 0.34 : 0.23, least: isEmbed() ? 110 : 180,
+    code: !isEmbed(), codeTitle: LIST_WORDS[item.list], codeNote: lacks === null ? "" : `Here ${CHECK_WORDS[lacks]}.`,
+    struck: BREAK_LEVELS[lacks]?.missing,
+  }));
 }
 
-function wholePicture() {
-  const places = isJudging() ? ["list", "judge-bars"] : ["list", "calls", "contents"];
-  const drawings = places.map((id) => byId(id).querySelector("svg")).filter((svg) => svg !== null && svg.clientWidth > 0);
-  const boxes = drawings.map((svg) => ({ svg, width: svg.clientWidth, height: svg.clientHeight }));
-  const width = Math.max(...boxes.map((box) => box.width));
-  let y = 0;
-  const placed = boxes.map(({ svg, width: own, height }) => {
-    const copy = drawnOut(svg);
-    Object.entries({ x: 0, y, width: own, height }).forEach(([name, value]) => copy.setAttribute(name, value));
-    y += height + 8;
-    return new XMLSerializer().serializeToString(copy);
-  });
-  const ground = `<rect width="100%" height="100%" fill="${getComputedStyle(document.body).backgroundColor}"/>`;
-  const frame = `width="${width}" height="${y}" viewBox="0 0 ${width} ${y}"`;
-  return `<svg xmlns="http://www.w3.org/2000/svg" ${frame}>${ground}${placed.join("")}</svg>\n`;
+const operationsIn = ({ lines, rest }) => [...lines, ...rest].filter((line) => line.startsWith("begin")).map((line) => line.split(" ")[2]);
+
+function freshBox() {
+  const box = Object.assign(document.createElement("div"), { id: "figure" });
+  part("#figure").replaceWith(box);
+  return box;
 }
-
-const savePicture = () => saveText("page.svg", wholePicture());
-return { savePicture };
-})();
-
-// page/controls.js
-const $page_controls = (() => {
-const { HISTORY_LEFT } = $draw_history;
-const { escaped } = $run_markup;
-const { byId } = $page_dom;
-const { openFile, refreshReport, saveText } = $page_files;
-const { keepUnder, keptUnder } = $page_kept;
-const { toggleKeys, toggleLecture } = $page_keys;
-const { cancelLong } = $page_long_run;
-const { chooseInList } = $page_menu;
-const { change, dispatch, now, show, tell } = $page_now;
-const { PHONE } = $page_places;
-const { changeSpeed, goByHand, togglePlay, wantsLessMotion } = $page_play;
-const { savePicture } = $page_save_picture;
-const { drawnHistory, showMarks, watchEditor } = $page_view;
-const { copyLink, keepSoon } = $page_visit;
-const { newSchedule, runBox, runWithOpening } = $page_work;
-function clickHistory(event) {
-  const drawn = byId("calls").firstElementChild.getBoundingClientRect();
-  goByHand(drawnHistory.scale.first - 1 + Math.ceil((event.clientX - drawn.left - HISTORY_LEFT) / drawnHistory.scale.step));
-}
-
-const tooltipOf = (target) => target.closest("g, svg")?.querySelector(":scope > title")?.textContent ?? "";
-
-function tellTitle(event) {
-  const said = tooltipOf(event.target);
-  if (said !== "") tell(escaped(said));
-}
-
-function listenToDrawings() {
-  byId("turns").onclick = (event) => event.target.dataset.event && goByHand(Number(event.target.dataset.event));
-  byId("list").onclick = tellTitle;
-  byId("history").onclick = (event) => {
-    const said = tooltipOf(event.target);
-    clickHistory(event);
-    tell(escaped(said));
-  };
-  byId("all-threads").onclick = () => {
-    dispatch("prefs", { allThreads: !now.prefs.allThreads });
-  };
-  for (const name of ["table-box", "listing-box", "threads-box", "turns-box"]) byId(name).ontoggle = show;
-}
-
-function stopUnable(event) {
-  if (event.target.closest?.('[aria-disabled="true"]') == null) return;
-  event.stopPropagation();
-  event.preventDefault();
-}
-
-function skipToRun() {
-  const first = {
-    map: `#map-${now.place.activity} a, [data-activity=compare] #sides-turns button`,
-    stage: "#next",
-    scene: "#scene :is(.option, .fig button, .card, .foot .primary)",
-  };
-  document.querySelector(first[now.place.screen])?.focus();
-}
-
-function bringList() {
-  const { top } = byId("said").getBoundingClientRect();
-  const isSeen = top >= 0 && byId("list").getBoundingClientRect().bottom <= byId("dock").getBoundingClientRect().top;
-  if (innerWidth <= PHONE && !isSeen) scrollTo(0, scrollY + top - 8);
-}
-
-function listenToBar() {
-  byId("dock").addEventListener("click", bringList);
-  byId("first").onclick = () => goByHand(0);
-  byId("back").onclick = () => goByHand(now.run.count - 1);
-  byId("next").onclick = () => goByHand(now.run.count + 1);
-  byId("last").onclick = () => goByHand(now.run.trace.total);
-  byId("play").onclick = togglePlay;
-  byId("speed").onchange = changeSpeed;
-  byId("speed").value = wantsLessMotion() ? "slow" : "medium";
-  byId("slider").oninput = () => goByHand(Number(byId("slider").value));
-  byId("keys").onclick = toggleKeys;
-  byId("skip").onclick = skipToRun;
-  for (const name of ["lecture", "leave"]) byId(name).onclick = toggleLecture;
-  byId("link-here").onclick = copyLink;
-  byId("long-cancel").onclick = cancelLong;
-}
-
-function listenToSettings() {
-  const kept = keptUnder(SETTINGS) ?? {};
-  change("prefs", { hides: kept.hides !== false, letters: kept.letters !== false });
-  byId("hides").checked = now.prefs.hides;
-  byId("single-keys").checked = now.prefs.letters;
-  for (const [name, id] of [["hides", "hides"], ["letters", "single-keys"]]) {
-    byId(id).onchange = () => {
-      dispatch("prefs", { [name]: byId(id).checked });
-      keepUnder(SETTINGS, { hides: now.prefs.hides, letters: now.prefs.letters });
-    };
-  }
-}
-const SETTINGS = "listset-settings";
-
-function listenToWork() {
-  const box = byId("schedule");
-  byId("examples").onchange = () => chooseInList(byId("examples").value);
-  byId("run").onclick = runBox;
-  byId("opening").onchange = runWithOpening;
-  byId("link").onclick = copyLink;
-  byId("new").onclick = () => newSchedule(byId("new-list").value, byId("new-threads").value, byId("new-quota").value);
-  box.onscroll = showMarks;
-  watchEditor();
-  box.oninput = () => {
-    showMarks();
-    keepSoon();
-  };
-  box.onkeydown = (event) => {
-    if (event.key === "Enter" && (event.ctrlKey || event.metaKey)) runBox();
-  };
-}
-
-function listenToFiles() {
-  byId("report-box").ontoggle = refreshReport;
-  byId("file").onchange = () => openFile(byId("file").files[0]).then(() => (byId("file").value = ""));
-  byId("save-schedule").onclick = () => saveText("page.schedule", byId("schedule").value);
-  byId("save-trace").onclick = () => saveText("now.run.trace", now.run.trace.text);
-  byId("save-picture").onclick = savePicture;
-}
-
-function placeParts() {
-  const narrow = matchMedia("(max-width: 940px)");
-  const place = () => {
-    for (const name of ["schedule-box", "new-box", "files-box", "threads-box"]) byId(name).open = !narrow.matches;
-  };
-  narrow.addEventListener("change", place);
-  place();
-}
-return { listenToDrawings, stopUnable, listenToBar, listenToSettings, listenToWork, listenToFiles, placeParts };
+return { CHECK_WORDS, ALL, itemOf, takeBranch };
 })();
 
 // story/ask_branches.js
@@ -9929,7 +9358,6 @@ async function openBranch(at, plays = false) {
   await figure.replay(hasOwnRun ? 0 : Math.min(asked, figure.run.trace.total - 1));
   if (scene.figure !== figure) return;
   setScene({ stage: "done" });
-  part("#talk").scrollIntoView({ block: "nearest", behavior: "smooth" });
 }
 
 const goBack = () => openBranch(0);
@@ -10042,13 +9470,12 @@ async function guessed(index) {
   if (scene.figure !== figure) return;
   setScene({ branches: [{ ...now.scene.branches[0], from: asked }] });
   openBranch(0);
-  part("#talk").scrollIntoView({ block: "nearest", behavior: "smooth" });
 }
 
 
 function talkOf({ stage, chosen, at, branches }) {
   const item = here();
-  const reply = replyTo(item.options, chosen);
+  const reply = replyTo(item.options, chosen, stage === "playing");
   if (stage === "guess") return optionButtons(item.options.map(({ text }) => text));
   if (stage === "playing") return at === 0 ? reply || '<p class="you">Let us see.</p>' : '<p class="you">Now on a list without its check.</p>';
   if (at > 0) return talkOfBranch(branches[at]);
@@ -10057,7 +9484,7 @@ function talkOf({ stage, chosen, at, branches }) {
       <p class="line"><button data-do="home">← Back to the example</button></p>`;
   }
   const without = item.lacks === undefined ? "" : '<button data-do="without">And without this check?</button>';
-  return `<div class="reveal"><div>${reply}<p class="why">${item.why}</p><p class="line more"><button data-do="if">What if …?</button> ${without}
+  return `<div class="reveal${item.options[chosen]?.right ? "" : " other"}"><div>${reply}<p class="why">${item.why}</p><p class="line more"><button data-do="if">What if …?</button> ${without}
     <button data-do="again" class="quiet">See it again</button></p></div></div>`;
 }
 
@@ -10107,106 +9534,6 @@ const askView = {
   },
 };
 return { askView };
-})();
-
-// story/give.js
-const $story_give = (() => {
-const { copied } = $page_visit;
-const { part } = $story_scene;
-async function copyText(text, words) {
-  part("#scene-told").textContent = (await copied(text)) ? words : `Copy this by hand: ${text}`;
-}
-return { copyText };
-})();
-
-// story/assignment_view.js
-const $story_assignment_view = (() => {
-const { BOOK_NAME } = $made_book;
-const { handInText } = $course_hand_in;
-const { saveText } = $page_files;
-const { now } = $page_now;
-const { counted, escaped, tag } = $run_markup;
-const { linesDone, tasksOf } = $story_assignment;
-const { copyText } = $story_give;
-const { keepStory, keptStory, startAfresh } = $story_kept_story;
-const { foot, head, part } = $story_scene;
-const titleOf = ({ id }) => id || "Assignment";
-
-function doneOf(place) {
-  const { tasks, unknown } = tasksOf(place.given);
-  const lines = linesDone(tasks);
-  return { tasks, unknown, lines, done: tasks.filter(({ id }) => lines[id] !== undefined) };
-}
-
-function itemOf({ kind, title, says, href }, isDone) {
-  const tick = tag("i", { class: "tick", role: "img", "aria-label": isDone ? "done" : "open" }, isDone ? "✓" : "");
-  const words = `${tag("span", { class: "kind" }, kind)}<b>${escaped(title)}</b>${tag("span", { class: "says" }, escaped(says))}`;
-  return tag("li", { class: isDone ? "done" : "" }, tag("a", { class: "task", href }, tick, words));
-}
-
-const HAND = ({ student, number }, count) => `<section class="panel hand" id="hand"><h2>Hand in</h2>
-  <div class="line"><label>Name <input id="hand-student" autocomplete="name" value="${escaped(student)}"></label>
-  <label>Student number <input id="hand-number" inputmode="numeric" value="${escaped(number)}"></label>
-  <button data-do="copy">Copy the text</button><button data-do="save">Save as a file</button>
-  <button class="quiet" data-do="afresh">Start afresh on this computer</button></div>
-  <p class="small" id="scene-told" role="status">The text has your ${count} solutions as schedules. Your teacher’s page runs each of them again.</p>
-  <details><summary>See the text</summary><pre id="hand-text"></pre></details></section>`;
-
-function html(place) {
-  const { tasks, unknown, lines, done } = doneOf(place);
-  const first = tasks.find(({ id }) => lines[id] === undefined);
-  const wrong = unknown.length === 0 ? "" : `<p class="again">This page does not know: ${escaped(unknown.join(", "))}. Tell your teacher.</p>`;
-  const lead = `<p class="lead">${counted(tasks.length, "task")}, ${done.length} done in this browser. Come back by the same link: what is done stays ticked.</p>
-    <progress max="${tasks.length || 1}" value="${done.length}" aria-label="${done.length} of ${tasks.length} done"></progress>${wrong}
-    <p class="small">New to this? <a href="#story=1">Why not just one lock?</a> Fifteen minutes, from nothing.</p>`;
-  const verb = done.length === 0 ? "Begin" : "Go on";
-  const next = (task) => tag("a", { class: "button primary", href: task.href }, `${verb}: ${escaped(task.title)} →`);
-  const bar = first === undefined ? foot("All done.", '<button class="primary" data-do="hand">Hand in ↑</button>') : foot("", next(first));
-  const items = tasks.map((task) => itemOf(task, lines[task.id] !== undefined));
-  const title = head("Assignment", escaped(titleOf(place)), lead, "title");
-  return `${title}${tag("ol", { class: "tasks" }, ...items)}${HAND(keptStory(), done.length)}${bar}`;
-}
-
-function begin() {
-  for (const name of ["student", "number"]) part(`#hand-${name}`).oninput = fill;
-  fill();
-}
-
-function textNow() {
-  const [student, number] = ["student", "number"].map((name) => part(`#hand-${name}`).value.trim());
-  keepStory({ student, number });
-  const { done, lines } = doneOf(now.place);
-  return handInText(BOOK_NAME, `${student || "?"}${number === "" ? "" : ` (${number})`}`, [], done.map(({ id }) => lines[id]));
-}
-
-const fill = () => (part("#hand-text").textContent = textNow());
-
-function isNamed() {
-  if (part("#hand-student").value.trim() !== "") return true;
-  part("#scene-told").textContent = "Your name first, please.";
-  part("#hand-student").focus();
-  return false;
-}
-
-const fileName = () => `${part("#hand-student").value.trim().toLowerCase().replace(/\W+/g, "-") || "hand-in"}.txt`;
-
-/** @type {import("./scene.js").View} */
-const assignmentView = {
-  kind: "assignment",
-  title: (place) => `${titleOf(place)} · Why not just one lock?`,
-  html,
-  begin,
-  deeds: {
-    copy: () => isNamed() && copyText(textNow(), "The text is copied: paste it where you hand in."),
-    save: () => isNamed() && saveText(fileName(), textNow()),
-    afresh: startAfresh,
-    hand: () => {
-      part("#hand").scrollIntoView({ behavior: "smooth" });
-      part("#hand-student").focus();
-    },
-  },
-};
-return { assignmentView };
 })();
 
 // story/break_map.js
@@ -10310,15 +9637,18 @@ function looked() {
   const verdict = run.verdict();
   const isBroken = isTaskDone(name, verdict);
   if (now.scene.stage !== "task") return scene.figure.set({ isLost: isBroken });
-  if (!isBroken) return setScene({ note: verdict.kind === "points" ? POINTS : "" });
+  if (!isBroken) return setScene({ note: notYet(run, verdict) });
   const wasShown = isShown(run);
   if (!wasShown) keepBrokenLine(name, `break ${name} ${addressOf(run.schedule, run.trace.total, name)}`);
   scene.figure.set({ isLost: true });
   setScene({ stage: "done", note: whyOf(verdict, wasShown) });
-  part("#talk").scrollIntoView({ block: "nearest", behavior: "smooth" });
 }
 
-const POINTS = "The moments at which these calls take effect are out of order. But another order explains their answers: not broken yet.";
+function notYet(run, { kind }) {
+  const lost = run.promised().filter((key) => !run.has().includes(key));
+  if (run.trace.calls.some(({ ended }) => ended === null)) return lost.length === 0 ? "" : `${lost.join(" and ")} is not in the list any more. Now let each call come to its answer.`;
+  return kind === "points" ? "That looks wrong. But calls that overlap may count in either order, and one order explains these answers: not broken yet." : "";
+}
 
 const whyOf = ({ why }, wasShown) => {
   const ofList = why.replace(/the set (has|does not have) it/, "the list $1 it"); // no set is this
@@ -10503,13 +9833,12 @@ const { conditionTexts } = $course_lesson;
 const { setHtml } = $page_dom;
 const { now } = $page_now;
 const { versionOf } = $run_schedule_text;
-const { escaped, tag } = $run_markup;
+const { escaped, inLetters, tag } = $run_markup;
 const { Figure } = $story_figure;
 const { learning } = $story_learning;
 const { linesOf } = $story_live_run;
 const { runOfText } = $story_run_of_text;
 const { FIGURE_AND_TALK, foot, head, hintAndOn, LIST_WORDS, part, scene, setScene, takeFigure, talk, threadOfKey } = $story_scene;
-const { inLetters } = $story_tale;
 const HINT = 1; // of `hints`, in the scene: the hint is shown; the answer is shown
 const ANSWER = 2;
 const shown = { verdict: null, ticks: new Set() }; // of the run that is shown, and what was met before
@@ -10723,7 +10052,7 @@ const SCREENS = [
     nav: "Free walk",
     question: "Most steps only look. Can a walk do without locks?",
     prose: "So let threads walk freely, and lock only at the end: pred and curr. Then check that pred still points to curr, and only then write. Nothing holds up a walk any more. Is it still right?",
-    figure: { list: "optimistic", lacks: "second-walk", opening: [3, 7], calls: { 0: [["add", 5]], 1: [["remove", 3]] }, codeTitle: "Walk, then lock", tale: "Nobody has begun yet.", hides: [6, 7], instead: { 8: "pred.next = curr? else start again" }, words: { again: "see if pred points to curr" }, roomFor: 694, tall: true },
+    figure: { list: "optimistic", lacks: "second-walk", opening: [3, 7], calls: { 0: [["add", 5]], 1: [["remove", 3]] }, codeTitle: "Walk, then lock", tale: "Nobody has begun yet.", hides: [6, 7], instead: { 8: "valid: pred.next is curr" }, words: { again: "see if pred points to curr" }, roomFor: 694, tall: true },
     task: "A adds 5, B removes 3. Find an order in which 5 gets lost, although both lock what they change.",
     help: [[0], [1], [1], [1], [1], [1], [1], [0], [0], [0], [0], [0]],
     goal: (fig) => {
@@ -10746,14 +10075,15 @@ const SCREENS = [
       { text: "Does pred still point to curr?", say: "It does, and A has looked at that before, in vain: B changed the arrow <i>before</i> 3, not that of 3. A needs this check too, but it is not enough." },
       { text: "Does a new walk from the head meet pred?", right: true, say: "" },
     ],
-    play: [[0, "out"]],
-    reveal: () => `${b("A walks once more.")} The new walk gets past the place of 3 without meeting A’s pred. So A lets go and starts again, and then 5 is in. Hope first, check at the end: that is called <i>optimistic</i>. Its price: each call walks twice, and even readers have to lock.`,
+    play: [[0]],
+    after: "Let A go on: it lets go, starts again, and 5 is in.",
+    reveal: () => `${b("A walks once more.")} The new walk gets past the place of 3 without meeting A’s pred: not valid, A starts again. Hope first, check at the end: that is called <i>optimistic</i>. Its price: each call walks twice, and even readers have to lock.`,
   },
   {
     id: "mark",
     nav: "A mark",
     question: "Could a node itself say that it is gone?",
-    prose: "Walking twice, only to learn whether one node is still in? Give each node a <b>mark</b> instead. To remove 5, a thread first marks it, and then takes it out of the chain. Whoever meets the mark knows.",
+    prose: "Walking twice, only to learn whether one node is still in? Give each node a <b>mark</b> instead. To remove 5, a thread first marks it, and then takes it out of the chain.",
     figure: { list: "lazy", opening: [3, 5, 8], calls: { 0: [["contains", 5]] }, lines: ["begin 1 remove 5", "go 1 to 12"], shown: [0, 1], codeTitle: "Lazy", fresh: [6, 7, 11, 22], hidden: { operations: ["contains"] }, roomFor: 694 },
     ask: "B has marked 5, and is stopped before it takes the node out. A asks contains(5), and walks onto that node. What may A answer?",
     options: [
@@ -10768,10 +10098,10 @@ const SCREENS = [
   {
     id: "when",
     nav: "When?",
-    question: "A’s answer fits none of A’s steps. Is it wrong?",
-    prose: "A asks contains(5), and has come to the node of 5. Now A is stopped. B removes 5, and adds 5 again in a new node. Then A goes on: it looks at the mark of its old node.",
+    question: "At which moment has an answer to be right?",
+    prose: "A asks contains(5), comes to the node of 5, and is stopped. B removes 5, and adds it again in a new node. Then A looks at the mark of its old node. Below the list, each call is a bar in time.",
     figure: { list: "lazy", opening: [5], calls: { 0: [["contains", 5]] }, lines: ["begin 0 contains 5", "go 0 2", "begin 1 remove 5", "go 1 out", "begin 1 add 5", "go 1 out"], strip: true, code: false, dock: false, high: .27, hidesPoints: true, roomFor: 552 },
-    ask: "5 was in the set at each step of A, and is in it now. A is going to answer false. Is that a bug?",
+    ask: "At each of A’s own steps 5 was in the set. A is going to answer false. Is that a bug?",
     options: [
       { text: "Yes, it is a bug", say: "It looks like one. But look at the whole time of A’s call, also where A stood still." },
       { text: "No, false is right", right: true, say: "" },
@@ -10874,8 +10204,8 @@ function endHtml(done) {
     check. Leave the check out, and numbers get lost.</p>
     <table class="five"><thead><tr><th>The list</th><td>Who waits?</td><td>What does it need for that?</td></tr></thead>
     <tbody>${LISTS_AT_END.map(rowOfList).join("")}</tbody></table>
-    <p class="prose">And faster? Not always. With four threads and 64 numbers, this lock-free list was almost twice as fast as a tree behind one
-    lock; with 1,000 numbers it was slower. One lock is a good answer, until it is not.</p>
+    <p class="prose">And faster? Not always. With four threads and 64 numbers, this lock-free list was almost twice as fast as a balanced tree
+    behind one lock; with 1,000 numbers it was slower. One lock is a good answer, until it is not.</p>
     <h2>You have done ${count} of ${SCREENS.length}. And now?</h2><div class="ways">${ways.join("")}</div>${TRUTH}</section>
     <footer class="foot"><button class="quiet" data-do="back">← Back</button><span class="spread"></span>
     <button class="quiet" data-do="afresh">Start afresh</button><a class="button primary" href="#ask">Guess, then see →</a></footer>`;
@@ -10928,14 +10258,15 @@ function begin(place) {
 const asked = (text, note = "") => `<p class="ask">${text}</p>${note === "" ? "" : `<p class="again">${note}</p>`}`;
 
 function talkOf(screen, { stage, chosen, note }) {
-  const reply = replyTo(screen.options, chosen);
+  const reply = replyTo(screen.options, chosen, stage !== "done");
   if (stage === "guess") return asked(screen.ask) + optionButtons(screen.options.map(({ text }) => text));
   if (stage === "task" || stage === "again") return reply + asked(screen.task ?? screen.playTask, note);
   if (stage === "moment") return reply + asked(screen.then.task, note);
   if (stage === "playing") return reply;
   const after = screen.after === undefined ? "" : `<p class="small">${screen.after}</p>`;
   const ledger = screen.ledger ? drawLedger(scene.figure.run) : "";
-  return `<div class="reveal">${ledger}<div>${reply}<p class="why">${screen.reveal(scene.figure)}</p>${after}</div></div>`;
+  const isOther = screen.options !== undefined && !screen.options[chosen]?.right;
+  return `<div class="reveal${isOther ? " other" : ""}">${ledger}<div>${reply}<p class="why">${screen.reveal(scene.figure)}</p>${after}</div></div>`;
 }
 
 function draw(state) {
@@ -11018,7 +10349,6 @@ function done() {
   setScene({ stage: "done" });
   const on = part("#go-on");
   if (document.activeElement === document.body) on.focus({ preventScroll: true });
-  if (part("#talk").getBoundingClientRect().bottom > innerHeight - 70) part("#talk").scrollIntoView({ block: "end", behavior: "smooth" });
 }
 
 
@@ -11310,7 +10640,7 @@ const { BREAK_LEVELS } = $data_levels;
 const { linkTo } = $page_visit;
 const { escaped, tag } = $run_markup;
 const { seedOf } = $run_seed;
-const { addressOfAssignment, allLevels, bookCourse } = $story_assignment;
+const { addressOfTasks, allLevels, bookCourse } = $story_assignment;
 const { copyText } = $story_give;
 const { part } = $story_scene;
 const FIRST_NUMBER = 17;
@@ -11344,7 +10674,7 @@ function homeworkHtml() {
 
 const ticked = (kind) => [...part("#homework").querySelectorAll(`[data-kind=${kind}]:checked`)].map(({ value }) => value);
 const addressNow = () =>
-  addressOfAssignment({ title: piece("title").value.trim() || "Assignment", learn: ticked("learn"), levels: ticked("break"), seeds: work.seeds });
+  addressOfTasks(piece("title").value.trim() || "Assignment", { learn: ticked("learn"), levels: ticked("break"), seeds: work.seeds });
 
 function fill() {
   const address = addressNow();
@@ -11407,7 +10737,7 @@ const LECTURE = [
   [5, "Why a second walk", "#ask=stale-pred&view=lecture", "May A write? After the answer, press “And without this check?”: 5 is lost."],
   [4, "In another thread’s step", "#ask=read-in-anothers-step&view=lecture", "A will answer false. When is that right? In a step of B."],
   [3, "Who waits?", "#sides=coarse.lazy&quota=4&calls=0.add.5,1.contains.5&turns=0.0.0.0&view=lecture",
-    "Press 1 three times: LazyList has answered, CoarseList tries its lock."],
+    "Press B three times: LazyList has answered, CoarseList tries its lock."],
   [3, "Everybody judges", "#seed=lazy.2.5.2.17&judge", "Write the link on the board. All get the same run, without its answers."],
 ];
 const PANELS = { slides: "Lecture", embed: "Embed", homework: "Homework", handins: "Hand-ins", own: "Your own lessons" };
@@ -11488,8 +10818,394 @@ const teachView = {
 return { teachView };
 })();
 
-// story/views.js
-const $story_views = (() => {
+// page/keys.js
+const $page_keys = (() => {
+const { byId } = $page_dom;
+const { now, show } = $page_now;
+const { setView } = $page_places;
+const { goByHand, goToTurn, togglePlay } = $page_play;
+const keysOf = { scene: (event) => event }; // what keys do in a scene
+
+function pressKey(event) {
+  if (/^(TEXTAREA|INPUT|SELECT)$/.test(event.target.tagName) && event.target.id !== "slider") return;
+  if (event.ctrlKey || event.metaKey || event.altKey || event.target.closest("[role=slider]") !== null) return;
+  if (event.key === "Escape" && now.place.view !== null) return toggleLecture();
+  if (now.place.screen === "scene") return keysOf.scene(event);
+  const { total } = now.run.trace;
+  const far = now.place.view === "lecture" ? 1 : 10; // what a lecturer's pointer sends
+  const steps = { ArrowRight: 1, ArrowLeft: -1, PageDown: far, PageUp: -far, Home: -total, End: total };
+  if (event.key in steps) {
+    event.preventDefault();
+    if (event.shiftKey && event.key.startsWith("Arrow")) goToTurn(steps[event.key]);
+    else goByHand(now.run.count + steps[event.key]);
+  } else if (event.key === " " && !/^(BUTTON|SUMMARY|A)$/.test(event.target.tagName)) {
+    event.preventDefault();
+    togglePlay();
+  } else if (event.key === "?" || (event.key === "p" && now.prefs.letters)) ({ "?": toggleKeys, p: togglePlay })[event.key]();
+}
+
+function toggleKeys() {
+  byId("key-help").hidden = !byId("key-help").hidden;
+  byId("keys").setAttribute("aria-expanded", String(!byId("key-help").hidden));
+}
+
+function toggleLecture() {
+  const isLeft = document.activeElement === byId("leave");
+  setView(now.place.view === null ? "lecture" : null);
+  show();
+  if (isLeft) (byId("sides-lecture") ?? byId("lecture")).focus();
+}
+return { keysOf, pressKey, toggleKeys, toggleLecture };
+})();
+
+// run/sides.js
+const $run_sides = (() => {
+const { titleOf } = $run_schedule_text;
+const { letterOf } = $run_markup;
+const { State } = $run_state;
+const { isTrace, MOST_NUMBER, Trace } = $run_trace;
+const MOST_TURNS = 500;
+
+class ProgramFault extends Error {}
+
+function readProgram(text) {
+  const program = [];
+  for (const line of text.split("\n").filter((one) => one.trim() !== "")) {
+    const [, number, letter, calls] = /^\s*(?:t?(\d+)|([A-Z]))\s*:\s*(.+?)\s*$/i.exec(line) ?? [];
+    const thread = Number(number ?? letter?.toUpperCase().charCodeAt(0) - "A".charCodeAt(0));
+    if (!(thread < 64)) throw new ProgramFault(`"${line.slice(0, 60)}" is no line as "A: add 5, remove 5"`);
+    for (const call of calls.split(",").map((one) => one.trim())) {
+      const [, operation, key] = /^(add|remove|contains|ceiling) (0|[1-9]\d{0,9})$/.exec(call) ?? [];
+      if (key === undefined || Number(key) > MOST_NUMBER) throw new ProgramFault(`"${call.slice(0, 40)}" is no call as "add 5"`);
+      (program[thread] ??= []).push(`${operation} ${key}`);
+    }
+  }
+  if (program.length === 0) throw new ProgramFault('a program has lines as "A: add 5, remove 5"');
+  return Array.from(program, (calls) => calls ?? []);
+}
+
+function programText(program) {
+  const lines = program.map((calls, thread) => (calls.length === 0 ? "" : `${letterOf(thread)}: ${calls.join(", ")}\n`));
+  return lines.join("");
+}
+
+class Side {
+  constructor(ask, kind, { program, quota, opening }) {
+    this.ask = ask;
+    this.kind = kind;
+    this.lines = [];
+    this.counts = [0];
+    const set = [titleOf(2), `list ${kind}`, `threads ${program.length}`, `quota ${quota}`];
+    this.head = [...set, ...opening.map((key) => `opening ${key}`)];
+    this.run();
+  }
+
+  get schedule() {
+    return [...this.head, ...this.lines, ""].join("\n");
+  }
+
+  run() {
+    const { text } = this.ask("listset_trace", this.schedule);
+    if (!isTrace(text)) throw new ProgramFault(text.trim());
+    this.trace = new Trace(text, 2);
+    this.state = new State(this.trace);
+    this.state.moveTo(this.trace.total);
+  }
+
+  isOpen(thread) {
+    return this.state.threads[thread].pc !== 0;
+  }
+
+  take(line) {
+    if (line !== null) {
+      this.lines.push(line);
+      this.run();
+    }
+    this.counts.push(this.trace.total);
+  }
+}
+
+class Sides {
+  constructor(ask, kinds, { program, quota, opening }) {
+    this.program = program;
+    this.turns = [];
+    this.sides = kinds.map((kind) => new Side(ask, kind, { program, quota, opening }));
+  }
+
+  linesOf(thread) {
+    if (thread >= this.program.length) return null;
+    const isOpen = this.sides.map((side) => side.isOpen(thread));
+    if (isOpen.includes(true)) return isOpen.map((open) => (open ? `go ${thread} 1` : null));
+    const next = this.program[thread]?.[this.sides[0].trace.callsOf[thread].length];
+    return next === undefined ? null : this.sides.map(() => `begin ${thread} ${next}`);
+  }
+
+  turn(thread) {
+    const lines = this.linesOf(thread);
+    if (lines === null || this.turns.length === MOST_TURNS) return false;
+    this.sides.forEach((side, at) => side.take(lines[at]));
+    this.turns.push(thread);
+    return true;
+  }
+}
+return { ProgramFault, readProgram, programText, Sides };
+})();
+
+// activities/compare.js
+const $activities_compare = (() => {
+const { LISTS } = $made_rows;
+const { byId, redraw } = $page_dom;
+const { toggleLecture } = $page_keys;
+const { askNow, now } = $page_now;
+const { copied, linkTo } = $page_visit;
+const { addressOf, readAddress, warningOf } = $run_address;
+const { chipOf, escaped, tag } = $run_markup;
+const { sentenceOf } = $run_sentences;
+const { ProgramFault, programText, readProgram, Sides } = $run_sides;
+const { ShownRun } = $story_live_run;
+const { head, setScene, threadOfKey } = $story_scene;
+const { StillFigure } = $story_still_figure;
+const PRESETS = [
+  ["Who waits?", "#sides=coarse.lazy&quota=4&calls=0.add.5,1.contains.5&turns=0.0.0.0.1.1.1"],
+  ["Two removes of neighbours", "#sides=fine.optimistic&quota=4&opening=3.5.7&calls=0.remove.3,1.remove.7&turns=0.0.0.1.1.1"],
+  ["A reader beside a writer", "#sides=lazy.lock-free&quota=4&opening=3.5.7&calls=0.remove.5,1.contains.5&turns=0.0.0.0.0.1.1"],
+];
+const PICTURE = '<h2></h2><div class="pair"></div><p class="note"><a class="button">Watch this run</a></p>';
+const SIDES = ["one", "other"];
+const shown = { sides: null, at: 0, quota: 4, opening: [], figures: [] }; // at: how many turns are shown
+const sidesPart = (name) => byId(`sides-${name}`);
+
+const listsOf = ({ given }) => (given.sides ?? "coarse.lazy").split(".");
+
+function html(place) {
+  const preset = ([name, href]) => tag("a", { class: "button", href }, escaped(name));
+  const listOf = (at) => Object.entries(LISTS).map(([kind, { name }]) =>
+    tag("option", { value: kind, ...(kind === listsOf(place)[at] ? { selected: "" } : {}) }, name));
+  const choice = (name, at) => tag("label", {}, ["left ", "right "][at], tag("select", { id: `sides-${name}` }, ...listOf(at)));
+  const lead = `<p class="lead">The same calls on two lists. A turn of a thread executes its next step in both; a call that has ended waits for
+    the other list. Who has to wait, and who is done? <a class="beside" href="tables.html#progress">Progress of each list: blocking, lock-free, wait-free</a></p>`;
+  return `<section class="screen">${head("", "Two lists, one program", lead)}
+    <div id="sides-presets" class="line">${PRESETS.map(preset).join(" ")}</div>
+    <details id="sides-own"><summary>Your own program</summary><div class="line small">${SIDES.map(choice).join("")}
+      <label>initial keys <input id="sides-opening" spellcheck="false" placeholder="no keys" size="8"></label>
+      <label>calls <textarea id="sides-program" rows="2" cols="24" spellcheck="false"></textarea></label>
+      <button data-do="begin">Run this program</button> <button data-do="copy">Copy link</button></div></details>
+    <p id="sides-told" role="status"></p><div id="sides-pictures"></div></section>
+    <footer class="foot"><button class="quiet" data-do="back" aria-label="one turn back">◂</button>
+      <input id="sides-slider" type="range" min="0" value="0" aria-label="turn"> <span id="sides-where" class="small"></span> <span id="sides-turns"></span>
+      <button class="quiet" id="sides-lecture" data-do="lecture" title="show this as one slide for a lecture hall; Escape leads back">Lecture view</button></footer>`;
+}
+
+function begin({ given }) {
+  /** @type {Record<string, string>} */
+  const { calls, turns = "", quota, opening = "" } = { ...readAddress(PRESETS[0][1]).sides, ...given };
+  const program = [];
+  for (const call of calls.split(",").filter((one) => one !== "")) {
+    const [thread, operation, key] = call.split(".");
+    (program[Number(thread)] ??= []).push(`${operation} ${key}`);
+  }
+  sidesPart("program").value = programText(Array.from(program, (own) => own ?? []));
+  sidesPart("opening").value = opening.replaceAll(".", " ");
+  for (const name of SIDES) sidesPart(name).onchange = () => beginSides();
+  sidesPart("slider").oninput = () => turnTo(Number(sidesPart("slider").value));
+  Object.assign(shown, { sides: null, quota: Number(quota), figures: [] });
+  beginSides(turns.split(".").filter((thread) => thread !== "").map(Number));
+}
+
+function beginSides(turns = []) {
+  try {
+    const program = readProgram(sidesPart("program").value);
+    const opening = sidesPart("opening").value.split(/[\s,]+/).filter((key) => key !== "");
+    const kinds = SIDES.map((name) => sidesPart(name).value);
+    Object.assign(shown, { sides: new Sides(askNow, kinds, { program, quota: shown.quota, opening }), opening });
+    for (const thread of turns) if (!shown.sides.turn(thread)) break;
+    sidesPart("told").textContent = "";
+    takeTurns();
+  } catch (fault) {
+    if (!(fault instanceof ProgramFault)) throw fault;
+    sidesPart("told").textContent = fault.message;
+  }
+}
+
+function takeTurns() {
+  shown.at = shown.sides.turns.length;
+  setScene({ text: addressOfSides() });
+}
+
+function turnOf(thread) {
+  const { sides, at } = shown;
+  if (at < sides.turns.length) beginSides(sides.turns.slice(0, at));
+  const isMade = shown.sides.turn(thread);
+  takeTurns();
+  if (!isMade) sidesPart("told").innerHTML = `${chipOf(thread)} has ended all its calls in both lists.`;
+}
+
+function turnTo(at) {
+  shown.at = Math.min(Math.max(at, 0), shown.sides.turns.length);
+  draw();
+}
+
+
+function draw() {
+  const { sides, at } = shown;
+  if (sides === null) return;
+  const button = (_, thread) => tag("button", { "data-do": "turn", "data-thread": thread }, `${chipOf(thread)} next step`);
+  redraw(sidesPart("turns"), sides.program.map(button).join(" "));
+  const words = `turn ${at} of ${sides.turns.length}`;
+  Object.assign(sidesPart("slider"), { max: sides.turns.length, value: at });
+  sidesPart("slider").setAttribute("aria-valuetext", words);
+  sidesPart("where").textContent = words;
+  figuresOf(sides.sides).forEach((figure, place) => drawSide(sides.sides[place], figure));
+}
+
+function figuresOf(sides) {
+  const { figures } = shown;
+  if (figures.length > 0 && sides.every((side, at) => figures[at].spec.list === side.kind)) return figures;
+  end();
+  sidesPart("pictures").innerHTML = sides.map(({ kind }) => tag("section", { "aria-label": LISTS[kind].name }, PICTURE)).join("");
+  const boxes = sidesPart("pictures").querySelectorAll(".pair");
+  const specOf = ({ kind, trace, state }) => ({ list: kind, run: new ShownRun(trace, state), code: false, sentence: sentenceOf, roomFor: 560, high: 0.3 });
+  figures.push(...sides.map((side, at) => new StillFigure(boxes[at], specOf(side))));
+  return figures;
+}
+
+const end = () => shown.figures.splice(0).forEach((figure) => figure.end());
+
+function drawSide(side, figure) {
+  const { at, sides: { turns } } = shown;
+  const count = side.counts[at];
+  const box = figure.box.parentElement;
+  box.querySelector("h2").innerHTML = `${LISTS[side.kind].name} <small>${count} events</small>`;
+  box.querySelector("a").href = addressOf(side.schedule, count) ?? "#";
+  side.state.moveTo(count);
+  figure.take(new ShownRun(side.trace, side.state, count), undefined, now.prefs.hides);
+  const hasWaited = at > 0 && count === side.counts[at - 1];
+  if (hasWaited) figure.tell(`${chipOf(turns[at - 1])} has ended its call here, and waits for the other list.`);
+}
+
+function addressOfSides() {
+  const { sides, quota, opening } = shown;
+  const calls = sides.program.flatMap((own, thread) => own.map((call) => `${thread}.${call.replace(" ", ".")}`));
+  const parts = [`sides=${sides.sides.map(({ kind }) => kind).join(".")}`, `quota=${quota}`];
+  if (opening.length > 0) parts.push(`opening=${opening.join(".")}`);
+  return `#${[...parts, `calls=${calls.join()}`, `turns=${sides.turns.join(".")}`].join("&")}`;
+}
+
+async function copySides() {
+  const link = linkTo(addressOfSides());
+  const isCopied = await copied(link);
+  sidesPart("told").innerHTML = `${isCopied ? "The link is copied" : "Copy this link"}: <code>${escaped(link)}</code>${warningOf(link)}`;
+}
+
+function press(event) {
+  const { sides, at } = shown;
+  const by = { ArrowRight: 1, PageDown: 1, ArrowLeft: -1, PageUp: -1, Home: -Infinity, End: Infinity }[event.key];
+  if (sides === null) return;
+  if (by !== undefined) {
+    event.preventDefault();
+    turnTo(at + by);
+  } else if (threadOfKey(event) in sides.program) turnOf(threadOfKey(event));
+}
+
+/** @type {import("../story/scene.js").View} */
+const compareView = {
+  kind: "compare",
+  title: (place) => `${listsOf(place).map((kind) => LISTS[kind].name).join(" beside ")} · Why not just one lock?`,
+  html,
+  begin,
+  draw,
+  end,
+  press,
+  deeds: {
+    begin: () => beginSides(),
+    copy: copySides,
+    back: () => turnTo(shown.at - 1),
+    turn: ({ dataset }) => turnOf(Number(dataset.thread)),
+    lecture: toggleLecture,
+  },
+};
+return { compareView };
+})();
+
+// activities/judge_map.js
+const $activities_judge_map = (() => {
+const { CLASSICS } = $made_classics;
+const { examples } = $page_example;
+const { keptUnder } = $page_kept;
+const { escaped, inLetters } = $run_markup;
+const { itemOf } = $story_ask_figure;
+const { drawCard } = $story_ask_map;
+const { head, LIST_WORDS } = $story_scene;
+const { JUDGED } = $activities_judging;
+const { drawRecordedBox, listenToRecorded } = $activities_recorded;
+const { listenToSeedForm, seedForm } = $activities_watch;
+function html() {
+  const judged = Object.keys(keptUnder(JUDGED) ?? {});
+  const cardOf = ({ name, kind }) => {
+    const state = judged.some((run) => run.startsWith(`${name} `)) ? "done" : "";
+    const { title } = itemOf({ id: name });
+    return drawCard({ href: `#example=${name}&judge`, list: LIST_WORDS[kind], title, says: escaped(inLetters(CLASSICS[name].question)), state });
+  };
+  const lead = `<p class="lead">You see a run without its replies. Say what each call
+    answers, and put a point where it takes effect. The proved <code>check</code> judges your order: any order that explains the run
+    is right.</p>`;
+  return `${head("", "Judge a run yourself", lead, "title")}<h2>A random run</h2>${seedForm("judge-seed", "Judge a run")}${drawRecordedBox()}<h2>An example, by its question</h2>
+    <div class="cards">${examples().map(cardOf).join("")}</div>`;
+}
+
+function begin() {
+  listenToSeedForm("judge-seed", "&judge");
+  listenToRecorded();
+}
+
+/** @type {import("../story/scene.js").View} */
+const judgeMapView = { kind: "asks", title: () => "Judge · Why not just one lock?", html, begin };
+return { judgeMapView };
+})();
+
+// activities/read.js
+const $activities_read = (() => {
+const { byId } = $page_dom;
+const { escaped, tag } = $run_markup;
+const { drawCard } = $story_ask_map;
+const { head } = $story_scene;
+const PAGES = [
+  ["how-it-works.html", "How it works", "The five lists, from one lock to none, each with the runs that show why."],
+  ["classic.html", "The examples", "Eighteen runs, each with its question, the answer, and what goes wrong without the check."],
+  ["tables.html", "The step tables", "Each list row by row: what a step reads and writes, and which row comes next."],
+  ["tables.html#progress", "Progress: blocking, lock-free, wait-free", "Which calls of each list may block, and within how many steps a call ends."],
+];
+const TERMS = {
+  event: "The begin of a call, or one step of it: one load, store or compare-and-exchange of one word.",
+  schedule: "Which thread makes the next step, from the first event to the last. It is the whole input of a run.",
+  history: "The calls with their begin, end, thread and reply. Two calls overlap if neither ends before the other begins.",
+  pending: "A call that has begun and not ended.",
+  "takes effect": "At its linearization point: the moment between begin and end at which a call counts in the order.",
+  order: "The calls one after the other. It explains a run if a sequential set gives the same replies in this order.",
+  linearizable: "Some order explains the replies, and keeps each pair of calls that do not overlap as they were.",
+  "row, step table": "The algorithm as numbered steps; a row says what the thread does next.",
+  "pred, curr": "The two nodes that a walk holds: curr is the next one behind pred.",
+  marked: "A node whose key is removed; it may still be in the chain until it is unlinked.",
+  "quota, slot": "How many keys a thread can add in all. Each needs a slot, a node of its own; then add answers full.",
+  "not linearizable": "Proved of a report by a few of its calls: no order of them explains their replies.",
+};
+
+function html() {
+  const cards = PAGES.map(([href, title, says]) => drawCard({ href, list: "", title, says: escaped(says) }));
+  const terms = Object.entries(TERMS).map(([term, says]) => `<div><dt>${term}</dt><dd>${escaped(says)}</dd></div>`);
+  const isAlone = document.body.dataset.alone !== undefined; // the page is one file, without the others beside it
+  const pages = isAlone ? "" : tag("div", { class: "cards" }, ...cards);
+  return `${head("", "Read", "", "title")}${pages}<h2>Terms</h2>${tag("dl", { class: "words card" }, ...terms)}
+    <h2>What is proved, and what is not</h2><div class="panel prose">${byId("proved").innerHTML}</div>`;
+}
+
+/** @type {import("../story/scene.js").View} */
+const readView = { kind: "asks", title: () => "Read · Why not just one lock?", html };
+return { PAGES, readView };
+})();
+
+// activities/views.js
+const $activities_views = (() => {
 const { askMapView } = $story_ask_map;
 const { askView } = $story_ask_view;
 const { assignmentView } = $story_assignment_view;
@@ -11501,55 +11217,183 @@ const { learnView } = $story_learn_view;
 const { pathView } = $story_path_view;
 const { VIEWS } = $story_scene;
 const { teachView } = $story_teach_view;
+const { compareView } = $activities_compare;
+const { judgeMapView } = $activities_judge_map;
+const { readView } = $activities_read;
 function takeViews() {
   Object.assign(VIEWS, { story: pathView, code: codeView, teachers: teachView, assignment: assignmentView });
   Object.assign(VIEWS, { ask: askView, "ask map": askMapView, break: breakView, "break map": breakMapView });
-  Object.assign(VIEWS, { learn: learnView, "learn map": learnMapView });
+  Object.assign(VIEWS, { learn: learnView, "learn map": learnMapView, judge: judgeMapView, compare: compareView, read: readView });
 }
 return { takeViews };
 })();
 
+// page/save_picture.js
+const $page_save_picture = (() => {
+const { byId } = $page_dom;
+const { saveText } = $page_files;
+const DRAWN_BY = ["fill", "stroke", "stroke-width", "stroke-dasharray", "fill-opacity", "stroke-opacity", "opacity", "font-family",
+  "font-size", "font-weight", "font-style", "text-anchor", "paint-order", "text-decoration-line"];
+
+function drawnOut(svg) {
+  const copy = svg.cloneNode(true);
+  const parts = [...svg.querySelectorAll("*")];
+  [...copy.querySelectorAll("*")].forEach((part, index) => {
+    const style = getComputedStyle(parts[index]);
+    for (const name of DRAWN_BY) part.style.setProperty(name, style.getPropertyValue(name));
+  });
+  return copy;
+}
+
+function wholePicture() {
+  const drawings = [...byId("stage").querySelectorAll(":is(.list, .strip, #judge-bars) svg")].filter((svg) => svg.clientWidth > 0);
+  const boxes = drawings.map((svg) => ({ svg, width: svg.clientWidth, height: svg.clientHeight }));
+  const width = Math.max(...boxes.map((box) => box.width));
+  let y = 0;
+  const placed = boxes.map(({ svg, width: own, height }) => {
+    const copy = drawnOut(svg);
+    Object.entries({ x: 0, y, width: own, height }).forEach(([name, value]) => copy.setAttribute(name, value));
+    y += height + 8;
+    return new XMLSerializer().serializeToString(copy);
+  });
+  const ground = `<rect width="100%" height="100%" fill="${getComputedStyle(document.body).backgroundColor}"/>`;
+  const frame = `width="${width}" height="${y}" viewBox="0 0 ${width} ${y}"`;
+  return `<svg xmlns="http://www.w3.org/2000/svg" ${frame}>${ground}${placed.join("")}</svg>\n`;
+}
+
+const savePicture = () => saveText("page.svg", wholePicture());
+return { savePicture };
+})();
+
+// page/controls.js
+const $page_controls = (() => {
+const { byId } = $page_dom;
+const { showMarks, watchEditor } = $page_editor;
+const { openFile, refreshReport, saveText } = $page_files;
+const { keepUnder, keptUnder } = $page_kept;
+const { toggleKeys, toggleLecture } = $page_keys;
+const { cancelLong } = $page_long_run;
+const { chooseInList } = $page_menu;
+const { change, dispatch, now } = $page_now;
+const { changeSpeed, goByHand, togglePlay, wantsLessMotion } = $page_play;
+const { savePicture } = $page_save_picture;
+const { copyLink, keepSoon } = $page_visit;
+const { newSchedule, runBox, runWithOpening } = $page_work;
+function stopUnable(event) {
+  if (event.target.closest?.('[aria-disabled="true"]') == null) return;
+  event.stopPropagation();
+  event.preventDefault();
+}
+
+function skipToRun() {
+  const first = { stage: "#next", scene: "#scene :is(.option, .fig button, .card, #sides-turns button, .foot .primary)" };
+  document.querySelector(first[now.place.screen])?.focus();
+}
+
+function listenToBar() {
+  byId("back").onclick = () => goByHand(now.run.count - 1);
+  byId("next").onclick = () => goByHand(now.run.count + 1);
+  byId("play").onclick = togglePlay;
+  byId("speed").onchange = changeSpeed;
+  byId("speed").value = wantsLessMotion() ? "slow" : "medium";
+  byId("slider").oninput = () => goByHand(Number(byId("slider").value));
+  byId("all-threads").onclick = () => dispatch("prefs", { allThreads: !now.prefs.allThreads });
+  byId("keys").onclick = toggleKeys;
+  byId("skip").onclick = skipToRun;
+  for (const name of ["lecture", "leave"]) byId(name).onclick = toggleLecture;
+  byId("link-here").onclick = copyLink;
+  byId("long-cancel").onclick = cancelLong;
+}
+
+function listenToSettings() {
+  const kept = keptUnder(SETTINGS) ?? {};
+  change("prefs", { hides: kept.hides !== false, letters: kept.letters !== false });
+  byId("hides").checked = now.prefs.hides;
+  byId("single-keys").checked = now.prefs.letters;
+  for (const [name, id] of [["hides", "hides"], ["letters", "single-keys"]]) {
+    byId(id).onchange = () => {
+      dispatch("prefs", { [name]: byId(id).checked });
+      keepUnder(SETTINGS, { hides: now.prefs.hides, letters: now.prefs.letters });
+    };
+  }
+}
+const SETTINGS = "listset-settings";
+
+function listenToWork() {
+  const box = byId("schedule");
+  byId("examples").onchange = () => chooseInList(byId("examples").value);
+  byId("run").onclick = runBox;
+  byId("opening").onchange = runWithOpening;
+  byId("link").onclick = copyLink;
+  byId("new").onclick = () => newSchedule(byId("new-list").value, byId("new-threads").value, byId("new-quota").value);
+  box.onscroll = showMarks;
+  watchEditor();
+  box.oninput = () => {
+    showMarks();
+    keepSoon();
+  };
+  box.onkeydown = (event) => {
+    if (event.key === "Enter" && (event.ctrlKey || event.metaKey)) runBox();
+  };
+}
+
+function listenToFiles() {
+  byId("report-box").ontoggle = refreshReport;
+  byId("file").onchange = () => openFile(byId("file").files[0]).then(() => (byId("file").value = ""));
+  byId("save-schedule").onclick = () => saveText("page.schedule", byId("schedule").value);
+  byId("save-trace").onclick = () => saveText("now.run.trace", now.run.trace.text);
+  byId("save-picture").onclick = savePicture;
+}
+
+function placeParts() {
+  const narrow = matchMedia("(max-width: 940px)");
+  const place = () => {
+    for (const name of ["schedule-box", "new-box", "files-box", "threads-box"]) byId(name).open = !narrow.matches;
+  };
+  narrow.addEventListener("change", place);
+  place();
+}
+return { stopUnable, listenToBar, listenToSettings, listenToWork, listenToFiles, placeParts };
+})();
+
 // main.js
 const $main = (() => {
-const { drawCompare, listenToSides, pressForSides, showSides } = $activities_compare;
+const { listenToBench, showBar, showRun } = $activities_bench;
 const { listenToCourses, listenToHandIn } = $activities_courses;
 const { listenToJudging } = $activities_judge_begin;
 const { drawJudging } = $activities_judging;
 const { followAddress, openCourseFile, openFirst, openRecorded, showBeforehand } = $activities_open;
 const { showPlace } = $activities_place;
-const { drawReadMap } = $activities_read;
+const { takeViews } = $activities_views;
 const { Engine } = $engine_engine;
-const { listenToBar, listenToDrawings, listenToFiles, listenToSettings, listenToWork, placeParts, stopUnable } = $page_controls;
+const { listenToBar, listenToFiles, listenToSettings, listenToWork, placeParts, stopUnable } = $page_controls;
 const { byId } = $page_dom;
+const { showMarks } = $page_editor;
 const { refreshReport } = $page_files;
 const { keysOf, pressKey } = $page_keys;
 const { fillExamples, fillWorks, showQuestion } = $page_menu;
 const { held, on, show, takeTrace } = $page_now;
-const { fitSlide, isAtMap, services, showParts } = $page_places;
-const { keepHeights, showBar, showMarks, showRun } = $page_view;
+const { services, showParts } = $page_places;
 const { keepNow, keepSoon } = $page_visit;
 const { showHeader } = $page_work;
 const { Trace } = $run_trace;
 const { isScene, leaveScene, listenToScene, pressInScene, renderScene } = $story_scene;
-const { startLearning } = $story_learning;
-const { takeViews } = $story_views;
 const EMPTY_TRACE = "listset-trace 1\nlist lazy\nthreads 2\nquota 4\nend\n";
 
 function listen() {
   listenToBar();
-  listenToDrawings();
+  listenToBench();
   listenToWork();
   listenToFiles();
   listenToSettings();
   listenToJudging();
+  listenToCourses();
+  listenToHandIn();
   listenToScene();
-  listenToSides();
   placeParts();
-  keysOf.compare = pressForSides;
-  for (const activity of ["story", "ask", "code", "break", "learn"]) keysOf[activity] = pressInScene;
+  keysOf.scene = pressInScene;
   document.addEventListener("click", stopUnable, true);
   document.addEventListener("keydown", pressKey);
-  window.addEventListener("resize", fitSlide);
   window.addEventListener("resize", show);
   window.addEventListener("popstate", followAddress);
   window.addEventListener("pagehide", keepNow);
@@ -11559,15 +11403,13 @@ function render(state, moment) {
   showParts(state);
   if (isScene(state)) {
     renderScene(state);
-    showPlace(moment);
+    showPlace();
     return keepSoon();
   }
   leaveScene();
-  for (const draw of [showBar, showQuestion, drawJudging, showPlace]) draw(moment);
-  if (!isAtMap()) showRun(moment);
+  for (const draw of [showBar, showQuestion, drawJudging, showPlace]) draw();
+  showRun(moment);
   showMarks();
-  showSides();
-  keepHeights();
   keepSoon();
 }
 
@@ -11597,17 +11439,6 @@ async function startEngine() {
   }
 }
 
-function fillMaps() {
-  fillExamples();
-  if (held.engine !== null) {
-    const panel = startLearning();
-    listenToCourses(panel);
-    listenToHandIn(panel);
-  }
-  drawReadMap();
-  drawCompare();
-}
-
 async function startPage() {
   document.body.dataset.ready = "begun";
   takeViews();
@@ -11615,7 +11446,7 @@ async function startPage() {
   listen();
   if (!showBeforehand()) takeEmpty();
   await startEngine();
-  fillMaps();
+  fillExamples();
   document.body.dataset.ready = "soon";
   try {
     await openFirst();
@@ -11628,5 +11459,5 @@ if (typeof document !== "undefined") startPage(); // in node there is none
 return {  };
 })();
 
-return Object.assign({}, $made_rows, $run_markup, $run_trace, $run_state, $draw_labels, $draw_history, $draw_contents, $run_outcomes, $draw_places, $draw_arrows, $draw_list, $draw_room, $page_dom, $engine_answers, $run_faults, $run_judged, $run_schedule_text, $run_sentences, $page_state, $page_now, $page_seen, $page_places, $made_classics, $page_play, $page_keys, $run_address, $run_seed, $data_levels, $data_chapter, $run_broken, $page_scene_address, $page_address_of, $made_book, $page_kept, $page_visit, $run_sides, $activities_compare, $course_course_link, $run_moments, $course_goal_words, $course_course_text, $run_draft, $course_lesson, $course_hand_in, $run_check_trace, $run_recorded, $engine_engine, $engine_worker, $page_long_run, $made_traces, $draw_glide, $made_code, $draw_listing, $draw_table, $draw_threads, $page_view, $page_example, $page_run_text, $page_work, $page_files, $story_kept_story, $story_ask, $story_ask_more, $story_scene, $story_ask_map, $story_phases, $story_tale, $story_assignment, $story_kept_lessons, $story_live_run, $story_learning, $story_learn_map, $draw_judged, $activities_judging, $activities_courses, $activities_judge_begin, $page_menu, $data_book_code, $story_code, $story_dock, $story_figure_parts, $story_figure_press, $story_figure, $story_ask_figure, $activities_recorded, $activities_watch, $activities_judge_map, $activities_read, $activities_open, $draw_code_column, $activities_place, $page_save_picture, $page_controls, $story_ask_branches, $story_ask_view, $story_give, $story_assignment_view, $story_break_map, $story_run_of_text, $story_break_view, $story_code_view, $story_learn_view, $story_path, $story_path_parts, $story_path_end, $story_path_view, $data_own_course, $story_handins, $story_handins_view, $story_homework_view, $story_teach_view, $story_views);
+return Object.assign({}, $made_rows, $run_markup, $run_trace, $run_state, $draw_labels, $draw_history, $draw_contents, $made_code, $draw_listing, $draw_table, $draw_threads, $page_dom, $engine_answers, $run_faults, $run_judged, $run_schedule_text, $run_outcomes, $run_sentences, $page_state, $page_now, $page_editor, $made_classics, $page_play, $run_broken, $run_draft, $story_phases, $story_live_run, $draw_glide, $draw_places, $draw_arrows, $draw_list, $data_book_code, $story_code, $story_tale, $story_dock, $story_figure_parts, $story_figure_press, $story_figure, $story_still_figure, $activities_bench, $made_book, $run_address, $course_course_link, $run_moments, $course_goal_words, $course_course_text, $course_lesson, $course_hand_in, $run_check_trace, $run_recorded, $engine_engine, $engine_worker, $page_long_run, $made_traces, $page_example, $page_kept, $page_run_text, $page_work, $page_files, $run_seed, $data_levels, $data_chapter, $page_scene_address, $page_address_of, $page_visit, $story_kept_story, $story_ask, $story_ask_more, $story_scene, $story_ask_map, $story_assignment, $story_kept_lessons, $story_learning, $story_learn_map, $draw_judged, $activities_judging, $activities_courses, $activities_judge_begin, $page_menu, $page_seen, $page_places, $activities_recorded, $activities_watch, $activities_open, $story_give, $story_assignment_view, $activities_place, $story_ask_figure, $story_ask_branches, $story_ask_view, $story_break_map, $story_run_of_text, $story_break_view, $story_code_view, $story_learn_view, $story_path, $story_path_parts, $story_path_end, $story_path_view, $data_own_course, $story_handins, $story_handins_view, $story_homework_view, $story_teach_view, $page_keys, $run_sides, $activities_compare, $activities_judge_map, $activities_read, $activities_views, $page_save_picture, $page_controls);
 })();

@@ -1,64 +1,58 @@
 // The page: its parts are put together, and it starts.
-import { drawCompare, listenToSides, pressForSides, showSides } from "./activities/compare.js";
+import { listenToBench, showBar, showRun } from "./activities/bench.js";
 import { listenToCourses, listenToHandIn } from "./activities/courses.js";
 import { listenToJudging } from "./activities/judge_begin.js";
 import { drawJudging } from "./activities/judging.js";
 import { followAddress, openCourseFile, openFirst, openRecorded, showBeforehand } from "./activities/open.js";
 import { showPlace } from "./activities/place.js";
-import { drawReadMap } from "./activities/read.js";
+import { takeViews } from "./activities/views.js";
 import { Engine } from "./engine/engine.js";
-import { listenToBar, listenToDrawings, listenToFiles, listenToSettings, listenToWork, placeParts, stopUnable } from "./page/controls.js";
+import { listenToBar, listenToFiles, listenToSettings, listenToWork, placeParts, stopUnable } from "./page/controls.js";
 import { byId } from "./page/dom.js";
+import { showMarks } from "./page/editor.js";
 import { refreshReport } from "./page/files.js";
 import { keysOf, pressKey } from "./page/keys.js";
 import { fillExamples, fillWorks, showQuestion } from "./page/menu.js";
 import { held, on, show, takeTrace } from "./page/now.js";
-import { fitSlide, isAtMap, services, showParts } from "./page/places.js";
-import { keepHeights, showBar, showMarks, showRun } from "./page/view.js";
+import { services, showParts } from "./page/places.js";
 import { keepNow, keepSoon } from "./page/visit.js";
 import { showHeader } from "./page/work.js";
 import { Trace } from "./run/trace.js";
 import { isScene, leaveScene, listenToScene, pressInScene, renderScene } from "./story/scene.js";
-import { startLearning } from "./story/learning.js";
-import { takeViews } from "./story/views.js";
 
 const EMPTY_TRACE = "listset-trace 1\nlist lazy\nthreads 2\nquota 4\nend\n";
 
 function listen() {
   listenToBar();
-  listenToDrawings();
+  listenToBench();
   listenToWork();
   listenToFiles();
   listenToSettings();
   listenToJudging();
+  listenToCourses();
+  listenToHandIn();
   listenToScene();
-  listenToSides();
   placeParts();
-  keysOf.compare = pressForSides;
-  for (const activity of ["story", "ask", "code", "break", "learn"]) keysOf[activity] = pressInScene;
+  keysOf.scene = pressInScene;
   document.addEventListener("click", stopUnable, true);
   document.addEventListener("keydown", pressKey);
-  window.addEventListener("resize", fitSlide);
   window.addEventListener("resize", show);
   window.addEventListener("popstate", followAddress);
   window.addEventListener("pagehide", keepNow);
 }
 
-// All that is seen follows from the state: first what is there at all, then what stands above the list, since the list takes what room
-// that leaves.
+// All that is seen follows from the state: first what is there at all, then what stands in it.
 function render(state, moment) {
   showParts(state);
   if (isScene(state)) {
     renderScene(state);
-    showPlace(moment);
+    showPlace();
     return keepSoon();
   }
   leaveScene();
-  for (const draw of [showBar, showQuestion, drawJudging, showPlace]) draw(moment);
-  if (!isAtMap()) showRun(moment);
+  for (const draw of [showBar, showQuestion, drawJudging, showPlace]) draw();
+  showRun(moment);
   showMarks();
-  showSides();
-  keepHeights();
   keepSoon();
 }
 
@@ -89,17 +83,6 @@ async function startEngine() {
   }
 }
 
-function fillMaps() {
-  fillExamples();
-  if (held.engine !== null) {
-    const panel = startLearning();
-    listenToCourses(panel);
-    listenToHandIn(panel);
-  }
-  drawReadMap();
-  drawCompare();
-}
-
 async function startPage() {
   document.body.dataset.ready = "begun";
   takeViews();
@@ -107,7 +90,7 @@ async function startPage() {
   listen();
   if (!showBeforehand()) takeEmpty();
   await startEngine();
-  fillMaps();
+  fillExamples();
   document.body.dataset.ready = "soon";
   try {
     await openFirst();

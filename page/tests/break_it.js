@@ -31,7 +31,7 @@ function checkBroken(ask, name) {
   check(`${name} is broken: ${says}`, kind === (isTask(name) ? "broken" : "points"));
   check(`${name}: of a refused order alone it says: ${says}`, says.includes("(proved)") === (kind === "broken"));
   const line = CLASSIC.split("\n").find((one) => one.startsWith(`- \`${name}\` (${LACKING[name]}): `)) ?? "";
-  const why = says.slice("Broken: ".length, says.indexOf(". No order")).replace(LOST, "$1 is lost");
+  const why = says.slice("Broken: ".length, says.indexOf(". No order")).replace(LOST, "$1 is lost").replace(/ of ([AB]) /g, (_, letter) => ` of t${"AB".indexOf(letter)} `);
   const told = kind === "broken" ? `${why}.` : "the order is refused, and another order explains the calls.";
   check(`docs/CLASSIC.md says of ${name}: ${told}`, line.toLowerCase().endsWith(` ${told}`.toLowerCase()));
   const begun = verdictOnLacking(ask, name, startOf(name));
@@ -50,7 +50,7 @@ function checkDeparture(ask, name) {
   const state = new (inPage("State"))(trace);
   for (let count = 0; count <= trace.total; count++) {
     const moment = inPage("momentAt")(state, count);
-    const isDrawn = inPage("drawList")(state, moment.event, 900).startsWith("<svg");
+    const isDrawn = inPage("drawList")(state, moment.event, inPage("arranged")(state, moment.event, inPage("shapeFor")(900))).startsWith("<svg");
     check(`${name}: event ${count} is told and drawn`, inPage("sentenceOf")(moment) !== "" && isDrawn);
   }
   checkContents(trace);
@@ -103,7 +103,7 @@ function checkTroubles(ask) {
 function checkReasons(ask) {
   const { text } = inPage("scheduleOfDraft")(ask, `${scheduleOf("mark-at-key")}begin 1 add 7\ngo 1 out\n`, "mark-at-key");
   const later = verdictOnLacking(ask, "mark-at-key", text).says;
-  check(`what comes later is not told: ${later}`, later.includes("7 is not there after event 18, and then contains(7) of t0 answers true."));
+  check(`what comes later is not told: ${later}`, later.includes("7 is not there after event 18, and then contains(7) of A answers true."));
 }
 
 // A draft's line stands for the steps of the broken list, and is refused as the engine refuses that of a whole list.

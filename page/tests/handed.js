@@ -158,7 +158,7 @@ This is no line of a solution.
     "line 7: changed-link: The list, the number of threads, the quota and the opening keys are to be those of the lesson.",
     "line 8: marked-in-chain: there is more behind the address",
     'line 9: there is no lesson "no-lesson"',
-    "line 10: judge snip points: Still missing: the point of remove(5) of t0, the point of add(7) of t1.",
+    "line 10: judge snip points: Still missing: the point of remove(5) of A, the point of add(7) of B.",
     'line 11: judge nosuch points: there is no example "nosuch"',
     "line 12: judge snip deep: a level is due, one of points, replies, claim",
     "line 13: judge snip replies: This order is not judged: listset: line 8: Line.",

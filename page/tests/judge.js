@@ -74,12 +74,12 @@ function checkByHand(ask) {
   [[first, 10], [contains, 39], [remove, 23], [second, 36]].forEach(([call, at]) => answer.place(call, at));
   [first, remove, second].forEach((call) => answer.say(call, "true"));
   const says = () => verdictOn(ask, answer).says;
-  check(`a reply is missing: ${says()}`, says() === "Still missing: the reply of contains(5) of t0.");
+  check(`a reply is missing: ${says()}`, says() === "Still missing: the reply of contains(5) of A.");
   answer.say(contains, "true");
-  check(`the wrong reply: ${says()}`, says().startsWith("contains(5) of t0 does not answer true in this run."));
+  check(`the wrong reply: ${says()}`, says().startsWith("contains(5) of A does not answer true in this run."));
   answer.say(contains, "false");
-  const set = "after add(5) of t1 in your order the set is {5}, and it would answer true.";
-  const wrong = `contains(5) of t0 cannot answer false there: ${set}`;
+  const set = "after add(5) of B in your order the set is {5}, and it would answer true.";
+  const wrong = `contains(5) of A cannot answer false there: ${set}`;
   check(`the wrong moment: ${says()}`, says() === wrong && verdictOn(ask, answer).clash === 1);
   answer.place(contains, 23.6);
   check("the right moment", verdictOn(ask, answer).isRight === true && answer.points.get(1).at === 23.5);
@@ -214,7 +214,7 @@ function checkRefusals(ask) {
   const reasons = [
     "No order explains the calls of key 5 up to moment 4.",
     "At first the key is not there.",
-    "From there these calls have no order: add(5) of t0 answers true, from 1 to 4; add(5) of t1 answers true, from 2 to 3.",
+    "From there these calls have no order: add(5) of A answers true, from 1 to 4; add(5) of B answers true, from 2 to 3.",
   ];
   check(`two adds of one key: ${both.reasons.join(" ")}`, both.kind === "none" && both.reasons.join() === reasons.join());
   const drawn = inPage("drawRecorded")(both.calls, both.from, 600);
@@ -223,7 +223,7 @@ function checkRefusals(ask) {
   const at = (moment) => String(late + BigInt(moment));
   const lines = [`0 contains 5 ${at(1)} ${at(2)} false`, `1 add 7 ${at(3)} ${at(4)} true`, `2 contains 7 ${at(5)} ${at(6)} false`];
   const stale = saidOf(ask, `${TITLE}${lines.map((line) => `call ${line}\n`).join("")}key 7\nend`);
-  const made = `the key is there, by this change: add(7) of t1 answers true, from ${at(3)} to ${at(4)}.`;
+  const made = `the key is there, by this change: add(7) of B answers true, from ${at(3)} to ${at(4)}.`;
   check(`why: ${stale.reasons.join(" ")}`, stale.reasons[1] === `After the calls that ended by moment ${at(4)} ${made}`);
   check(`the calls: ${stale.calls.map(({ thread }) => thread)}`, stale.calls.map(({ thread }) => thread).join() === "1,2");
   const picture = inPage("drawRecorded")(stale.calls, stale.from, 600);
@@ -288,7 +288,7 @@ function checkSides(ask) {
   const [Sides, readProgram, programText] = ["Sides", "readProgram", "programText"].map(inPage);
   const program = readProgram("0: add 5, remove 5\n t1 : contains 5\n");
   check("a program", JSON.stringify(program) === '[["add 5","remove 5"],["contains 5"]]');
-  check("and its text", programText(program) === "0: add 5, remove 5\n1: contains 5\n");
+  check("and its text", programText(program) === "A: add 5, remove 5\nB: contains 5\n" && readProgram(programText(program)).join() === program.join());
   for (const text of ["", "x", "0 add 5", "0: ad 5", "0: add 5; remove 5", "64: add 5", "0: add 05", "0: add 4294967296"]) {
     let fault = "";
     try {

@@ -92,17 +92,6 @@ function checkRead() {
   }
 }
 
-// A slide is laid out for 1280 x 720, whatever the window of a projector is.
-function checkRoom() {
-  const slideZoom = inPage("slideZoom");
-  for (const [width, height] of [[1280, 720], [1366, 768], [1440, 900], [1600, 900], [1920, 1080], [2560, 1440]]) {
-    const zoom = slideZoom(width, height);
-    const [wide, high] = [width / zoom, height / zoom];
-    check(`a slide at ${width} x ${height}: ${wide} x ${high}`, wide > 1279.9 && high > 719.9 && Math.min(wide - 1280, high - 720) < 0.1);
-  }
-  check("in one column a slide is no smaller than the rest", [390, 700, 800].every((width) => slideZoom(width, 844) === 1));
-}
-
 // A trace that goes on where another one ends is the one that is read from its start; so is the state.
 function checkGoingOn(engine, texts) {
   for (const schedule of texts) {
@@ -291,7 +280,7 @@ function checkArrows(engine, texts) {
     const state = new (inPage("State"))(trace);
     const crossed = trace.events().flatMap((event, index) => {
       state.moveTo(index + 1);
-      const drawing = inPage("drawList")(state, event, room);
+      const drawing = inPage("drawList")(state, event, inPage("arranged")(state, event, inPage("shapeFor")(room)));
       labels += drawing.split('class="pointer').length - 1;
       const found = [...crossedLabels(drawing), ...crossedNodes(drawing)];
       return found.map((what) => `${what} at event ${index + 1}`);
@@ -300,10 +289,10 @@ function checkArrows(engine, texts) {
   }
   check("labels were drawn", labels > 2000);
   const five = traceOf(engine, "listset-schedule 2\nlist lazy\nthreads 2\nquota 4\nopening 3\nopening 5\nopening 7\n");
-  const wide = Number(/^<svg width="([^"]*)"/.exec(inPage("drawList")(new (inPage("State"))(five), null, 354))[1]);
-  check(`a chain of five nodes is seen whole on a phone: ${wide}`, wide > 300 && wide <= 354);
-  const drawn = '<path d="M0 0 L200 0" marker-end="x"></path><text class="pointer thread-0" x="50" y="5">▲ t0 curr</text>';
-  check("an arrow over a label is seen", crossedLabels(drawn).join() === "▲ t0 curr");
+  const { width } = inPage("arranged")(new (inPage("State"))(five), null, inPage("shapeFor")(354));
+  check(`a chain of five nodes is seen whole on a phone: ${width}`, width * 0.65 <= 354);
+  const drawn = '<path d="M0 0 L200 0" marker-end="x"></path><text class="pointer thread-0" x="50" y="5">▲ A curr</text>';
+  check("an arrow over a label is seen", crossedLabels(drawn).join() === "▲ A curr");
   const nodeAt = (x) => `<rect x="${x}" y="-20" width="90" height="40" rx="5" class="box"></rect><text class="key">${x}</text>`;
   const over = `${nodeAt(0)}${nodeAt(100)}<path d="M50 0 L250 0" marker-end="x"></path>`;
   check("an arrow over another node is seen", crossedNodes(over).join() === "100");
@@ -385,7 +374,6 @@ async function main() {
   checkSeeds(engine);
   checkDocs(engine);
   checkRead();
-  checkRoom();
   const crowds = crowded(engine);
   checkArrows(engine, [...texts, ...crowds]);
   checkListing(engine, [...texts, ...crowds]);

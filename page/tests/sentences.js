@@ -13,7 +13,7 @@ const result = { passed: 0, failed: [] };
 
 const numberOf = (key) => ({ "−∞": -Infinity, "+∞": Infinity })[key] ?? Number(key);
 
-const isMarkOf = (event, node, thread) => event.word === `${node}.link` && event.to.endsWith("*") && thread === `t${event.thread}`;
+const isMarkOf = (event, node, thread) => event.word === `${node}.link` && event.to.endsWith("*") && thread === inPage("letterOf")(event.thread);
 
 // The words of a sentence, and whether they are false, given the words in its brackets: of what was found, of the chain and the locks as
 // they are then (chain, keys, lockOf, linkOf), of the thread, and of its next step and its call.
@@ -32,15 +32,15 @@ const CLAIMS = [
   [/This should add (\d+) to the set, but its node/, ([key], { keys }) => keys.includes(key)],
   [/This should remove (\d+) from the set, but the chain still/, ([key], { keys }) => !keys.includes(key)],
   [/This unlinks (n\d+)/, ([node], { chain, chainBefore }) => chain.includes(node) || !chainBefore.includes(node)],
-  [/(n\d+), .*, which (t\d) marked at event (\d+)/, ([node, thread, number], { eventAt }) => !isMarkOf(eventAt(Number(number)), node, thread)],
-  [/^t\d marks (n\d+)/, ([node], { linkOf }) => !linkOf(node).endsWith("*")],
+  [/(n\d+), .*, which ([A-C]) marked at event (\d+)/, ([node, thread, number], { eventAt }) => !isMarkOf(eventAt(Number(number)), node, thread)],
+  [/^[A-C] marks (n\d+)/, ([node], { linkOf }) => !linkOf(node).endsWith("*")],
   [/(n\d+) is (?:marked, and )?still in the chain/, ([node], { chain }) => !chain.includes(node)],
   [/(n\d+) is (?:marked, and no longer|not) in the chain/, ([node], { chain }) => chain.includes(node)],
   [/(n\d+) stays in the chain, marked/, ([node], { chain, linkOf }) => !chain.includes(node) || !linkOf(node).endsWith("*")],
   [/(n\d+) is marked/, ([node], { linkOf }) => !linkOf(node).endsWith("*")],
-  [/^t\d locks (the list|\w+)\./, ([name], { lockOf, thread }) => lockOf(name) !== thread],
-  [/^t\d unlocks (the list|\w+)\./, ([name], { lockOf }) => lockOf(name) !== "free"],
-  [/tries to lock (the list|\w+), but (t\d) holds it/, ([name, other], { lockOf, thread }) => lockOf(name) !== other || other === thread],
+  [/^[A-C] locks (the list|\w+)\./, ([name], { lockOf, thread }) => lockOf(name) !== thread],
+  [/^[A-C] unlocks (the list|\w+)\./, ([name], { lockOf }) => lockOf(name) !== "free"],
+  [/tries to lock (the list|\w+), but ([A-C]) holds it/, ([name, other], { lockOf, thread }) => inPage("holderOf")(lockOf(name)) !== other || lockOf(name) === thread],
   [/It will try again/, (_, { event, next }) => next !== null && next.word !== event.word],
   [/It continues all the same, at row (\d+)/, (_, { event, next }) => next !== null && next.word === event.word],
   [/holds? the locks? of (\w+)(?: and (\w+))?\./, (names, { lockOf, thread }) => names.some((name) => name !== undefined && lockOf(name) !== thread)],

@@ -8,8 +8,8 @@ const { stateAtFirst, reduce, exampleIn, entryOf, factsOf, SEEN, addressIn, titl
 );
 const result = { passed: 0, failed: [] };
 const TEXT = "listset-schedule 1\nlist lock-free\nthreads 2\nquota 4\nbegin 0 add 5\n";
-const GIVEN = { course: null, sides: null };
-const TITLES = { sides: "A beside B", scene: "The one lock · Why not just one lock?" };
+const GIVEN = { course: null };
+const titleOfScene = () => "The one lock · Why not just one lock?";
 
 function check(name, isGood) {
   if (isGood) result.passed++;
@@ -61,17 +61,15 @@ function seenIn(state, given = { hasEngine: true }) {
 function checkSeen() {
   const has = (state, ids, given) => ids.every((id) => seenIn(state, given).includes(id));
   const own = shown(EXAMPLE, TEXT);
-  check("a question", has(own, ["question-box", "go-on-box", "past", "code-column", "bench"]) && !has(own, ["scene"]));
-  check("no moves without the engine", !has(own, ["go-on-box"], { hasEngine: false }) && has(own, ["no-engine"], { hasEngine: false }));
+  check("a question", has(own, ["question-box", "go-on-here", "past", "run-figure", "bench"]) && !has(own, ["scene"]));
+  check("no moves without the engine", !has(own, ["go-on-here"], { hasEngine: false }) && has(own, ["no-engine"], { hasEngine: false }));
   const claim = reduce(own, { type: "exercise", exercise: { level: "claim" } });
-  check("a claim shows no run", has(claim, ["judge", "judge-moments"]) && !["list", "dock", "said", "past"].some((id) => has(claim, [id])));
+  check("a claim shows no run", has(claim, ["judge", "judge-moments"]) && !["run-figure", "dock", "past"].some((id) => has(claim, [id])));
   const slide = reduce(own, { type: "view", view: "lecture" });
-  check("a slide", has(slide, ["task", "list", "past", "leave"]) && !["top", "map", "go-on-box", "told"].some((id) => has(slide, [id])));
-  const map = reduce(own, { type: "place", activity: "read", screen: "map" });
+  check("a slide", has(slide, ["task", "run-figure", "past", "leave"]) && !["top", "go-on-here", "told"].some((id) => has(slide, [id])));
   const scene = atScene("story", "2");
-  check("a scene", has(scene, ["scene", "top"]) && !["bench", "task", "map"].some((id) => has(scene, [id])));
+  check("a scene", has(scene, ["scene", "top"]) && !["bench", "task", "stage", "workshop"].some((id) => has(scene, [id])));
   check("a frame", !has(reduce(scene, { type: "view", view: "embed" }), ["top"]) && !has(reduce(scene, { type: "view", view: "embed" }), ["leave"]));
-  check("a map", has(map, ["map", "map-read"]) && !["task", "work", "workshop"].some((id) => has(map, [id])));
 }
 
 function checkAddresses() {
@@ -84,7 +82,8 @@ function checkAddresses() {
     "#seed=lazy.2.5.2.17&event=1": shown({ kind: "seed", id: "lazy.2.5.2.17", work: "run 17", begun: TEXT }, TEXT),
     "#list=lock-free&threads=2&quota=4&s=b0.add.5&event=1": shown({ kind: "own", id: "", work: "my schedule", begun: "" }, TEXT),
     "#learn": atScene("learn", ""),
-    "#read": reduce(shown(EXAMPLE, TEXT), { type: "place", activity: "read", screen: "map" }),
+    "#compare": atScene("compare", ""),
+    "#read": atScene("read", ""),
     "#example=snip&event=1&judge": reduce(shown(EXAMPLE, TEXT), { type: "exercise", exercise: { level: "points" } }),
     "#example=snip&event=1&view=lecture": reduce(shown(EXAMPLE, TEXT), { type: "view", view: "lecture" }),
   };
@@ -93,7 +92,7 @@ function checkAddresses() {
     check(`${address}: ${found}`, found === address);
     const wanted = readAddress(found);
     check(`${address} is read`, wanted.text === null || wanted.text === state.run.text || wanted.text === state.scene.text);
-    const title = titleIn(state, TITLES);
+    const title = titleIn(state, titleOfScene);
     check(`${address} has a title in words: ${title}`, title.endsWith(" · Why not just one lock?"));
   }
   for (const [address, ...place] of [["#story=2", "story", "2"], ["#ask", "ask", ""], ["#ask=snip", "ask", "snip"], ["#teachers", "teachers", ""],

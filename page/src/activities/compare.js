@@ -1,154 +1,146 @@
-// Compare: two lists side by side, under one program of calls, with some programs to begin with.
+// Compare: two lists side by side, under one program of calls, with some programs to begin with. The turns are in the address.
 import { LISTS } from "../../made/rows.js";
-import { drawContents } from "../draw/contents.js";
-import { drawCalls, scaleOf } from "../draw/history.js";
-import { drawList, LOCK_HEIGHT } from "../draw/list.js";
-import { LEAST } from "../draw/room.js";
 import { byId, redraw } from "../page/dom.js";
 import { toggleLecture } from "../page/keys.js";
-import { askNow, change, now, show } from "../page/now.js";
-import { copied, keepSoon, linkTo, visit } from "../page/visit.js";
+import { askNow, now } from "../page/now.js";
+import { copied, linkTo } from "../page/visit.js";
 import { addressOf, readAddress, warningOf } from "../run/address.js";
 import { chipOf, escaped, tag } from "../run/markup.js";
-import { momentAt, sentenceOf } from "../run/sentences.js";
+import { sentenceOf } from "../run/sentences.js";
 import { ProgramFault, programText, readProgram, Sides } from "../run/sides.js";
+import { ShownRun } from "../story/live_run.js";
+import { head, setScene, threadOfKey } from "../story/scene.js";
+import { StillFigure } from "../story/still_figure.js";
 
 const PRESETS = [
   ["Who waits?", "#sides=coarse.lazy&quota=4&calls=0.add.5,1.contains.5&turns=0.0.0.0.1.1.1"],
   ["Two removes of neighbours", "#sides=fine.optimistic&quota=4&opening=3.5.7&calls=0.remove.3,1.remove.7&turns=0.0.0.1.1.1"],
   ["A reader beside a writer", "#sides=lazy.lock-free&quota=4&opening=3.5.7&calls=0.remove.5,1.contains.5&turns=0.0.0.0.0.1.1"],
 ];
-
-export function drawCompare() {
-  byId("sides-presets").innerHTML = PRESETS.map(([name, href]) => tag("a", { class: "button", href }, escaped(name))).join(" ");
-}
-
-// Opens what an address says of two lists; of one that names none what was shown before, or the first program.
-export function openCompare(named) {
-  change("place", { activity: "compare", screen: "map" });
-  if (named !== null || shownSides.sides === null) openSides(named ?? readAddress(PRESETS[0][1]).sides);
-  show();
-}
-
-// What is shown, for the title of the window.
-export const titleOfSides = () => ["one", "other"].map((name) => LISTS[sidesPart(name).value].name).join(" beside ");
-
+const PICTURE = '<h2></h2><div class="pair"></div><p class="note"><a class="button">Watch this run</a></p>';
+const SIDES = ["one", "other"];
+const shown = { sides: null, at: 0, quota: 4, opening: [], figures: [] }; // at: how many turns are shown
 const sidesPart = (name) => byId(`sides-${name}`);
 
-const shownSides = { sides: null, at: 0, quota: 4, opening: [] }; // at: how many turns are shown
+const listsOf = ({ given }) => (given.sides ?? "coarse.lazy").split(".");
+
+function html(place) {
+  const preset = ([name, href]) => tag("a", { class: "button", href }, escaped(name));
+  const listOf = (at) => Object.entries(LISTS).map(([kind, { name }]) =>
+    tag("option", { value: kind, ...(kind === listsOf(place)[at] ? { selected: "" } : {}) }, name));
+  const choice = (name, at) => tag("label", {}, ["left ", "right "][at], tag("select", { id: `sides-${name}` }, ...listOf(at)));
+  const lead = `<p class="lead">The same calls on two lists. A turn of a thread executes its next step in both; a call that has ended waits for
+    the other list. Who has to wait, and who is done? <a class="beside" href="tables.html#progress">Progress of each list: blocking, lock-free, wait-free</a></p>`;
+  return `<section class="screen">${head("", "Two lists, one program", lead)}
+    <div id="sides-presets" class="line">${PRESETS.map(preset).join(" ")}</div>
+    <details id="sides-own"><summary>Your own program</summary><div class="line small">${SIDES.map(choice).join("")}
+      <label>initial keys <input id="sides-opening" spellcheck="false" placeholder="no keys" size="8"></label>
+      <label>calls <textarea id="sides-program" rows="2" cols="24" spellcheck="false"></textarea></label>
+      <button data-do="begin">Run this program</button> <button data-do="copy">Copy link</button></div></details>
+    <p id="sides-told" role="status"></p><div id="sides-pictures"></div></section>
+    <footer class="foot"><button class="quiet" data-do="back" aria-label="one turn back">◂</button>
+      <input id="sides-slider" type="range" min="0" value="0" aria-label="turn"> <span id="sides-where" class="small"></span> <span id="sides-turns"></span>
+      <button class="quiet" id="sides-lecture" data-do="lecture" title="show this as one slide for a lecture hall; Escape leads back">Lecture view</button></footer>`;
+}
+
+function begin({ given }) {
+  /** @type {Record<string, string>} */
+  const { calls, turns = "", quota, opening = "" } = { ...readAddress(PRESETS[0][1]).sides, ...given };
+  const program = [];
+  for (const call of calls.split(",").filter((one) => one !== "")) {
+    const [thread, operation, key] = call.split(".");
+    (program[Number(thread)] ??= []).push(`${operation} ${key}`);
+  }
+  sidesPart("program").value = programText(Array.from(program, (own) => own ?? []));
+  sidesPart("opening").value = opening.replaceAll(".", " ");
+  for (const name of SIDES) sidesPart(name).onchange = () => beginSides();
+  sidesPart("slider").oninput = () => turnTo(Number(sidesPart("slider").value));
+  Object.assign(shown, { sides: null, quota: Number(quota), figures: [] });
+  beginSides(turns.split(".").filter((thread) => thread !== "").map(Number));
+}
 
 // Begins at the first turn, with the program that stands there.
 function beginSides(turns = []) {
   try {
     const program = readProgram(sidesPart("program").value);
     const opening = sidesPart("opening").value.split(/[\s,]+/).filter((key) => key !== "");
-    const kinds = ["one", "other"].map((name) => sidesPart(name).value);
-    Object.assign(shownSides, { sides: new Sides(askNow, kinds, { program, quota: shownSides.quota, opening }), at: 0, opening });
-    for (const thread of turns) if (!shownSides.sides.turn(thread)) break;
-    shownSides.at = shownSides.sides.turns.length;
+    const kinds = SIDES.map((name) => sidesPart(name).value);
+    Object.assign(shown, { sides: new Sides(askNow, kinds, { program, quota: shown.quota, opening }), opening });
+    for (const thread of turns) if (!shown.sides.turn(thread)) break;
     sidesPart("told").textContent = "";
-    drawSides();
+    takeTurns();
   } catch (fault) {
     if (!(fault instanceof ProgramFault)) throw fault;
     sidesPart("told").textContent = fault.message;
   }
 }
 
+function takeTurns() {
+  shown.at = shown.sides.turns.length;
+  setScene({ text: addressOfSides() });
+}
+
 // Goes on from the turns that are shown; what came after them is dropped.
 function turnOf(thread) {
-  const { sides, at } = shownSides;
-  const turns = sides.turns.slice(0, at);
-  if (at < sides.turns.length) beginSides(turns);
-  const isMade = shownSides.sides.turn(thread);
-  shownSides.at = shownSides.sides.turns.length;
-  drawSides();
+  const { sides, at } = shown;
+  if (at < sides.turns.length) beginSides(sides.turns.slice(0, at));
+  const isMade = shown.sides.turn(thread);
+  takeTurns();
   if (!isMade) sidesPart("told").innerHTML = `${chipOf(thread)} has ended all its calls in both lists.`;
 }
 
-function drawSide(side, thread, place) {
-  const count = side.counts[shownSides.at];
-  const moment = momentAt(side.state, count);
-  const hasWaited = shownSides.at > 0 && count === side.counts[shownSides.at - 1];
-  const said = hasWaited ? `${chipOf(thread)} has ended its call here, and waits for the other list.` : sentenceOf(moment);
-  const width = Math.max(320, sidesPart("pictures").clientWidth / (innerWidth < 940 ? 1 : 2) - 48);
-  const scale = scaleOf(side.trace, count, width, now.prefs.hides);
-  side.said = said;
-  return tag(
-    "section",
-    { "aria-label": LISTS[side.kind].name },
-    tag("h3", {}, `${LISTS[side.kind].name} <small>${count} events</small>`),
-    tag("p", { class: hasWaited ? "said waits" : "said" }, said),
-    tag("div", { class: "scrolls" }, drawSideList(side, moment.event, width, place, scale.height)),
-    tag("div", { class: "scrolls" }, drawCalls(side.trace, scale), drawContents(side.trace, scale)),
-    tag("p", { class: "note" }, tag("a", { class: "button", href: addressOf(side.schedule, count) ?? "#" }, "Watch this run")),
-  );
-}
-
-// On a slide of 720 pixels the list has what the bars of the history and the rest leave.
-function drawSideList({ state }, event, width, place, ofBars) {
-  const most = now.place.view === "lecture" ? Math.max(220, 420 - ofBars) : 230;
-  const height = LEAST.beside + (state.trace.kind === "coarse" ? 0 : LOCK_HEIGHT); // so that both are drawn in one scale
-  return drawList(state, event, width, most, { width: 0, height }, `side-${place}`);
-}
-
 function turnTo(at) {
-  shownSides.at = Math.min(Math.max(at, 0), shownSides.sides.turns.length);
-  drawSides();
+  shown.at = Math.min(Math.max(at, 0), shown.sides.turns.length);
+  draw();
 }
 
-// A turn by its digit; an arrow, and a presenter's key, goes on and back.
-export function pressForSides(event) {
-  const { sides, at } = shownSides;
-  const by = { ArrowRight: 1, PageDown: 1, ArrowLeft: -1, PageUp: -1, Home: -Infinity, End: Infinity }[event.key];
+// ---- what is drawn
+
+function draw() {
+  const { sides, at } = shown;
   if (sides === null) return;
-  if (by !== undefined) {
-    event.preventDefault();
-    turnTo(at + by);
-  } else if (/^[0-9]$/.test(event.key) && now.prefs.letters && Number(event.key) < sides.program.length) {
-    turnOf(Number(event.key));
-  }
-}
-
-function drawSides() {
-  const { sides, at } = shownSides;
-  const buttons = sides.program.map((_, thread) => tag("button", { "data-thread": thread }, `${chipOf(thread)} next step`));
-  redraw(sidesPart("turns"), buttons.join(" "));
-  Object.assign(sidesPart("slider"), { max: sides.turns.length, value: at });
+  const button = (_, thread) => tag("button", { "data-do": "turn", "data-thread": thread }, `${chipOf(thread)} next step`);
+  redraw(sidesPart("turns"), sides.program.map(button).join(" "));
   const words = `turn ${at} of ${sides.turns.length}`;
+  Object.assign(sidesPart("slider"), { max: sides.turns.length, value: at });
   sidesPart("slider").setAttribute("aria-valuetext", words);
   sidesPart("where").textContent = words;
-  sidesPart("pictures").innerHTML = sides.sides.map((side, place) => drawSide(side, sides.turns[at - 1], place)).join("");
-  sidesPart("heard").innerHTML = sides.sides.map((side) => `${LISTS[side.kind].name}: ${side.said}`).join(" ");
-  visit.sides = addressOfSides();
-  keepSoon();
+  figuresOf(sides.sides).forEach((figure, place) => drawSide(sides.sides[place], figure));
 }
 
-// Draws the lists anew where they are shown, as in another size or view.
-export function showSides() {
-  if (now.place.activity === "compare" && shownSides.sides !== null) drawSides();
+// The figure of each list, while the same two lists are shown.
+function figuresOf(sides) {
+  const { figures } = shown;
+  if (figures.length > 0 && sides.every((side, at) => figures[at].spec.list === side.kind)) return figures;
+  end();
+  sidesPart("pictures").innerHTML = sides.map(({ kind }) => tag("section", { "aria-label": LISTS[kind].name }, PICTURE)).join("");
+  const boxes = sidesPart("pictures").querySelectorAll(".pair");
+  const specOf = ({ kind, trace, state }) => ({ list: kind, run: new ShownRun(trace, state), code: false, sentence: sentenceOf, roomFor: 560, high: 0.3 });
+  figures.push(...sides.map((side, at) => new StillFigure(boxes[at], specOf(side))));
+  return figures;
+}
+
+const end = () => shown.figures.splice(0).forEach((figure) => figure.end());
+
+function drawSide(side, figure) {
+  const { at, sides: { turns } } = shown;
+  const count = side.counts[at];
+  const box = figure.box.parentElement;
+  box.querySelector("h2").innerHTML = `${LISTS[side.kind].name} <small>${count} events</small>`;
+  box.querySelector("a").href = addressOf(side.schedule, count) ?? "#";
+  side.state.moveTo(count);
+  figure.take(new ShownRun(side.trace, side.state, count), undefined, now.prefs.hides);
+  const hasWaited = at > 0 && count === side.counts[at - 1];
+  if (hasWaited) figure.tell(`${chipOf(turns[at - 1])} has ended its call here, and waits for the other list.`);
 }
 
 // The address of what is shown, from # on.
 function addressOfSides() {
-  const { sides, quota, opening } = shownSides;
+  const { sides, quota, opening } = shown;
   const calls = sides.program.flatMap((own, thread) => own.map((call) => `${thread}.${call.replace(" ", ".")}`));
   const parts = [`sides=${sides.sides.map(({ kind }) => kind).join(".")}`, `quota=${quota}`];
   if (opening.length > 0) parts.push(`opening=${opening.join(".")}`);
   return `#${[...parts, `calls=${calls.join()}`, `turns=${sides.turns.join(".")}`].join("&")}`;
-}
-
-// Opens what an address says of two lists.
-function openSides({ sides, calls, turns = "", quota = "4", opening = "" }) {
-  const program = [];
-  for (const call of (calls ?? "").split(",").filter((one) => one !== "")) {
-    const [thread, operation, key] = call.split(".");
-    (program[Number(thread)] ??= []).push(`${operation} ${key}`);
-  }
-  [sidesPart("one").value, sidesPart("other").value] = sides.split(".");
-  sidesPart("program").value = programText(Array.from(program, (own) => own ?? []));
-  sidesPart("opening").value = opening.replaceAll(".", " ");
-  shownSides.quota = Number(quota);
-  beginSides(turns.split(".").filter((thread) => thread !== "").map(Number));
 }
 
 async function copySides() {
@@ -157,19 +149,31 @@ async function copySides() {
   sidesPart("told").innerHTML = `${isCopied ? "The link is copied" : "Copy this link"}: <code>${escaped(link)}</code>${warningOf(link)}`;
 }
 
-export function listenToSides() {
-  for (const name of ["one", "other"]) {
-    sidesPart(name).append(...Object.entries(LISTS).map(([kind, { name: words }]) => new Option(words, kind)));
-    sidesPart(name).onchange = () => beginSides();
-  }
-  sidesPart("other").value = "lock-free";
-  sidesPart("begin").onclick = () => beginSides();
-  sidesPart("link").onclick = copySides;
-  sidesPart("lecture").onclick = toggleLecture;
-  sidesPart("back").onclick = () => turnTo(shownSides.at - 1);
-  sidesPart("turns").onclick = ({ target }) => {
-    const thread = target.closest("[data-thread]")?.dataset.thread;
-    if (thread !== undefined) turnOf(Number(thread));
-  };
-  sidesPart("slider").oninput = () => turnTo(Number(sidesPart("slider").value));
+// A turn by its letter; an arrow, and a presenter's key, goes on and back.
+function press(event) {
+  const { sides, at } = shown;
+  const by = { ArrowRight: 1, PageDown: 1, ArrowLeft: -1, PageUp: -1, Home: -Infinity, End: Infinity }[event.key];
+  if (sides === null) return;
+  if (by !== undefined) {
+    event.preventDefault();
+    turnTo(at + by);
+  } else if (threadOfKey(event) in sides.program) turnOf(threadOfKey(event));
 }
+
+/** @type {import("../story/scene.js").View} */
+export const compareView = {
+  kind: "compare",
+  title: (place) => `${listsOf(place).map((kind) => LISTS[kind].name).join(" beside ")} · Why not just one lock?`,
+  html,
+  begin,
+  draw,
+  end,
+  press,
+  deeds: {
+    begin: () => beginSides(),
+    copy: copySides,
+    back: () => turnTo(shown.at - 1),
+    turn: ({ dataset }) => turnOf(Number(dataset.thread)),
+    lecture: toggleLecture,
+  },
+};

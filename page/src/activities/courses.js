@@ -18,22 +18,16 @@ import { JUDGED } from "./judging.js";
 const lessonPart = (name) => byId(`lesson-${name}`);
 
 // Takes the text of a course: its lessons are shown, or its faults by their lines. Whether it is one.
-function takeCourseText(panel, text) {
+function takeCourseText(text) {
   const course = triedCourse(askNow, text);
   const { faults, name, lessons } = course;
   const lines = faults.map(({ line, fault }) => `line ${line}: ${fault}`);
   lessonPart("faults").textContent = lines.length > 0 ? lines.join("\n") : `${name}: ${counted(lessons.length, "lesson")}, all good.`;
   lessonPart("faults").dataset.isGood = faults.length > 0 ? "no" : "yes";
   lessonPart("link-text").hidden = true;
-  if (faults.length === 0) panel.takeCourse(course);
-  fillCourses(panel);
+  if (faults.length === 0) learning.panel.takeCourse(course);
   drawLearnMap();
   return faults.length === 0;
-}
-
-function fillCourses({ kept, course }) {
-  lessonPart("course").replaceChildren(...[BOOK_NAME, ...kept.courses.keys()].map((name) => new Option(name)));
-  lessonPart("course").value = course.name;
 }
 
 // Takes the course that an address has.
@@ -51,11 +45,13 @@ export async function takeCourseOfAddress(letters) {
 export function showCourseText(text) {
   lessonPart("course-text").value = text;
   lessonPart("write").open = true;
-  takeCourseText(learning.panel, text);
+  takeCourseText(text);
 }
 
-async function copyCourseLink(panel) {
-  const address = await courseAddress(panel.course.text);
+async function copyCourseLink() {
+  const { course } = learning.panel;
+  const address = await courseAddress(course.text);
+  if (course !== learning.panel.course || lessonPart("faults").dataset.isGood !== "yes") return; // another text was checked meanwhile
   const tooLong = "This course is too long for a link: save it, and hand out the file.";
   if (address === null) return (lessonPart("faults").textContent = tooLong);
   const link = linkTo(address);
@@ -64,35 +60,36 @@ async function copyCourseLink(panel) {
   box.hidden = false;
   box.select();
   const isCopied = await copied(link);
-  lessonPart("faults").textContent = `${isCopied ? "The link is copied" : "Copy the link below"}: it opens "${panel.course.name}".${warningOf(link)}`;
+  if (box.hidden) return;
+  lessonPart("faults").textContent = `${isCopied ? "The link is copied" : "Copy the link below"}: it opens "${course.name}".${warningOf(link)}`;
 }
 
-export function listenToCourses(panel) {
-  fillCourses(panel);
+export function listenToCourses() {
   const box = lessonPart("course-text");
   lessonPart("course").onchange = () => {
     const name = lessonPart("course").value;
-    takeCourseText(panel, name === BOOK_NAME ? BOOK : panel.kept.courses.get(name));
-    box.value = panel.course.text;
+    takeCourseText(name === BOOK_NAME ? BOOK : learning.panel.kept.courses.get(name));
+    box.value = learning.panel.course.text;
   };
   lessonPart("write").ontoggle = () => {
-    if (box.value === "") box.value = panel.course.text;
+    if (box.value === "") box.value = learning.panel.course.text;
   };
   lessonPart("file").onchange = async () => {
     box.value = await lessonPart("file").files[0].text();
     lessonPart("file").value = "";
     lessonPart("write").open = true;
-    takeCourseText(panel, box.value);
+    takeCourseText(box.value);
   };
-  lessonPart("try").onclick = () => takeCourseText(panel, box.value);
-  lessonPart("link").onclick = () => takeCourseText(panel, box.value) && copyCourseLink(panel);
+  lessonPart("try").onclick = () => takeCourseText(box.value);
+  lessonPart("link").onclick = () => takeCourseText(box.value) && copyCourseLink();
   lessonPart("save").onclick = () => saveText("lessons.course", box.value);
 }
 
 // ---- what is handed in
 
 // The text with all solutions is shown, and copied where the browser does that.
-async function handIn(panel) {
+async function handIn() {
+  const { panel } = learning;
   const lessons = panel.course.lessons.filter(({ name }) => panel.isSolved(name));
   const solutions = lessons.map(({ name }) => ({ name, schedule: panel.own.solutions.get(name) }));
   const orders = Object.values(keptUnder(JUDGED) ?? {}).filter(isText);
@@ -106,10 +103,10 @@ async function handIn(panel) {
   lessonPart("told").textContent = (await copied(box.value)) ? `The text with ${count} is copied.` : `Copy this text: it has ${count}.`;
 }
 
-export function listenToHandIn(panel) {
-  lessonPart("student").value = panel.kept.student;
-  lessonPart("hand-in").onclick = () => handIn(panel);
+export function listenToHandIn() {
+  lessonPart("hand-in").onclick = handIn;
   lessonPart("student").onchange = () => {
+    const { panel } = learning;
     panel.kept.student = lessonPart("student").value.trim();
     if (!panel.kept.save()) lessonPart("told").textContent = "This browser keeps nothing: hand in before you leave the page.";
   };

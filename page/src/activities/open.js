@@ -2,14 +2,14 @@
 import { TRACES } from "../../made/traces.js";
 import { numberOfLevel } from "../data/chapter.js";
 import { byId } from "../page/dom.js";
+import { showMarks } from "../page/editor.js";
 import { isExample, openKept } from "../page/example.js";
 import { HERE, isText, keepWork, keptUnder, works } from "../page/kept.js";
 import { fillWorks, pickExample } from "../page/menu.js";
 import { exampleShown, goTo, held, now, tell } from "../page/now.js";
-import { goToPlace, setView } from "../page/places.js";
+import { setView } from "../page/places.js";
 import { stopPlay } from "../page/play.js";
 import { entryOf } from "../page/state.js";
-import { showMarks } from "../page/view.js";
 import { keepSoon, visit } from "../page/visit.js";
 import { sceneOfHash } from "../page/scene_address.js";
 import { openTask, openWork, ownTask } from "../page/work.js";
@@ -18,30 +18,19 @@ import { escaped } from "../run/markup.js";
 import { learning } from "../story/learning.js";
 import { keptStory } from "../story/kept_story.js";
 import { faultOfScene, openScene } from "../story/scene.js";
-import { openCompare } from "./compare.js";
 import { showCourseText, takeCourseOfAddress } from "./courses.js";
 import { beginJudging } from "./judge_begin.js";
-import { drawJudgeMap } from "./judge_map.js";
-import { drawReadMap } from "./read.js";
 import { showRecorded } from "./recorded.js";
 import { FIRST, openSeed } from "./watch.js";
 
-const MAPS = { judge: drawJudgeMap, read: drawReadMap };
 const WANTS_ENGINE = { learn: "a lesson", judge: "runs to judge", break: "a broken list", compare: "two lists side by side" };
 
 function needEngine(what) {
   if (held.engine === null) throw new AddressFault(`the address names ${what}, which cannot be run here`);
 }
 
-function showMap(activity) {
-  stopPlay();
-  MAPS[activity]();
-  goToPlace(activity, "map");
-  scrollTo(0, 0);
-}
-
 function openStory(place) {
-  needEngine("a place where threads step");
+  if (place.activity !== "read") needEngine(WANTS_ENGINE[place.activity] ?? "a place where threads step");
   if (place.activity === "story" && place.id === "") place.id = String(keptStory().at);
   const fault = faultOfScene({ id: "", given: {}, ...place });
   if (fault !== null) throw new AddressFault(fault);
@@ -54,12 +43,10 @@ const openLevel = (id, text, view) => openStory({ activity: "break", id, given: 
 
 /** @param {string[]} place @param {any} wanted */
 function openPlace([activity, value], { text, event, view }) {
-  if (activity in WANTS_ENGINE) needEngine(WANTS_ENGINE[activity]);
   if (activity === "break") return openLevel(value, text, view);
   if (activity === "watch" && value === "") return openStory({ activity: "ask", view });
-  if (activity === "compare") return openCompare(null);
   if (activity === "learn") return openStory({ activity, id: value, given: text === null ? {} : { text }, view });
-  if (activity !== "watch") return showMap(activity);
+  if (activity !== "watch") return openStory({ activity, view });
   if (text === null) openRun({ seed: null, example: value, event });
   else openLink({ text, event, lacks: null });
 }
@@ -113,10 +100,8 @@ async function openAddress(hash) {
     setView(wanted.view);
     if (wanted.course !== null) await openCourse(wanted);
     else if (wanted.place !== null) openPlace(wanted.place, wanted);
-    else if (wanted.sides !== null) {
-      needEngine("two lists side by side");
-      openCompare(wanted.sides);
-    } else if (wanted.example !== null || wanted.text !== null || wanted.seed !== null) openRun(wanted);
+    else if (wanted.sides !== null) openStory({ activity: "compare", given: wanted.sides, view: wanted.view });
+    else if (wanted.example !== null || wanted.text !== null || wanted.seed !== null) openRun(wanted);
     else return false;
     return true;
   } catch (fault) {
@@ -126,9 +111,9 @@ async function openAddress(hash) {
   }
 }
 
-// Recorded calls, or a course, that were opened as a file stand at the map of their activity.
+// Recorded calls, or a course, that were opened as a file stand at their activity.
 export function openRecorded(text) {
-  showMap("judge");
+  openStory({ activity: "judge" });
   showRecorded(text);
 }
 

@@ -2,6 +2,7 @@
 import { byId } from "../page/dom.js";
 import { escaped, tag } from "../run/markup.js";
 import { drawCard } from "../story/ask_map.js";
+import { head } from "../story/scene.js";
 
 export const PAGES = [
   ["how-it-works.html", "How it works", "The five lists, from one lock to none, each with the runs that show why."],
@@ -24,17 +25,14 @@ const TERMS = {
   "not linearizable": "Proved of a report by a few of its calls: no order of them explains their replies.",
 };
 
-export function drawReadMap() {
+function html() {
   const cards = PAGES.map(([href, title, says]) => drawCard({ href, list: "", title, says: escaped(says) }));
   const terms = Object.entries(TERMS).map(([term, says]) => `<div><dt>${term}</dt><dd>${escaped(says)}</dd></div>`);
   const isAlone = document.body.dataset.alone !== undefined; // the page is one file, without the others beside it
   const pages = isAlone ? "" : tag("div", { class: "cards" }, ...cards);
-  const words = tag("dl", { class: "words card" }, ...terms);
-  const heads = ["Read", "Terms", "What is proved, and what is not"].map((text, at) => tag(at === 0 ? "h1" : "h2", {}, text));
-  byId("map-read").innerHTML = [heads[0], pages, heads[1], words, heads[2]].join("");
-  const box = byId("proved").querySelector("details");
-  const copy = document.createElement("div");
-  copy.className = "proved";
-  copy.innerHTML = box.innerHTML.replace(/<summary>.*?<\/summary>/, "");
-  byId("map-read").append(copy);
+  return `${head("", "Read", "", "title")}${pages}<h2>Terms</h2>${tag("dl", { class: "words card" }, ...terms)}
+    <h2>What is proved, and what is not</h2><div class="panel prose">${byId("proved").innerHTML}</div>`;
 }
+
+/** @type {import("../story/scene.js").View} */
+export const readView = { kind: "asks", title: () => "Read · Why not just one lock?", html };

@@ -93,12 +93,3 @@ export const BOOK_CODE = {
     ...READS,
   ],
 };
-
-// What each list is remembered by.
-export const IDEAS = {
-  coarse: "One lock for the whole list",
-  fine: "A lock in each node, taken hand over hand",
-  optimistic: "Walk without locks, lock two nodes, look again",
-  lazy: "A mark says: removed. Reads take no lock",
-  "lock-free": "No lock at all: compare-and-swap of link and mark",
-};

@@ -34,7 +34,7 @@ function drawWindow(scale, total, x) {
 // What the row of the contents is called. A broken list may have other keys than the points of its calls say.
 function nameOfContents({ lacks }) {
   if (lacks === null) return label({ class: "name", x: 6, y: 17 }, "set");
-  const lines = ["set by", "points"].map((words, line) => label({ class: "name", x: 2, y: 10 + 12 * line }, words));
+  const lines = ["set as", "told"].map((words, line) => label({ class: "name", x: 2, y: 10 + 12 * line }, words));
   return tag("g", {}, title(`${BY_POINTS}; the list may have other keys`), ...lines);
 }
 const BY_POINTS = "the set by the linearization points of the calls";

@@ -1,5 +1,5 @@
 // Draws the history: a bar for each call, the moment at which it takes effect, the contents of the set below, and the order.
-import { callText, colourOf, label, tag, title } from "../run/markup.js";
+import { callText, colourOf, label, letterOf, tag, title } from "../run/markup.js";
 import { labelWidth, placeLabels, ROW_HEIGHT, signOf, SIGNS_IN_WORDS } from "./labels.js";
 
 export const HISTORY_LEFT = 50;
@@ -72,15 +72,12 @@ export function scaleOf(trace, count, width, hides = false) {
   };
 }
 
-// How high the bars of a run are together.
-export const heightOfCalls = (trace, width) => scaleOf(trace, 0, width).height;
-
 // A point is reached once the call that has it is known to stand there: at its change, or when it answers.
 export const isReached = (call, count) => call.at <= count && (call.changes || (call.ended !== null && call.ended <= count));
 
 function drawLane(scale, thread) {
   const y = scale.y(thread);
-  const badge = tag("rect", { x: 2, y: y - 10, width: 38, height: 20, rx: 4 }) + label({ x: 21, y: y + 5 }, `t${thread}`);
+  const badge = tag("rect", { x: 2, y: y - 10, width: 38, height: 20, rx: 4 }) + label({ x: 21, y: y + 5 }, letterOf(thread));
   return (
     tag("line", { class: "lane", x1: HISTORY_LEFT - 6, x2: scale.edge, y1: y, y2: y }) +
     tag("g", { class: `badge ${colourOf(thread)}` }, badge)
@@ -90,7 +87,7 @@ function drawLane(scale, thread) {
 function callInWords(call, now) {
   const isOpen = call.ended === null || call.ended > now;
   const events = isOpen && now < Infinity ? `from event ${call.begun} on` : `events ${call.begun} to ${call.ended ?? "the end"}`;
-  return `call ${call.id}: t${call.thread} ${callText(call)} ${isOpen ? "pending" : call.reply}, ${events}`;
+  return `call ${call.id}: ${letterOf(call.thread)} ${callText(call)} ${isOpen ? "pending" : call.reply}, ${events}`;
 }
 
 function drawBar(call, scale) {

@@ -1,6 +1,6 @@
 // Draws the bars on which the reader puts points: each is a slider for the keyboard; the call that clashes is red.
 import { lastMoment, nameOfCall } from "../run/judged.js";
-import { callText, chipOf, colourOf, escaped, label, tag, title } from "../run/markup.js";
+import { callText, chipOf, colourOf, escaped, label, letterOf, tag, title } from "../run/markup.js";
 import { recordedInWords } from "../run/recorded.js";
 import { placeLabels, ROW_HEIGHT, signOf, widthOf } from "./labels.js";
 
@@ -47,7 +47,7 @@ const momentInWords = (at) => (Number.isInteger(at) ? `at ${at}` : `after ${Math
 
 function drawJudgedLane(scale, place, thread = place) {
   const y = scale.y(place);
-  const badge = tag("rect", { x: 2, y: y - 10, width: 38, height: 20, rx: 4 }) + label({ x: 21, y: y + 5 }, `t${thread}`);
+  const badge = tag("rect", { x: 2, y: y - 10, width: 38, height: 20, rx: 4 }) + label({ x: 21, y: y + 5 }, letterOf(thread));
   const lane = { class: "lane", x1: JUDGE_LEFT - 6, x2: scale.width - JUDGE_RIGHT, y1: y, y2: y };
   return tag("line", lane) + tag("g", { class: `badge ${colourOf(thread)}` }, badge);
 }

@@ -1,11 +1,11 @@
 // Draws the list: the chain, below it the nodes that are not in it, each thread's registers under the nodes to which they point.
 import { LISTS } from "../../made/rows.js";
-import { callText, colourOf, keyText, label, said, tag, title } from "../run/markup.js";
+import { callText, colourOf, holderOf, keyText, label, letterOf, said, tag, title } from "../run/markup.js";
 import { ownerOf } from "../run/state.js";
 import { NODE_REGISTERS } from "../run/trace.js";
 import { drawFoldLink, drawLink, drawTip, LINK_WIDTH } from "./arrows.js";
-import { arranged, FOLD_WIDTH, isPointing, NODE_HEIGHT, shapeFor, TOP } from "./places.js";
-export const LOCK_HEIGHT = 31; // of what stands above a node
+import { FOLD_WIDTH, isPointing, NODE_HEIGHT, TOP } from "./places.js";
+const LOCK_HEIGHT = 31; // of what stands above a node
 
 // What a node is: one of the chain, a thread's own that is not in it yet, or one that was taken out.
 function kindOf(state, name, place) {
@@ -15,7 +15,7 @@ function kindOf(state, name, place) {
 
 function nodeInWords(node, name, kind) {
   const where = { in: "", out: ", unlinked" }[kind] ?? ", not linked yet";
-  return `${name}: key ${keyText(node.key)}, link ${said(node.link)}, lock ${node.lock}${where}`;
+  return `${name}: key ${keyText(node.key)}, link ${said(node.link)}, lock ${node.lock === "free" ? "free" : holderOf(node.lock)}${where}`;
 }
 
 // Behind the key that the event reads. (A line below it would make ±∞ of +∞.)
@@ -62,10 +62,10 @@ function drawLock(lock, x, y) {
   return tag(
     "g",
     { class: `lock ${colourOf(thread)}`, transform: `translate(${x},${y})` },
-    title(`locked by t${thread}`),
+    title(`locked by ${holderOf(lock)}`),
     tag("path", { d: "M12 9 v-3 a6 6 0 0 1 12 0 v3" }),
     tag("rect", { x: 0, y: 8, width: 36, height: 18, rx: 4 }),
-    label({ x: 18, y: 22 }, `t${thread}`),
+    label({ x: 18, y: 22 }, holderOf(lock)),
   );
 }
 
@@ -105,27 +105,15 @@ const DEFINITIONS = tag(
   ...["in", "out", "hot"].map(drawTip),
 );
 
-// The list, in a box so wide and, where that is less than what it takes, so high; with room for the other events of its run.
-// Where several lists are drawn, each has a name for what its arrows and hatches refer to.
-export function drawList(state, event, room, most = Infinity, least = { width: 0, height: 0 }, own = "") {
-  const shape = shapeFor(room);
-  const { chain, items, places, labels, names, more, width: wide, height: high } = arranged(state, event, shape);
-  const width = Math.max(wide, least.width);
-  const whole = Math.max(high, least.height);
+// The list as it is arranged, at least so high. Where several lists are drawn, each has a name for what its arrows and hatches refer to.
+export function drawList(state, event, { chain, items, places, labels, names, more, width, height: high }, least = 0, own = "") {
   const above = state.trace.kind === "coarse" ? -4 : TOP - LOCK_HEIGHT; // the list's own lock stands there
-  const height = whole - above;
+  const height = Math.max(high, least) - above;
   const folds = items.map((item, index) => (item.folded ? drawFold(item) + drawFoldLink(item, items[index + 1]) : ""));
   const nodes = names.map((name) => drawNode(state, name, places[name], event));
   const links = names.map((name) => drawLink(state, name, places, event));
   const pointers = labels.map((own) => drawPointer(own, places));
-  const scale = Math.max(shape.scale, Math.min(1.6, (room - 4) / width, most / height));
-  const frame = {
-    width: width * scale,
-    height: height * scale,
-    viewBox: `0 ${above} ${width} ${height}`,
-    role: "img",
-    "aria-label": listInWords(chain, state),
-  };
+  const frame = { width, height, viewBox: `0 ${above} ${width} ${height}`, role: "img", "aria-label": listInWords(chain, state) };
   const drawn = tag("svg", frame, DEFINITIONS, ...nodes, ...folds, ...links, ...pointers, drawListLock(state));
   const named = own === "" ? drawn : drawn.replace(/(url\(#|id=")(tip|hatch)/g, `$1${own}-$2`);
   return named + (more > 0 ? tag("p", { class: "note" }, `and ${more} more nodes that are not in the chain`) : "");
@@ -148,6 +136,6 @@ function threadInWords(state, held, thread, locks) {
   const set = registers.filter((name) => NODE_REGISTERS.includes(name) && isPointing(held, name));
   const at = set.map((name) => `${name} ${held[name]}`).join(", ");
   const own = locks[`t${thread}`];
-  const has = own === undefined ? "" : `; t${thread} has ${own.join(" and ")}`;
-  return `t${thread} ${callText(held.call)} at row ${held.pc}${at === "" ? "" : `: ${at}`}${has}`;
+  const has = own === undefined ? "" : `; ${letterOf(thread)} has ${own.join(" and ")}`;
+  return `${letterOf(thread)} ${callText(held.call)} at row ${held.pc}${at === "" ? "" : `: ${at}`}${has}`;
 }

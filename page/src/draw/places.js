@@ -1,12 +1,13 @@
 // Where each node of the list is drawn, and the registers of the threads under the nodes to which they point.
 import { LISTS } from "../../made/rows.js";
+import { letterOf } from "../run/markup.js";
 import { ownerIn } from "../run/outcomes.js";
 import { isWritten, keyNumber, linkTarget } from "../run/state.js";
 import { NODE_REGISTERS } from "../run/trace.js";
 
 // The widths of a node and of the gap behind it: on a phone the chain of a lesson or of a level is to be seen whole.
-const WIDE = { node: 94, gap: 48, least: 420, scale: 0.8 };
-const COMPACT = { node: 76, gap: 32, least: 340, scale: 0.65 };
+const WIDE = { node: 94, gap: 48, share: 1 };
+const COMPACT = { node: 76, gap: 32, share: 0.76 }; // share: of the room that a wide one needs
 const NARROW = 480; // pixels
 export const shapeFor = (room) => (room < NARROW ? COMPACT : WIDE);
 
@@ -116,7 +117,7 @@ function labelTexts(thread, registers, room) {
   for (const register of registers) {
     const joined = `${texts[texts.length - 1]}, ${register}`;
     if (texts.length > 0 && joined.length * SIGN_WIDTH <= room) texts[texts.length - 1] = joined;
-    else texts.push(`▲ t${thread} ${register}`);
+    else texts.push(`▲ ${letterOf(thread)} ${register}`);
   }
   return texts;
 }
@@ -142,7 +143,7 @@ function pointerLabels(pointers, places, rooms) {
 }
 
 // The places of all nodes that are drawn, of the registers under them, and the size of the whole.
-export function arranged(state, event, shape = WIDE) {
+export function arranged(state, event, shape) {
   const chain = state.chain();
   const pointers = pointersOf(state, event);
   const important = importantNodes(state, event, pointers);
@@ -157,6 +158,6 @@ export function arranged(state, event, shape = WIDE) {
   const bottom = shown.length > 0 ? below : TOP;
   const names = [...items.filter((item) => item.name).map((item) => item.name), ...shown];
   const height = bottom + NODE_HEIGHT + 18 * lanesUnder(labels, bottom) + 14;
-  const wide = Math.max(width, right, shape.least, ...labels.map((own) => own.right));
+  const wide = Math.max(width, right, ...labels.map((own) => own.right));
   return { chain, items, places, labels, names, more, width: wide, height };
 }

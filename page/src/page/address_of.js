@@ -2,6 +2,7 @@
 import { CLASSICS } from "../../made/classics.js";
 import { LISTS } from "../../made/rows.js";
 import { addressOf } from "../run/address.js";
+import { inLetters } from "../run/markup.js";
 import { partsOfSeed } from "../run/seed.js";
 import { addressOfScene } from "./scene_address.js";
 
@@ -11,31 +12,26 @@ function ofRun(state) {
   return `#${task.kind}=${task.id}&event=${run.count}`;
 }
 
-// The address of a state, from # on, or null where it has none. `given` has what is not of the state: the packed course (null for the
-// book) and the address of two lists.
+// The address of a state, from # on, or null where it has none. `given` has what is not of the state: the packed course, or null for
+// the book.
 export function addressIn(state, given) {
   const { place, exercise } = state;
   if (place.screen === "scene") return addressOfScene(state, given);
   const view = place.view === null ? "" : `&view=${place.view}`;
-  if (place.activity === "compare") return given.sides === null ? `#compare${view}` : `${given.sides}${view}`;
-  if (place.screen === "map") return `#${place.activity}${view}`;
   const address = ofRun(state);
   return address === null ? null : `${address}${exercise === null ? "" : "&judge"}${view}`;
 }
 
 const WHOLE = "Why not just one lock?";
-const NAMES = { judge: "Judge", compare: "Compare", read: "Read" };
 
-// The title of the window. `titles` has what a scene and two lists are called.
-export function titleIn(state, titles) {
+// The title of the window.
+export function titleIn(state, titleOfScene) {
   const { place, task, run } = state;
   const list = run.trace === null ? "" : LISTS[run.trace.kind].name;
-  if (place.screen === "scene") return titles.scene;
-  if (place.activity === "compare") return `${titles.sides} · ${WHOLE}`;
-  if (place.screen === "map") return `${NAMES[place.activity]} · ${WHOLE}`;
+  if (place.screen === "scene") return titleOfScene(place);
   const judged = state.exercise === null ? "" : "Judge: ";
   const ofTask = {
-    example: () => `${judged}${CLASSICS[task.id].question}`,
+    example: () => `${judged}${inLetters(CLASSICS[task.id].question)}`,
     seed: () => `${judged}Run ${partsOfSeed(task.id).number} of ${list}`,
     own: () => `${judged}${task.work}: ${list}`,
   };

@@ -1,46 +1,16 @@
-// What the buttons, the slider, the box of the schedule and the history do.
-import { HISTORY_LEFT } from "../draw/history.js";
-import { escaped } from "../run/markup.js";
+// What the buttons, the slider and the box of the schedule do.
 import { byId } from "./dom.js";
+import { showMarks, watchEditor } from "./editor.js";
 import { openFile, refreshReport, saveText } from "./files.js";
 import { keepUnder, keptUnder } from "./kept.js";
 import { toggleKeys, toggleLecture } from "./keys.js";
 import { cancelLong } from "./long_run.js";
 import { chooseInList } from "./menu.js";
-import { change, dispatch, now, show, tell } from "./now.js";
-import { PHONE } from "./places.js";
+import { change, dispatch, now } from "./now.js";
 import { changeSpeed, goByHand, togglePlay, wantsLessMotion } from "./play.js";
 import { savePicture } from "./save_picture.js";
-import { drawnHistory, showMarks, watchEditor } from "./view.js";
 import { copyLink, keepSoon } from "./visit.js";
 import { newSchedule, runBox, runWithOpening } from "./work.js";
-
-function clickHistory(event) {
-  const drawn = byId("calls").firstElementChild.getBoundingClientRect();
-  goByHand(drawnHistory.scale.first - 1 + Math.ceil((event.clientX - drawn.left - HISTORY_LEFT) / drawnHistory.scale.step));
-}
-
-// What a tooltip says, where a finger or the mouse is put on a part of a drawing.
-const tooltipOf = (target) => target.closest("g, svg")?.querySelector(":scope > title")?.textContent ?? "";
-
-function tellTitle(event) {
-  const said = tooltipOf(event.target);
-  if (said !== "") tell(escaped(said));
-}
-
-export function listenToDrawings() {
-  byId("turns").onclick = (event) => event.target.dataset.event && goByHand(Number(event.target.dataset.event));
-  byId("list").onclick = tellTitle;
-  byId("history").onclick = (event) => {
-    const said = tooltipOf(event.target);
-    clickHistory(event);
-    tell(escaped(said));
-  };
-  byId("all-threads").onclick = () => {
-    dispatch("prefs", { allThreads: !now.prefs.allThreads });
-  };
-  for (const name of ["table-box", "listing-box", "threads-box", "turns-box"]) byId(name).ontoggle = show;
-}
 
 // What cannot be pressed now does nothing.
 export function stopUnable(event) {
@@ -49,33 +19,20 @@ export function stopUnable(event) {
   event.preventDefault();
 }
 
-// Past the links of the frame, for whoever comes by the key Tab: to the step, to what can be pressed first, or to the first link of a map.
+// Past the links of the frame, for whoever comes by the key Tab: to the step, or to what can be pressed first.
 function skipToRun() {
-  const first = {
-    map: `#map-${now.place.activity} a, [data-activity=compare] #sides-turns button`,
-    stage: "#next",
-    scene: "#scene :is(.option, .fig button, .card, .foot .primary)",
-  };
+  const first = { stage: "#next", scene: "#scene :is(.option, .fig button, .card, #sides-turns button, .foot .primary)" };
   document.querySelector(first[now.place.screen])?.focus();
 }
 
-// On a phone the controls stay at its foot: what they do is shown above them.
-function bringList() {
-  const { top } = byId("said").getBoundingClientRect();
-  const isSeen = top >= 0 && byId("list").getBoundingClientRect().bottom <= byId("dock").getBoundingClientRect().top;
-  if (innerWidth <= PHONE && !isSeen) scrollTo(0, scrollY + top - 8);
-}
-
 export function listenToBar() {
-  byId("dock").addEventListener("click", bringList);
-  byId("first").onclick = () => goByHand(0);
   byId("back").onclick = () => goByHand(now.run.count - 1);
   byId("next").onclick = () => goByHand(now.run.count + 1);
-  byId("last").onclick = () => goByHand(now.run.trace.total);
   byId("play").onclick = togglePlay;
   byId("speed").onchange = changeSpeed;
   byId("speed").value = wantsLessMotion() ? "slow" : "medium";
   byId("slider").oninput = () => goByHand(Number(byId("slider").value));
+  byId("all-threads").onclick = () => dispatch("prefs", { allThreads: !now.prefs.allThreads });
   byId("keys").onclick = toggleKeys;
   byId("skip").onclick = skipToRun;
   for (const name of ["lecture", "leave"]) byId(name).onclick = toggleLecture;

@@ -27,22 +27,11 @@ export function setHidden(part, isHidden, other) {
   part.hidden = isHidden;
 }
 
-// Puts a text of elements in place of what a box has, where that is another one.
+// Puts a text of elements in place of what a box has; whether that is another one.
 export function setHtml(box, html) {
-  if (texts.get(box) === html) return;
+  if (texts.get(box) === html) return false;
   texts.set(box, html);
   box.innerHTML = html;
+  return true;
 }
 const texts = new WeakMap();
-
-// A box keeps the height that it has had for one thing, so that what stands below it moves once at most.
-export function keepHeight(box, of) {
-  const key = `${of} ${innerWidth}`;
-  const isSame = heights.get(box)?.key === key;
-  if (!isSame) box.style.minHeight = "";
-  const height = box.offsetHeight;
-  if (isSame && height <= heights.get(box).height) return;
-  heights.set(box, { key, height });
-  box.style.minHeight = `${height}px`;
-}
-const heights = new WeakMap();

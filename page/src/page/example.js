@@ -2,8 +2,8 @@
 import { EXAMPLES, TRACES } from "../../made/traces.js";
 import { readExamples } from "../engine/answers.js";
 import { Trace } from "../run/trace.js";
+import { showMarks } from "./editor.js";
 import { askNow, change, held, takeScheduleOfTrace, takeTrace } from "./now.js";
-import { showMarks } from "./view.js";
 
 const KEPT_BESIDE = "a trace that is kept beside the page";
 const known = { examples: null };

@@ -2,17 +2,16 @@
 // want them.
 import { byId } from "./dom.js";
 import { now, show } from "./now.js";
-import { isAtMap, setView } from "./places.js";
+import { setView } from "./places.js";
 import { goByHand, goToTurn, togglePlay } from "./play.js";
 
-export const keysOf = {}; // of an activity that has keys of its own, what they do
+export const keysOf = { scene: (event) => event }; // what keys do in a scene
 
 export function pressKey(event) {
   if (/^(TEXTAREA|INPUT|SELECT)$/.test(event.target.tagName) && event.target.id !== "slider") return;
   if (event.ctrlKey || event.metaKey || event.altKey || event.target.closest("[role=slider]") !== null) return;
   if (event.key === "Escape" && now.place.view !== null) return toggleLecture();
-  if (now.place.activity in keysOf) return keysOf[now.place.activity](event);
-  if (isAtMap() && event.key !== "?") return;
+  if (now.place.screen === "scene") return keysOf.scene(event);
   const { total } = now.run.trace;
   const far = now.place.view === "lecture" ? 1 : 10; // what a lecturer's pointer sends
   const steps = { ArrowRight: 1, ArrowLeft: -1, PageDown: far, PageUp: -far, Home: -total, End: total };
@@ -36,5 +35,5 @@ export function toggleLecture() {
   const isLeft = document.activeElement === byId("leave");
   setView(now.place.view === null ? "lecture" : null);
   show();
-  if (isLeft) byId(now.place.activity === "compare" ? "sides-lecture" : "lecture").focus();
+  if (isLeft) (byId("sides-lecture") ?? byId("lecture")).focus();
 }

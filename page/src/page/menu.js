@@ -1,7 +1,7 @@
 // What can be opened by its name: the reader's works and the classic examples; and the question of the example that
 // is shown, with the events at which it turns.
 import { CLASSICS } from "../../made/classics.js";
-import { tag } from "../run/markup.js";
+import { inLetters, tag } from "../run/markup.js";
 import { eventsAsked } from "../run/schedule_text.js";
 import { byId, redraw } from "./dom.js";
 import { examples, openKept } from "./example.js";
@@ -49,9 +49,9 @@ export function showQuestion() {
   const { turns } = classic;
   const place = (event) => `left: calc(8px + (100% - 16px) * ${event / total})`;
   byId("ticks").innerHTML = box.open && !isJudging() ? turns.map((event) => `<i style="${place(event)}"></i>`).join("") : "";
-  byId("question").textContent = classic.question;
-  byId("turns-on").textContent = classic.turnsOn;
-  byId("without").textContent = classic.without;
+  byId("question").textContent = inLetters(classic.question);
+  byId("turns-on").textContent = inLetters(classic.turnsOn);
+  byId("without").textContent = inLetters(classic.without);
   const here = (event) => (event === now.run.count ? { "aria-current": "true" } : {});
   redraw(byId("turns"), turns.map((event) => tag("button", { "data-event": event, ...here(event) }, event)).join(" "));
 }

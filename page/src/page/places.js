@@ -1,15 +1,7 @@
-// Where the reader is: a scene of the story, or an activity, and in that the map of what there is, or the stage; and what is seen there.
+// Where the reader is: a scene, or the stage of the bench; and what is seen there.
 import { byId, setHidden } from "./dom.js";
-import { change, now, show } from "./now.js";
+import { change } from "./now.js";
 import { factsOf, SEEN } from "./seen.js";
-
-export const PHONE = 560; // pixels, as in the style sheets
-export const isAtMap = () => now.place.screen === "map";
-
-export function goToPlace(activity, screen) {
-  change("place", { activity, screen });
-  show();
-}
 
 // What is seen in a state; and the activity is marked as the one that is open.
 export function showParts(state) {
@@ -29,18 +21,5 @@ export function showParts(state) {
 const placed = { key: "" };
 export const services = { hasEngine: true }; // until it is known that there is none
 
-const ONE_COLUMN = 800; // pixels, as in style/views.css: in a window that is no wider the parts of a slide stand below one another
-
-// How large a slide is drawn: as large as the window has room for; in one column, where it is scrolled, as everything else.
-export function slideZoom(width, height) {
-  if (width <= ONE_COLUMN) return 1;
-  return Math.max(0.75, Math.min(3, width / 1280, height / 720));
-}
-
-export const fitSlide = () => document.body.style.setProperty("--slide", String(slideZoom(innerWidth, innerHeight)));
-
-// A view shows one thing alone: for a lecture the list, the sentence and the history, or one of them for a frame.
-export function setView(view) {
-  change("view", { view });
-  fitSlide();
-}
+// A view shows one thing alone: a slide of a lecture, or the list or the history for a frame.
+export const setView = (view) => change("view", { view });

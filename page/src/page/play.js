@@ -9,10 +9,11 @@ const play = { timer: null, stop: NO_STOP }; // the event at which it stops by i
 
 export const wantsLessMotion = () => matchMedia("(prefers-reduced-motion: reduce)").matches;
 
+export const isPlaying = () => play.timer !== null; // the sentence is said where the play ends, and not before
+
 function showPlay() {
   byId("play").textContent = play.timer === null ? "Play" : "Pause";
   byId("play").setAttribute("aria-pressed", String(play.timer !== null));
-  byId("said").setAttribute("aria-live", play.timer === null ? "polite" : "off");
 }
 
 function pausePlay() {
@@ -37,7 +38,6 @@ function startPlay(stop = NO_STOP) {
   showPlay();
 }
 
-// The sentence is said where the play ends, and not before.
 function playOn() {
   const { stop } = play;
   const count = now.run.count + 1;

@@ -2,7 +2,6 @@
 // paper.
 import { byId } from "./dom.js";
 import { saveText } from "./files.js";
-import { isJudging } from "./now.js";
 
 const DRAWN_BY = ["fill", "stroke", "stroke-width", "stroke-dasharray", "fill-opacity", "stroke-opacity", "opacity", "font-family",
   "font-size", "font-weight", "font-style", "text-anchor", "paint-order", "text-decoration-line"];
@@ -20,8 +19,7 @@ function drawnOut(svg) {
 
 // The drawings of the list and of what stands below it, one below the other.
 function wholePicture() {
-  const places = isJudging() ? ["list", "judge-bars"] : ["list", "calls", "contents"];
-  const drawings = places.map((id) => byId(id).querySelector("svg")).filter((svg) => svg !== null && svg.clientWidth > 0);
+  const drawings = [...byId("stage").querySelectorAll(":is(.list, .strip, #judge-bars) svg")].filter((svg) => svg.clientWidth > 0);
   const boxes = drawings.map((svg) => ({ svg, width: svg.clientWidth, height: svg.clientHeight }));
   const width = Math.max(...boxes.map((box) => box.width));
   let y = 0;

@@ -4,7 +4,7 @@ import { AddressFault, addressOf, LONGEST_ADDRESS, longLine } from "../run/addre
 import { startOfLacking } from "../run/broken.js";
 import { eventsAsked } from "../run/schedule_text.js";
 
-const SCENES = /** @type {const} */ (["assignment", "story", "ask", "code", "teachers"]); // `break` is in run/address.js, with its schedules
+const SCENES = ["assignment", "story", "ask", "code", "teachers"]; // run/address.js reads the others, with their schedules
 const SCENE_VIEWS = ["lecture", "embed"];
 
 // The scene that an address names, or null; whether there is such a screen or question says its view.
@@ -45,16 +45,19 @@ function addressOfLesson({ id }, { text }, { course }) {
   return whole.length <= LONGEST_ADDRESS ? whole : named;
 }
 
+export const addressOfAssignment = ({ id, given }) => `#${new URLSearchParams({ assignment: id, ...given })}`.replaceAll("%2C", ",");
+
+// Of the others: the name of the activity, and its id where it has one.
+const plainAddress = ({ activity, id }) => `#${activity}${id === "" ? "" : `=${id}`}`;
+
 const ADDRESSES = {
-  story: ({ id }) => `#story=${id}`,
-  ask: ({ id }) => (id === "" ? "#ask" : `#ask=${id}`),
-  code: ({ id, given }, { text }) => (text === "" ? `#${new URLSearchParams({ code: id, ...given })}` : text),
+  code: ({ id, given }, { text }) => text || `#${new URLSearchParams({ code: id, ...given })}`,
+  compare: (place, { text }) => text || plainAddress(place),
   break: addressOfLevel,
   learn: addressOfLesson,
-  teachers: () => "#teachers",
-  assignment: ({ id, given }) => `#${new URLSearchParams({ assignment: id, ...given })}`.replaceAll("%2C", ","),
+  assignment: addressOfAssignment,
 };
 
 // `given` has what is not of the state: the packed course, or null for the book's.
 export const addressOfScene = ({ place, scene }, given) =>
-  `${ADDRESSES[place.activity](place, scene, given)}${place.view === null ? "" : `&view=${place.view}`}`;
+  `${(ADDRESSES[place.activity] ?? plainAddress)(place, scene, given)}${place.view === null ? "" : `&view=${place.view}`}`;

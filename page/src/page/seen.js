@@ -1,15 +1,12 @@
 // Which parts of the page are seen where. A part that is not named here is seen wherever what it stands in is.
 
-const isOneOf = (...names) => ({ activity }) => names.includes(activity);
-const isStage = ({ screen, activity }) => screen === "stage" && activity !== "compare";
-const onMapOf = (name) => ({ activity, isMap }) => isMap && activity === name;
+const isStage = ({ screen }) => screen === "stage";
 
 // What decides it: the place, and what the run is.
 export function factsOf(state, { hasEngine }) {
   const { place, run, task, exercise } = state;
   return {
     ...place,
-    isMap: place.screen === "map",
     hasEngine,
     kind: task.kind,
     isJudging: exercise !== null,
@@ -28,18 +25,13 @@ export const SEEN = {
   scene: ({ screen }) => screen === "scene",
   bench: ({ screen }) => screen !== "scene",
   task: (facts) => isStage(facts) && (isFull(facts) || isSlide(facts)),
-  work: isStage,
+  stage: isStage,
   workshop: (facts) => isStage(facts) && isFull(facts),
-  map: (facts) => isFull(facts) && facts.isMap && facts.activity !== "compare",
-  "map-judge": onMapOf("judge"),
-  "map-read": isOneOf("read"),
-  "report-part": (facts) => isFull(facts) || facts.activity === "compare",
-  "sides-box": (facts) => facts.activity === "compare" && facts.hasEngine,
   "question-box": ({ kind, isJudging }) => kind === "example" && !isJudging,
   "own-head": ({ kind }) => kind === "own",
   "seed-box": ({ kind }) => kind === "seed",
-  "judge-head": isOneOf("judge"),
-  "go-on-box": (facts) => facts.activity !== "judge" && isFull(facts) && facts.hasEngine,
+  "judge-head": ({ activity }) => activity === "judge",
+  "go-on-here": (facts) => facts.activity !== "judge" && isFull(facts) && facts.hasEngine,
   past: ({ isJudging, view }) => !isJudging && view !== "list",
   ticks: ({ isJudging }) => !isJudging,
   judge: ({ isJudging }) => isJudging,
@@ -47,15 +39,12 @@ export const SEEN = {
   "judge-note": isFree,
   "judge-levels": ({ isBroken }) => !isBroken,
   "report-box": ({ isJudging, hasEngine }) => !isJudging && hasEngine,
-  dock: isFree,
-  said: isFree,
-  list: (facts) => isFree(facts) && facts.view !== "history",
+  dock: (facts) => isStage(facts) && isFree(facts),
+  "run-figure": isFree,
   "key-help-box": isFree,
   "threads-box": isFree,
-  "code-column": (facts) => isFree(facts) && (isFull(facts) || isSlide(facts)),
-  "listing-box": (facts) => !facts.isBroken && isFull(facts),
-  "table-box": isFull,
-  "legend-box": isFull,
+  "table-box": isFree,
+  "listing-box": (facts) => isFree(facts) && !facts.isBroken,
   told: isFull,
   order: isFull,
   "no-engine": ({ hasEngine }) => hasEngine === false,

@@ -2,11 +2,9 @@
 //
 // @ts-check
 /**
- * @typedef {"story" | "ask" | "code" | "break" | "learn" | "teachers" | "assignment"} SceneName
- * @typedef {"watch" | "judge" | "compare" | "read" | SceneName} Activity
- * @typedef {object} Place  A scene of the story has the id of what is shown there, and `given`, what else its address says.
- * @property {Activity} activity
- * @property {"map" | "stage" | "scene"} screen
+ * @typedef {object} Place  A scene has the id of what is shown there, and `given`, what else its address says.
+ * @property {string} activity  that of a scene (activities/views.js); of the bench "watch" or "judge"
+ * @property {"stage" | "scene"} screen
  * @property {string} id
  * @property {Record<string, string>} given
  * @property {"lecture" | "embed" | "list" | "history" | null} view
@@ -54,7 +52,7 @@ export const stateAtFirst = () => ({
   prefs: { hides: true, allThreads: false, letters: true },
 });
 
-/** The activity to which a run belongs. @param {State} state @returns {Activity} */
+/** The activity to which a run belongs. @param {State} state */
 const activityOfRun = ({ exercise }) => (exercise !== null ? "judge" : "watch");
 
 /** The example that is shown, or "". @param {State} state */
@@ -67,7 +65,7 @@ const within = (count, { total }) => Math.max(0, Math.min(total, count));
 
 /** @type {Record<string, (state: State, action: Action) => State>} */
 const MAKES = {
-  // A map, a scene, or another place without a run of the bench, is shown.
+  // A scene is shown.
   place: (state, { activity, screen, id = "", given = {} }) =>
     ({ ...state, place: { ...state.place, activity, screen, id, given }, scene: SCENE_AT_FIRST }),
   scene: (state, { type, ...given }) => ({ ...state, scene: { ...state.scene, ...given } }),

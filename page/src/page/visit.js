@@ -7,9 +7,9 @@ import { held, now, tell } from "./now.js";
 import { entryOf } from "./state.js";
 
 const MOMENT = 400; // milliseconds: the bar follows once nothing has moved for so long, since browsers refuse quick changes of it
-// The entry of the browser's history that is shown, and whether the page has read what stood there at first; what the address needs that
-// is not in the state: the packed course, and the address of two lists.
-export const visit = { timer: 0, entry: null, isRead: false, course: null, sides: null };
+// The entry of the browser's history that is shown, and whether the page has read what stood there at first; the packed course, which the
+// address needs and the state has not.
+export const visit = { timer: 0, entry: null, isRead: false, course: null };
 
 const addressHere = () => addressIn(held.state, visit);
 

@@ -1,20 +1,18 @@
 // The reader's work on the bench: a text, and the task it is for.
-import { forgetRoom } from "../draw/room.js";
 import { scheduleOfDraft } from "../run/draft.js";
 import { withOpening } from "../run/schedule_text.js";
 import { eventsInCommon } from "../run/trace.js";
 import { byId } from "./dom.js";
+import { showMarks } from "./editor.js";
 import { exampleText } from "./example.js";
 import { keepWork, works } from "./kept.js";
 import { askNow, change, now, tellLine } from "./now.js";
 import { runText } from "./run_text.js";
-import { showMarks } from "./view.js";
 
 // What is made from now on is for this task: it is kept under its name, once it is another text than the one with which the task
 // began; it is run on the whole list, or on a broken one.
 export function beginTask(task, lacks = null) {
   keepWork();
-  forgetRoom();
   change("task", { task, lacks });
 }
 

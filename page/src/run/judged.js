@@ -5,7 +5,7 @@
 // the reader's order explains what the run did, and it need not be the order that the replayer gives. No set is computed here: why
 // an order is refused says the engine's record.
 import { readReport, readVerdict } from "../engine/answers.js";
-import { callText, openReply } from "./markup.js";
+import { callText, letterOf, openReply } from "./markup.js";
 
 export const MOST_JUDGED = 60; // events of a run that is judged
 
@@ -31,7 +31,7 @@ export function exerciseOf(text, level, isWhole = true) {
   return { ...report, level, isWhole, reportText: text, last };
 }
 
-export const nameOfCall = (call) => `${callText(call)} of t${call.thread}`;
+export const nameOfCall = (call) => `${callText(call)} of ${letterOf(call.thread)}`;
 export const lastMoment = (exercise, call) => call.ended ?? exercise.last;
 
 // The replies that a call may give, as a reader picks one: of a ceiling those that name a key of the exercise.

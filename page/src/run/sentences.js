@@ -1,7 +1,7 @@
 // One sentence about an event: what it did, and what comes of it. Both follow from the line of the trace, from what the thread
 // held before and holds after, and from the column "Then" of the table's row (rows.js).
 import { LISTS } from "../../made/rows.js";
-import { callText, chipOf, said } from "./markup.js";
+import { callText, chipOf, holderOf, letterOf, said } from "./markup.js";
 import { hasInChain, isFailed, isLock, mono, OUTCOMES, ownerIn, setsMark } from "./outcomes.js";
 
 // A lock by what it protects; several of them.
@@ -25,7 +25,7 @@ function lockText(event, row) {
   if (event.deed === "store") return `unlocks ${name}.`;
   if (!isFailed(event)) return `locks ${name}.`;
   const then = event.changes.pc === row ? "It will try again" : `It continues all the same, at row ${event.changes.pc}`;
-  return `tries to lock ${name}, but ${event.saw} holds it. ${then}.`;
+  return `tries to lock ${name}, but ${holderOf(event.saw)} holds it. ${then}.`;
 }
 
 // What a call answers here, and where it took effect; who judges for themselves may be told neither.
@@ -37,7 +37,7 @@ function effectText({ trace, event }, hidden) {
   if (hidden.includes("effect") || mayFitNowhere) return hidden.includes("reply") ? answers : `${answers}.`;
   if (call.at === event.number) return `${answers}, and takes effect here.`;
   const other = trace.event(call.at).thread;
-  const whose = other === event.thread ? "" : `, <b>a step of t${other}</b>`;
+  const whose = other === event.thread ? "" : `, <b>a step of ${letterOf(other)}</b>`;
   return `${answers}; it took effect at event ${call.at}${whose}.`;
 }
 

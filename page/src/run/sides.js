@@ -1,6 +1,7 @@
 // Two lists side by side: one program of calls, and each list with a schedule of its own. A turn of a thread makes its next step in
 // both; one whose call has answered waits for the other, and then both begin the next call. Each is a run by the engine.
 import { titleOf } from "./schedule_text.js";
+import { letterOf } from "./markup.js";
 import { State } from "./state.js";
 import { isTrace, MOST_NUMBER, Trace } from "./trace.js";
 
@@ -8,25 +9,25 @@ const MOST_TURNS = 500;
 
 export class ProgramFault extends Error {}
 
-// A program as text: a line for each thread, as "0: add 5, remove 5".
+// A program as text: a line for each thread, by its letter or its number, as "A: add 5, remove 5".
 export function readProgram(text) {
   const program = [];
   for (const line of text.split("\n").filter((one) => one.trim() !== "")) {
-    const [, thread, calls] = /^\s*t?(\d+)\s*:\s*(.+?)\s*$/.exec(line) ?? [];
-    const isLine = thread !== undefined && Number(thread) < 64;
-    if (!isLine) throw new ProgramFault(`"${line.slice(0, 60)}" is no line as "0: add 5, remove 5"`);
+    const [, number, letter, calls] = /^\s*(?:t?(\d+)|([A-Z]))\s*:\s*(.+?)\s*$/i.exec(line) ?? [];
+    const thread = Number(number ?? letter?.toUpperCase().charCodeAt(0) - "A".charCodeAt(0));
+    if (!(thread < 64)) throw new ProgramFault(`"${line.slice(0, 60)}" is no line as "A: add 5, remove 5"`);
     for (const call of calls.split(",").map((one) => one.trim())) {
       const [, operation, key] = /^(add|remove|contains|ceiling) (0|[1-9]\d{0,9})$/.exec(call) ?? [];
       if (key === undefined || Number(key) > MOST_NUMBER) throw new ProgramFault(`"${call.slice(0, 40)}" is no call as "add 5"`);
-      (program[Number(thread)] ??= []).push(`${operation} ${key}`);
+      (program[thread] ??= []).push(`${operation} ${key}`);
     }
   }
-  if (program.length === 0) throw new ProgramFault('a program has lines as "0: add 5, remove 5"');
+  if (program.length === 0) throw new ProgramFault('a program has lines as "A: add 5, remove 5"');
   return Array.from(program, (calls) => calls ?? []);
 }
 
 export function programText(program) {
-  const lines = program.map((calls, thread) => (calls.length === 0 ? "" : `${thread}: ${calls.join(", ")}\n`));
+  const lines = program.map((calls, thread) => (calls.length === 0 ? "" : `${letterOf(thread)}: ${calls.join(", ")}\n`));
   return lines.join("");
 }
 

@@ -47,7 +47,6 @@ export async function openBranch(at, plays = false) {
   await figure.replay(hasOwnRun ? 0 : Math.min(asked, figure.run.trace.total - 1));
   if (scene.figure !== figure) return;
   setScene({ stage: "done" });
-  part("#talk").scrollIntoView({ block: "nearest", behavior: "smooth" });
 }
 
 export const goBack = () => openBranch(0);

@@ -47,14 +47,13 @@ async function guessed(index) {
   if (scene.figure !== figure) return;
   setScene({ branches: [{ ...now.scene.branches[0], from: asked }] });
   openBranch(0);
-  part("#talk").scrollIntoView({ block: "nearest", behavior: "smooth" });
 }
 
 // ---- what follows from how far one is
 
 function talkOf({ stage, chosen, at, branches }) {
   const item = here();
-  const reply = replyTo(item.options, chosen);
+  const reply = replyTo(item.options, chosen, stage === "playing");
   if (stage === "guess") return optionButtons(item.options.map(({ text }) => text));
   if (stage === "playing") return at === 0 ? reply || '<p class="you">Let us see.</p>' : '<p class="you">Now on a list without its check.</p>';
   if (at > 0) return talkOfBranch(branches[at]);
@@ -63,7 +62,7 @@ function talkOf({ stage, chosen, at, branches }) {
       <p class="line"><button data-do="home">← Back to the example</button></p>`;
   }
   const without = item.lacks === undefined ? "" : '<button data-do="without">And without this check?</button>';
-  return `<div class="reveal"><div>${reply}<p class="why">${item.why}</p><p class="line more"><button data-do="if">What if …?</button> ${without}
+  return `<div class="reveal${item.options[chosen]?.right ? "" : " other"}"><div>${reply}<p class="why">${item.why}</p><p class="line more"><button data-do="if">What if …?</button> ${without}
     <button data-do="again" class="quiet">See it again</button></p></div></div>`;
 }
 

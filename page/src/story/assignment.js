@@ -8,12 +8,13 @@ import { levelOfNumber, numberOfLevel } from "../data/chapter.js";
 import { BREAK_LEVELS } from "../data/levels.js";
 import { keptUnder } from "../page/kept.js";
 import { askNow } from "../page/now.js";
+import { addressOfAssignment } from "../page/scene_address.js";
 import { AddressFault, addressOf, readAddress } from "../run/address.js";
 import { NO_TASK } from "../run/broken.js";
+import { inLetters } from "../run/markup.js";
 import { eventsAsked } from "../run/schedule_text.js";
 import { partsOfSeed, scheduleOfSeed } from "../run/seed.js";
 import { brokenLines } from "./kept_story.js";
-import { inLetters } from "./tale.js";
 
 const known = { course: null };
 
@@ -25,10 +26,9 @@ export const allLevels = () => Object.keys(BREAK_LEVELS).filter((name) => name !
 const wordsIn = (text, sign = ".") => (text ?? "").split(sign).filter((word) => word !== "");
 const isSeed = (word) => /^(coarse|fine|optimistic|lazy|lock-free)\.\d{1,2}\.\d{1,2}\.\d{1,2}\.\d{1,9}$/.test(word);
 
-export function addressOfAssignment({ title, learn, levels, seeds }) {
-  const parts = [["assignment", title], ["learn", learn.join(".")], ["break", levels.join(".")], ["judge", seeds.join(",")]];
-  const given = new URLSearchParams(parts.filter(([, value]) => value !== ""));
-  return `#${given.toString().replaceAll("%2C", ",")}`;
+export function addressOfTasks(title, { learn, levels, seeds }) {
+  const parts = Object.entries({ learn: learn.join("."), break: levels.join("."), judge: seeds.join(",") });
+  return addressOfAssignment({ id: title, given: Object.fromEntries(parts.filter(([, value]) => value !== "")) });
 }
 
 /** @typedef {{ id: string, kind: "Solve" | "Break" | "Judge", title: string, says: string, href: string, seed?: string }} Task */
@@ -53,6 +53,12 @@ function seedTask(seed) {
   const { kind, number, calls } = partsOfSeed(seed);
   const says = `${calls} calls: what does each answer, and where does it take effect?`;
   return { id: `judge ${seed}`, kind: "Judge", title: `Run ${number}, ${LISTS[kind].name}`, says, href: `#seed=${seed}&judge`, seed };
+}
+
+// Whether a place, or the run that is judged there, is one of the tasks of an assignment.
+export function hasTask(given, { activity, id }, { kind, id: seed }) {
+  if (activity === "judge") return kind === "seed" && wordsIn(given.judge, ",").includes(seed);
+  return ["learn", "break"].includes(activity) && wordsIn(given[activity]).includes(id);
 }
 
 // The tasks of an assignment, in order, and what its address names that there is not.

@@ -9,7 +9,7 @@ import { copyText } from "./give.js";
 import { keepStory, keptStory, startAfresh } from "./kept_story.js";
 import { foot, head, part } from "./scene.js";
 
-const titleOf = ({ id }) => id || "Assignment";
+export const titleOfAssignment = ({ id }) => id || "Assignment";
 
 function doneOf(place) {
   const { tasks, unknown } = tasksOf(place.given);
@@ -42,11 +42,12 @@ function html(place) {
   const next = (task) => tag("a", { class: "button primary", href: task.href }, `${verb}: ${escaped(task.title)} →`);
   const bar = first === undefined ? foot("All done.", '<button class="primary" data-do="hand">Hand in ↑</button>') : foot("", next(first));
   const items = tasks.map((task) => itemOf(task, lines[task.id] !== undefined));
-  const title = head("Assignment", escaped(titleOf(place)), lead, "title");
+  const title = head("Assignment", escaped(titleOfAssignment(place)), lead, "title");
   return `${title}${tag("ol", { class: "tasks" }, ...items)}${HAND(keptStory(), done.length)}${bar}`;
 }
 
-function begin() {
+function begin({ id, given }) {
+  keepStory({ homework: { id, given } }); // its tasks lead back to it
   for (const name of ["student", "number"]) part(`#hand-${name}`).oninput = fill;
   fill();
 }
@@ -72,7 +73,7 @@ const fileName = () => `${part("#hand-student").value.trim().toLowerCase().repla
 /** @type {import("./scene.js").View} */
 export const assignmentView = {
   kind: "assignment",
-  title: (place) => `${titleOf(place)} · Why not just one lock?`,
+  title: (place) => `${titleOfAssignment(place)} · Why not just one lock?`,
   html,
   begin,
   deeds: {

@@ -57,15 +57,19 @@ function looked() {
   const verdict = run.verdict();
   const isBroken = isTaskDone(name, verdict);
   if (now.scene.stage !== "task") return scene.figure.set({ isLost: isBroken });
-  if (!isBroken) return setScene({ note: verdict.kind === "points" ? POINTS : "" });
+  if (!isBroken) return setScene({ note: notYet(run, verdict) });
   const wasShown = isShown(run);
   if (!wasShown) keepBrokenLine(name, `break ${name} ${addressOf(run.schedule, run.trace.total, name)}`);
   scene.figure.set({ isLost: true });
   setScene({ stage: "done", note: whyOf(verdict, wasShown) });
-  part("#talk").scrollIntoView({ block: "nearest", behavior: "smooth" });
 }
 
-const POINTS = "The moments at which these calls take effect are out of order. But another order explains their answers: not broken yet.";
+// Of a number that hangs outside it is said what is left to do; else why the run is not broken, though it looks so.
+function notYet(run, { kind }) {
+  const lost = run.promised().filter((key) => !run.has().includes(key));
+  if (run.trace.calls.some(({ ended }) => ended === null)) return lost.length === 0 ? "" : `${lost.join(" and ")} is not in the list any more. Now let each call come to its answer.`;
+  return kind === "points" ? "That looks wrong. But calls that overlap may count in either order, and one order explains these answers: not broken yet." : "";
+}
 
 const whyOf = ({ why }, wasShown) => {
   const ofList = why.replace(/the set (has|does not have) it/, "the list $1 it"); // no set is this

@@ -1,8 +1,7 @@
 // The algorithm beside the picture, and the way to step: a thread stands at a line; that line makes it step, another line of it lets it
 // run there. `plain` leaves out the lines of the lock.
 import { BOOK_CODE } from "../data/book_code.js";
-import { colourOf, escaped, tag } from "../run/markup.js";
-import { chip, letterOf } from "./tale.js";
+import { chipOf, colourOf, escaped, letterOf, tag } from "../run/markup.js";
 
 const WORDS = /\b(while|if|else|return|start again|loop|until|unlock|lock|find|validate|CAS|mark|new)\b/g;
 
@@ -40,6 +39,9 @@ function wordsOf(text, rows, struck) {
   return `${inBold(text.slice(0, at))}${missing}${inBold(text.slice(at + part.length))}`;
 }
 
+// The threads at a line: two of them, or the first and how many more.
+const drawHere = (threads) => (threads.length < 3 ? threads.map(chipOf).join("") : `${chipOf(threads[0])}<small>+${threads.length - 1}</small>`);
+
 /** @param {any} line @param {CodeSpec} spec */
 function drawOwnLine({ text, rows = [], isPlain = false }, { next, made, fresh = [], struck = [], canStep, active }) {
   const here = next.filter(({ row }) => rows.includes(row)).map(({ thread }) => thread);
@@ -54,7 +56,7 @@ function drawOwnLine({ text, rows = [], isPlain = false }, { next, made, fresh =
   ];
   const words = isHead ? escaped(text.trim()) : wordsOf(text.trim(), rows, struck);
   const depth = text.match(/^ */)[0].length;
-  const gutter = tag("span", { class: "gutter", "data-run": letterOf(active) }, here.map(chip).join(""));
+  const gutter = tag("span", { class: "gutter", "data-run": letterOf(active) }, drawHere(here));
   const inside = gutter + tag("code", { style: `padding-left:${depth * 0.4}em` }, words);
   const given = { class: kinds.filter((kind) => kind !== "").join(" "), "data-rows": rows.join(" ") };
   if (rows.length === 0 || !canStep) return tag("li", given, tag("span", { class: "row" }, inside));

@@ -1,10 +1,10 @@
 // Below the list of a figure: of each thread what it wants and what it does next, the history, and the slider of the moments.
 import { drawContents } from "../draw/contents.js";
 import { drawCalls, scaleOf } from "../draw/history.js";
-import { redraw } from "../page/dom.js";
-import { callText, colourOf, tag } from "../run/markup.js";
+import { redraw, setHtml } from "../page/dom.js";
+import { callText, chipOf, colourOf, letterOf, tag } from "../run/markup.js";
 import { phaseText } from "./phases.js";
-import { answerText, chip, letterOf } from "./tale.js";
+import { answerText } from "./tale.js";
 
 const AGAIN = `<span class="again"><button data-undo class="quiet small" title="take the last press back">↶ One back</button>
   <button data-again class="quiet small">↺ Start over</button></span>`;
@@ -12,10 +12,9 @@ const AGAIN = `<span class="again"><button data-undo class="quiet small" title="
 // A row for each thread; none while nothing can be pressed.
 export function showDock(figure) {
   const { spec, run } = figure;
+  if (spec.dock === false || figure.hidesDock) return redraw(figure.part("dock"), "");
   const isChanged = run.lines.length !== run.first.length && spec.again !== false;
-  const rows = figure.shown.map((thread) => rowOf(figure, thread)).join("");
-  const isShut = spec.dock === false || figure.hidesDock;
-  redraw(figure.part("dock"), isShut ? "" : rows + (isChanged ? AGAIN : ""));
+  redraw(figure.part("dock"), figure.shown.map((thread) => rowOf(figure, thread)).join("") + (isChanged ? AGAIN : ""));
 }
 
 function rowOf(figure, thread) {
@@ -36,7 +35,7 @@ function rowOf(figure, thread) {
 
 function threadRow(thread, inside) {
   const given = { class: `thread ${colourOf(thread)}`, "data-thread": thread, role: "group", "aria-label": `thread ${letterOf(thread)}` };
-  return tag("div", given, chip(thread), " ", inside);
+  return tag("div", given, chipOf(thread), " ", inside);
 }
 
 // A thread that has nothing left to do, with its last answer.
@@ -60,15 +59,21 @@ function chooser(figure, thread, own) {
 }
 
 // The calls as bars, and what is in the set at each time.
-export function showStrip(figure, lettered) {
+export function showStrip(figure) {
   const { run } = figure;
   const box = figure.part("strip");
   const wide = Math.max(280, box.clientWidth);
   const room = 26 + 9 * `{${run.promised().join(", ")}}`.length; // right of the last event, for what is in the set then
-  const scale = scaleOf(run.trace, run.count, wide - room, true);
+  const scale = scaleOf(run.trace, run.count, wide - room, figure.hides);
   Object.assign(scale, { edge: scale.edge + room, width: wide });
-  box.innerHTML = drawCalls(run.trace, scale) + drawContents(run.trace, scale);
-  box.querySelectorAll("svg").forEach(lettered);
+  figure.scale = scale;
+  setHtml(box, tag("div", { class: "calls" }, drawCalls(run.trace, scale)) + drawContents(run.trace, scale));
+  if (scale.height > MOST_CALLS && run.count > 0) scrollToLane(box.firstElementChild, scale.y(run.trace.event(run.count).thread));
+}
+const MOST_CALLS = 400; // pixels: of more threads the bars scroll
+
+function scrollToLane(box, y) {
+  if (y < box.scrollTop + 20 || y > box.scrollTop + box.clientHeight - 20) box.scrollTop = y - box.clientHeight / 2;
 }
 
 const SCRUB = `<button class="small" data-move="-1" aria-label="one step back">◂</button>

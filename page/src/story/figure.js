@@ -9,6 +9,7 @@ const BETWEEN = 450; // and between two presses that the page makes
 const wantsStill = () => matchMedia("(prefers-reduced-motion: reduce)").matches;
 const sleep = (time) => new Promise((done) => setTimeout(done, time));
 const drawn = { count: 0 };
+const tellBusy = (isBusy) => (document.body.dataset.busy = isBusy ? "yes" : "no");
 
 /**
  * @typedef {import("./live_run.js").RunSpec & { [name: string]: any }} FigureSpec  What a run needs; `calls`, of each thread those
@@ -18,12 +19,14 @@ export class Figure {
   id = `f${drawn.count++}`;
   past = []; // what stood there before each deed
   isBusy = false; // steps are being shown
+  isActing = false; // and more of them will be
   isHurried = false;
   isEnded = false;
   isOpen = true; // the reader may step
   hidesDock = false;
   isGuess = false; // what would tell the answer is not shown
   isLost = false; // the nodes that are lost are lit
+  hides = true; // of the history, what comes later
   wide = 0;
   told = null;
   onStep = null;
@@ -33,8 +36,8 @@ export class Figure {
   constructor(box, spec) {
     this.box = box;
     this.spec = spec;
-    this.run = new LiveRun(spec);
-    this.shown = spec.shown ?? Array.from({ length: this.run.spec.threads }, (_, thread) => thread);
+    this.run = spec.run ?? new LiveRun(spec);
+    this.shown = spec.shown ?? this.run.state.threads.map((_, thread) => thread);
     this.active = spec.active ?? 0;
     this.chosen = spec.chosen ?? {}; // of an idle thread, the call that stands in its fields
     this.most = { width: 0, height: spec.tall && !isNarrow() ? 262 : 0 }; // room for a node that is sure to come
@@ -51,6 +54,7 @@ export class Figure {
   end() {
     this.stretch.disconnect();
     this.isEnded = true;
+    tellBusy(false);
   }
 
   part(name) {
@@ -88,10 +92,7 @@ export class Figure {
   // The next bit of a thread, with its call's begin where it is idle.
   async step(thread) {
     if (!this.isOpen) return;
-    if (this.isBusy) {
-      this.isHurried = true;
-      return;
-    }
+    if (this.isBusy) return void (this.isHurried = true);
     const [call] = this.left(thread);
     if (this.run.isIdle(thread) && call === undefined) return;
     this.leaves();
@@ -121,7 +122,7 @@ export class Figure {
     const { total } = this.run.trace;
     this.isBusy = true;
     this.isHurried = false;
-    document.body.dataset.busy = "yes";
+    tellBusy(true);
     for (let count = Math.min(from + 1, total); count <= total; count++) {
       if (this.isEnded) return;
       if (count < total && (this.isHurried || wantsStill() || this.isHidden(count))) continue;
@@ -132,7 +133,7 @@ export class Figure {
       if (count < total) await sleep(BIT);
     }
     this.isBusy = false;
-    document.body.dataset.busy = "no";
+    tellBusy(this.isActing);
   }
 
   // Plays the whole run, or the part of it behind a moment, once more.
@@ -151,7 +152,7 @@ export class Figure {
   // Plays what a list of deeds makes: [thread] is its next bit, [thread, n] are n bits, [thread, "out"] is all of its call.
   async act(deeds) {
     const { onStep } = this;
-    this.onStep = null;
+    Object.assign(this, { onStep: null, isActing: true });
     for (const [thread, many = 1] of deeds) {
       for (let bit = 0; many === "out" ? bit === 0 || !this.run.isIdle(thread) : bit < many; bit++) {
         if (this.isEnded) return;
@@ -159,7 +160,8 @@ export class Figure {
         await sleep(wantsStill() ? 0 : BETWEEN);
       }
     }
-    this.onStep = onStep;
+    Object.assign(this, { onStep, isActing: false });
+    tellBusy(false);
   }
 
   // Takes the last press back; or all of them.
@@ -182,9 +184,9 @@ export class Figure {
     this.part("tale").innerHTML = text;
   }
 
-  draw(isNear = false) {
+  draw(isNear = false, moment = momentAt(this.run.state, this.run.count)) {
     if (isNear) this.told = null;
-    drawFigure(this, momentAt(this.run.state, this.run.count), isNear);
+    drawFigure(this, moment, isNear);
     if (this.isLost && this.run.count === this.run.trace.total) markLostNodes(this);
   }
 

@@ -2,11 +2,11 @@
 import { glide } from "../draw/glide.js";
 import { drawList } from "../draw/list.js";
 import { arranged, shapeFor } from "../draw/places.js";
-import { callText, colourOf } from "../run/markup.js";
+import { callText, colourOf, letterOf } from "../run/markup.js";
 import { momentAt } from "../run/sentences.js";
 import { drawOwnCode } from "./code.js";
 import { showDock, showScrub, showStrip } from "./dock.js";
-import { inLetters, letterOf, taleOf } from "./tale.js";
+import { taleOf } from "./tale.js";
 
 const MOST_SCALE = 1.75;
 const MOST_HEIGHT = 0.4; // of the window, for the list
@@ -17,7 +17,7 @@ export const isNarrow = () => matchMedia(NARROW).matches;
 
 const codeBox = ({ codeTitle, codeNote = "" }) => `<details class="codebox" ${isNarrow() ? "" : "open"}><summary><b>${codeTitle}</b></summary>
     <p class="small code-note" ${codeNote === "" ? "hidden" : ""}>${codeNote}</p><span class="runs"></span><div class="lines"></div>
-    <p class="small hint">Press the lit line to step, another line to run there.</p></details>`;
+    <p class="small hint">A letter stands at its thread’s next line. Press the line to step, another one to run there.</p></details>`;
 
 export function frameOf({ box, spec }) {
   box.innerHTML = `<div class="stage"><div class="list" tabindex="0" role="group" aria-label="the list"></div>
@@ -40,12 +40,13 @@ export function drawFigure(figure, moment, isNear) {
   box.classList.toggle("shut", !figure.canStep);
   showCode(figure, moment);
   showDock(figure);
-  if (spec.strip) showStrip(figure, lettered);
+  if (spec.strip) showStrip(figure);
   if (spec.scrub) showScrub(figure);
 }
 
 // The sentence of a moment. Where the lock is left out, its last step tells what the one before did.
 function taleHere({ run, spec }, moment) {
+  if (spec.sentence) return spec.sentence(moment);
   if (moment.event === null) return "";
   const isOfLock = spec.plain === true && moment.event.word === "list.lock";
   if (!isOfLock || moment.event.answer === undefined) return taleOf(moment, spec);
@@ -59,34 +60,46 @@ function taleHere({ run, spec }, moment) {
 
 function placeTheList(figure, { state, event }, isNear) {
   const box = figure.part("list");
+  const { id, most, spec } = figure;
   const room = box.clientWidth;
   figure.wide = room;
   if (room === 0) return;
-  const size = arranged(state, event, { ...shapeFor(room), least: 0 });
-  figure.most.height = Math.max(figure.most.height, size.height);
+  const shape = shapeFor(room);
+  const list = arranged(state, event, shape);
+  most.height = Math.max(most.height, list.height);
+  most.width = Math.max(most.width, list.width, (spec.roomFor ?? 0) * shape.share);
   const draw = () => {
-    box.innerHTML = drawList(state, event, room, Infinity, { width: 0, height: figure.most.height }, figure.id);
+    box.innerHTML = drawList(state, event, list, most.height, id);
     const svg = box.firstElementChild;
-    fitList(figure, svg, room, size);
+    fitList(figure, svg, room, list.width);
     if (event !== null) svg.classList.add(colourOf(event.thread));
-    lettered(svg);
-    for (const sign of svg.querySelectorAll("text.pointer")) plainSign(figure.spec, sign);
+    if (spec.names) return;
+    for (const sign of svg.querySelectorAll("text.pointer")) plainSign(spec, sign);
     for (const name of svg.querySelectorAll("text.name")) if (/^n\d+$/.test(name.textContent)) name.remove();
   };
   glide(box, draw, isNear);
+  scrollToTouched(box, room);
 }
 
 // The drawing in the middle of the stage, as large as it has room.
-function fitList({ spec, most }, svg, room, size) {
+function fitList({ spec, most: { width } }, svg, room, own) {
   const [, top, , high] = svg.getAttribute("viewBox").split(" ").map(Number);
-  const isCompact = shapeFor(room).node < 90;
-  most.width = Math.max(most.width, size.width, (spec.roomFor ?? 0) * (isCompact ? 0.76 : 1));
-  const wide = most.width;
   const tall = Math.max(innerHeight * (spec.high ?? MOST_HEIGHT), spec.least ?? 180);
-  const scale = Math.max(0.5, Math.min(MOST_SCALE, (room - 4) / wide, tall / high));
-  svg.setAttribute("viewBox", `${(size.width - wide) / 2} ${top} ${wide} ${high}`);
-  svg.setAttribute("width", wide * scale);
+  const scale = Math.max(0.5, Math.min(MOST_SCALE, (room - 4) / width, tall / high));
+  svg.setAttribute("viewBox", `${(own - width) / 2} ${top} ${width} ${high}`);
+  svg.setAttribute("width", width * scale);
   svg.setAttribute("height", high * scale);
+}
+
+// Keeps the node of the event in sight where the list is wider than its stage.
+function scrollToTouched(box, room) {
+  const touched = box.querySelector("[data-hot]");
+  const drawn = box.firstElementChild;
+  const wide = Number(drawn.getAttribute("width"));
+  if (touched === null || wide <= room) return;
+  const { x, width } = drawn.viewBox.baseVal;
+  const at = (touched.x.baseVal.value - x) * (wide / width);
+  if (at < box.scrollLeft + 60 || at > box.scrollLeft + room - 120) box.scrollLeft = at - room / 2;
 }
 
 // A thread's fingers are pred and curr; succ is told only where the code names it, and the finger of a second walk by what it does.
@@ -96,15 +109,6 @@ function plainSign(spec, sign) {
   const names = given.split(", ").filter((name) => name !== "succ" || isTold).map((name) => (name === "node" ? "2nd walk" : name));
   if (names.length === 0) sign.remove();
   else sign.textContent = `${letter} ${names.join(", ")}`;
-}
-
-// The letters of the threads in place of their numbers, in what is drawn and in what a reader of the screen says.
-function lettered(svg) {
-  for (const text of svg.querySelectorAll("text, title, tspan")) {
-    if (text.children.length === 0) text.textContent = inLetters(text.textContent);
-  }
-  const label = svg.getAttribute("aria-label");
-  if (label !== null) svg.setAttribute("aria-label", inLetters(label));
 }
 
 // The nodes of the keys that were promised and are not in the list.
@@ -141,14 +145,15 @@ function showCode(figure, { state, event, before }) {
   box.scrollTop = scroll;
   const toggles = figure.shown.filter(isAble).map((thread) => toggleOf(thread, active));
   figure.part("runs").innerHTML = canStep && toggles.length > 1 ? toggles.join("") : "";
-  scrollToLit(box, active);
+  scrollToLit(box, event?.thread ?? active);
 }
 
 const toggleOf = (thread, active) => `<button class="who ${colourOf(thread)}" data-active="${thread}" aria-pressed="${thread === active}"
   title="${letterOf(thread)} runs to another line that is pressed">${letterOf(thread)}</button>`;
 
-function scrollToLit(box, active) {
-  const line = box.querySelector(`.lit.${colourOf(active)}`) ?? box.querySelector(".lit") ?? box.querySelector(".made");
+// In sight is the next line of the thread that has moved; where its call has ended, its last one.
+function scrollToLit(box, moved) {
+  const line = box.querySelector(`.lit.${colourOf(moved)}`) ?? box.querySelector(".made") ?? box.querySelector(".lit");
   if (line === null || box.scrollHeight <= box.clientHeight) return;
   const y = line.offsetTop - box.offsetTop;
   if (y < box.scrollTop + 10 || y > box.scrollTop + box.clientHeight - 50) box.scrollTop = y - box.clientHeight / 2;

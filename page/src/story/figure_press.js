@@ -1,5 +1,5 @@
 // What a press on a part of a figure does: a thread's button, a line of the code, the slider's ends, what takes a press back.
-import { chip } from "./tale.js";
+import { chipOf } from "../run/markup.js";
 
 const MOST_KEY = 999;
 
@@ -23,7 +23,7 @@ function pressLine(figure, button) {
   const here = (button.dataset.threads ?? "").split(" ").filter((text) => text !== "").map(Number);
   const thread = here.length === 0 || here.includes(figure.active) ? figure.active : here[0];
   const isIdle = figure.run.isIdle(thread);
-  if (isIdle && figure.left(thread).length === 0) return figure.tell(`${chip(thread)} has no call under way.`);
+  if (isIdle && figure.left(thread).length === 0) return figure.tell(`${chipOf(thread)} has no call under way.`);
   figure.leaves();
   const from = figure.run.trace.total;
   if (isIdle) figure.run.begin(thread, figure.left(thread)[0]);

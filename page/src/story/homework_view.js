@@ -5,7 +5,7 @@ import { BREAK_LEVELS } from "../data/levels.js";
 import { linkTo } from "../page/visit.js";
 import { escaped, tag } from "../run/markup.js";
 import { seedOf } from "../run/seed.js";
-import { addressOfAssignment, allLevels, bookCourse } from "./assignment.js";
+import { addressOfTasks, allLevels, bookCourse } from "./assignment.js";
 import { copyText } from "./give.js";
 import { part } from "./scene.js";
 
@@ -40,7 +40,7 @@ export function homeworkHtml() {
 
 const ticked = (kind) => [...part("#homework").querySelectorAll(`[data-kind=${kind}]:checked`)].map(({ value }) => value);
 const addressNow = () =>
-  addressOfAssignment({ title: piece("title").value.trim() || "Assignment", learn: ticked("learn"), levels: ticked("break"), seeds: work.seeds });
+  addressOfTasks(piece("title").value.trim() || "Assignment", { learn: ticked("learn"), levels: ticked("break"), seeds: work.seeds });
 
 function fill() {
   const address = addressNow();

@@ -6,9 +6,9 @@ import { change } from "../page/now.js";
 const STORY = "listset-story";
 const BROKEN = "listset-broken"; // of each list that was broken the line that is handed in
 const NAMED = "listset-named-checks"; // the lists of which the reader has said what they lack
-const NOTHING = { at: 1, done: {}, asks: {}, student: "", number: "" };
+const NOTHING = { at: 1, done: {}, asks: {}, student: "", number: "", homework: null };
 
-/** @returns {{ at: number, done: Record<string, boolean>, asks: Record<string, string>, student: string, number: string }} */
+/** @returns {{ at: number, done: Record<string, boolean>, asks: Record<string, string>, student: string, number: string, homework: any }} */
 export const keptStory = () => ({ ...NOTHING, ...keptUnder(STORY) });
 export const keepStory = (change) => keepUnder(STORY, { ...keptStory(), ...change });
 

@@ -33,7 +33,13 @@ export function drawLearnMap() {
   begin();
 }
 
-const begin = () => part("#learn-folds").append(byId("lesson-folds"));
+function begin() {
+  const { kept, course } = learning.panel;
+  part("#learn-folds").append(byId("lesson-folds"));
+  byId("lesson-course").replaceChildren(...[BOOK_NAME, ...kept.courses.keys()].map((name) => new Option(name)));
+  byId("lesson-course").value = course.name;
+  byId("lesson-student").value = kept.student;
+}
 const end = () => byId("courses").append(byId("lesson-folds"));
 
 /** @type {import("./scene.js").View} */

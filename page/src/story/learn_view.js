@@ -4,13 +4,12 @@ import { conditionTexts } from "../course/lesson.js";
 import { setHtml } from "../page/dom.js";
 import { now } from "../page/now.js";
 import { versionOf } from "../run/schedule_text.js";
-import { escaped, tag } from "../run/markup.js";
+import { escaped, inLetters, tag } from "../run/markup.js";
 import { Figure } from "./figure.js";
 import { learning } from "./learning.js";
 import { linesOf } from "./live_run.js";
 import { runOfText } from "./run_of_text.js";
 import { FIGURE_AND_TALK, foot, head, hintAndOn, LIST_WORDS, part, scene, setScene, takeFigure, talk, threadOfKey } from "./scene.js";
-import { inLetters } from "./tale.js";
 
 const HINT = 1; // of `hints`, in the scene: the hint is shown; the answer is shown
 const ANSWER = 2;

@@ -102,5 +102,10 @@ class Learning {
   }
 }
 
-export const learning = { panel: null }; // once the engine is there
-export const startLearning = () => (learning.panel = new Learning());
+// It is made when it is asked for first: its lessons are tried then, which takes the engine a while.
+export const learning = {
+  get panel() {
+    return (made.panel ??= new Learning());
+  },
+};
+const made = { panel: null };

@@ -13,6 +13,29 @@ const MOST_STEPS = 80; // of one call, in the short lists of the story
 
 export const linesOf = (schedule) => schedule.split("\n").filter((line) => /^(begin|go) /.test(line));
 
+// A run at one of its moments.
+export class ShownRun {
+  /** @param {any} trace @param {any} state */
+  constructor(trace, state, count = 0) {
+    this.trace = trace;
+    this.state = state;
+    this.count = count;
+  }
+
+  isIdle(thread) {
+    return this.state.threads[thread].pc === 0;
+  }
+
+  // The keys that the answers promise, and those that a walk over the list finds.
+  promised() {
+    return promisedKeys(this.trace);
+  }
+
+  has() {
+    return keysInChain(this.state);
+  }
+}
+
 /**
  * @typedef {object} RunSpec
  * @property {string} list
@@ -25,9 +48,10 @@ export const linesOf = (schedule) => schedule.split("\n").filter((line) => /^(be
  * @property {boolean} [free]  the reader may begin any call, and stop before each look
  * @property {boolean} [plain]  the list's lock is ignored, and nothing is told of it
  */
-export class LiveRun {
+export class LiveRun extends ShownRun {
   /** @param {RunSpec} spec */
   constructor(spec) {
+    super(null, null);
     this.spec = { lacks: null, threads: 2, quota: 2, opening: [], plain: false, version: 2, ...spec };
     this.first = this.expanded(spec.lines ?? []);
     this.take(this.first);
@@ -73,21 +97,13 @@ export class LiveRun {
     this.state.moveTo(this.count);
   }
 
-  rowOf(thread) {
-    return this.state.threads[thread].pc;
-  }
-
-  isIdle(thread) {
-    return this.rowOf(thread) === 0;
-  }
-
   // What a thread would do next, up to where something else begins: the number of its steps, its phase, and whether it waits.
   nextOf(thread, call = null) {
     const isBegin = this.isIdle(thread);
     const lines = isBegin ? [...this.lines, `begin ${thread} ${call.join(" ")}`] : this.lines;
     const trace = this.traceOf([...lines, `go ${thread} ${MOST_STEPS}`]);
     const begun = this.trace.total + lines.length - this.lines.length;
-    const row = isBegin ? trace.event(begun).changes.pc : this.rowOf(thread);
+    const row = isBegin ? trace.event(begun).changes.pc : this.state.threads[thread].pc;
     return { ...this.chunk(trace, begun, row), thread, row, isBegin };
   }
 
@@ -132,15 +148,6 @@ export class LiveRun {
 
   go(thread, steps) {
     this.take([...this.lines, `go ${thread} ${steps}`]);
-  }
-
-  // The keys that the answers promise, and those that a walk over the list finds.
-  promised() {
-    return promisedKeys(this.trace);
-  }
-
-  has() {
-    return keysInChain(this.state);
   }
 
   // What the proved judge says of the run: whether some order of the calls explains their answers and what is left.

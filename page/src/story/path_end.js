@@ -30,8 +30,8 @@ export function endHtml(done) {
     check. Leave the check out, and numbers get lost.</p>
     <table class="five"><thead><tr><th>The list</th><td>Who waits?</td><td>What does it need for that?</td></tr></thead>
     <tbody>${LISTS_AT_END.map(rowOfList).join("")}</tbody></table>
-    <p class="prose">And faster? Not always. With four threads and 64 numbers, this lock-free list was almost twice as fast as a tree behind one
-    lock; with 1,000 numbers it was slower. One lock is a good answer, until it is not.</p>
+    <p class="prose">And faster? Not always. With four threads and 64 numbers, this lock-free list was almost twice as fast as a balanced tree
+    behind one lock; with 1,000 numbers it was slower. One lock is a good answer, until it is not.</p>
     <h2>You have done ${count} of ${SCREENS.length}. And now?</h2><div class="ways">${ways.join("")}</div>${TRUTH}</section>
     <footer class="foot"><button class="quiet" data-do="back">← Back</button><span class="spread"></span>
     <button class="quiet" data-do="afresh">Start afresh</button><a class="button primary" href="#ask">Guess, then see →</a></footer>`;

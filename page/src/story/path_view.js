@@ -44,14 +44,15 @@ function begin(place) {
 const asked = (text, note = "") => `<p class="ask">${text}</p>${note === "" ? "" : `<p class="again">${note}</p>`}`;
 
 function talkOf(screen, { stage, chosen, note }) {
-  const reply = replyTo(screen.options, chosen);
+  const reply = replyTo(screen.options, chosen, stage !== "done");
   if (stage === "guess") return asked(screen.ask) + optionButtons(screen.options.map(({ text }) => text));
   if (stage === "task" || stage === "again") return reply + asked(screen.task ?? screen.playTask, note);
   if (stage === "moment") return reply + asked(screen.then.task, note);
   if (stage === "playing") return reply;
   const after = screen.after === undefined ? "" : `<p class="small">${screen.after}</p>`;
   const ledger = screen.ledger ? drawLedger(scene.figure.run) : "";
-  return `<div class="reveal">${ledger}<div>${reply}<p class="why">${screen.reveal(scene.figure)}</p>${after}</div></div>`;
+  const isOther = screen.options !== undefined && !screen.options[chosen]?.right;
+  return `<div class="reveal${isOther ? " other" : ""}">${ledger}<div>${reply}<p class="why">${screen.reveal(scene.figure)}</p>${after}</div></div>`;
 }
 
 function draw(state) {
@@ -136,7 +137,6 @@ function done() {
   setScene({ stage: "done" });
   const on = part("#go-on");
   if (document.activeElement === document.body) on.focus({ preventScroll: true });
-  if (part("#talk").getBoundingClientRect().bottom > innerHeight - 70) part("#talk").scrollIntoView({ block: "end", behavior: "smooth" });
 }
 
 // ---- the bar, the keys

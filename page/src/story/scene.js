@@ -4,6 +4,7 @@
 import { change, dispatch, now } from "../page/now.js";
 import { byId, setHtml } from "../page/dom.js";
 import { tag } from "../run/markup.js";
+import { isNarrow } from "./figure_parts.js";
 
 /**
  * @typedef {object} View
@@ -20,7 +21,7 @@ import { tag } from "../run/markup.js";
 
 /** @type {Record<string, View>} of an activity, or of one without an id its map */
 export const VIEWS = {};
-export const scene = { key: "", view: null, figure: null, isFirst: true };
+export const scene = { key: "", view: null, figure: null, isFirst: true, isNew: false };
 
 export const part = (selector) => byId("scene").querySelector(selector);
 const viewOf = ({ activity, id }) => (id === "" ? VIEWS[`${activity} map`] : undefined) ?? VIEWS[activity];
@@ -28,7 +29,28 @@ export const titleOfScene = (place) => viewOf(place).title(place);
 export const faultOfScene = (place) => viewOf(place).fault?.(place) ?? null;
 export const isScene = ({ place }) => place.screen === "scene";
 export const setScene = (given) => dispatch("scene", given);
-export const talk = (html) => setHtml(part("#talk"), html);
+
+// What is said below the figure. What is new comes in sight, above the bar at the bottom.
+export function talk(html) {
+  const box = part("#talk");
+  if (!setHtml(box, html) || scene.isNew || hiddenBelow() <= 0) return;
+  box.lastElementChild.scrollIntoView({ block: "end", behavior: "smooth" });
+}
+
+// How much of the talk lies under the bar.
+function hiddenBelow() {
+  const [last, bar] = [part("#talk")?.lastElementChild, part(".foot")];
+  return last == null || bar === null ? 0 : last.getBoundingClientRect().bottom - bar.getBoundingClientRect().top;
+}
+
+// The list is drawn smaller where what is asked below it would lie under the bar.
+function fitFigure({ spec }) {
+  const list = scene.figure.part("list").firstElementChild;
+  const over = hiddenBelow();
+  if (over <= 0 || list === null || isNarrow()) return;
+  Object.assign(spec, { high: (Number(list.getAttribute("height")) - over - 8) / innerHeight, least: 110 });
+  scene.figure.draw();
+}
 
 // A figure in place of the one that is shown.
 export function takeFigure(figure) {
@@ -56,8 +78,11 @@ export function renderScene({ place, scene: state }) {
   box.className = view.kind;
   box.innerHTML = view.html(place);
   scrollTo(0, 0);
+  scene.isNew = true;
   view.begin?.(place);
   view.draw?.(now.scene);
+  if (scene.figure !== null) fitFigure(scene.figure);
+  scene.isNew = false;
   if (!scene.isFirst && document.activeElement === document.body) box.querySelector("h1")?.focus({ preventScroll: true });
   scene.isFirst = false; // who comes by a key goes on at the title of what is opened
 }
@@ -103,12 +128,12 @@ export const optionButtons = (texts, wrong = []) => {
 const lowered = (text) => text[0].toLowerCase() + text.slice(1);
 
 // What the reader has said, and the reply to it.
-export function replyTo(options, chosen) {
+export function replyTo(options, chosen, isToCome) {
   const option = options?.[chosen];
   if (option === undefined) return "";
   const { text, say, right = false } = option;
   const said = `You said: ${lowered(text)}${text.endsWith("?") ? "" : "."}`;
-  return `<p class="you ${right ? "right" : "wrong"}"><b>${said}</b> ${say || (right ? "Let us see." : "")}</p>`;
+  return `<p class="you ${right ? "right" : "wrong"}"><b>${said}</b> ${say || (right && isToCome ? "Let us see." : "")}</p>`;
 }
 
 // What the answers promise against what the list has: the whole contradiction in two rows.

@@ -1,16 +1,7 @@
 // One short sentence about an event, for who has not read the book: nodes go by their numbers, threads by their letters.
 import { isLock, ownerIn } from "../run/outcomes.js";
-import { callText, colourOf, keyText, tag } from "../run/markup.js";
+import { callText, chipOf, keyText } from "../run/markup.js";
 import { phaseAt } from "./phases.js";
-
-export const letterOf = (thread) => (thread < 26 ? String.fromCharCode(65 + Number(thread)) : String(thread));
-export const chip = (thread) => tag("span", { class: `who ${colourOf(Number(thread))}` }, letterOf(thread));
-// A text about "thread 0", with the letters of the threads.
-export function inLetters(text) {
-  const letters = (numbers) => numbers.replace(/\d+/g, (number) => letterOf(Number(number)));
-  const some = text.replace(/\bthreads (\d+(?:, \d+)*(?:,? and \d+)?)/gi, (_, numbers) => letters(numbers));
-  return some.replace(/\bthread (\d+)/gi, (_, number) => letterOf(Number(number))).replace(/\bt(\d+)\b/g, (_, number) => letterOf(Number(number)));
-}
 
 const bold = (text) => `<b>${text}</b>`;
 
@@ -30,7 +21,7 @@ export function taleOf(moment, { plain = false } = {}) {
   const said = toldBy(moment, plain);
   const { call } = event;
   const answer = event.answer === undefined ? "" : ` ${bold(`${callText(call)} answers ${answerText(event.answer)}.`)}`;
-  return `${chip(event.thread)} ${said}${answer}`;
+  return `${chipOf(event.thread)} ${said}${answer}`;
 }
 
 function toldBy(moment, plain) {
@@ -53,7 +44,7 @@ function lockTold(event, who, plain, waits) {
   const what = who === undefined || event.word === "list.lock" ? "the lock" : `the lock of ${who}`;
   if (event.deed === "store") return `gives back ${what}.`;
   if (event.saw === event.from) return `takes ${what}.`;
-  return `wants ${what}, but ${chip(event.saw.slice(1))} has it. ${bold(waits ? "It waits." : "It goes on all the same.")}`;
+  return `wants ${what}, but ${chipOf(event.saw.slice(1))} has it. ${bold(waits ? "It waits." : "It goes on all the same.")}`;
 }
 
 function keyTold(event, owner, key, phase, held) {
@@ -88,7 +79,7 @@ function linkTold(moment, owner, who, phase) {
     }
     return `walks from ${who} once more.`;
   }
-  if (phase === "unlink" || before.pc === 8) return `looks what comes after ${who}: ${to}.`;
+  if (phase === "unlink" || before.pc === 8) return `reads what comes after ${who}: ${to}.`;
   if (trace.kind === "lock-free" && event.changes.curr === undefined) {
     return isMarked ? `meets ${who}, which is marked: it will take it out on its way.` : `looks at the arrow of ${who}: no mark.`;
   }

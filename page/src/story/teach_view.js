@@ -18,7 +18,7 @@ const LECTURE = [
   [5, "Why a second walk", "#ask=stale-pred&view=lecture", "May A write? After the answer, press “And without this check?”: 5 is lost."],
   [4, "In another thread’s step", "#ask=read-in-anothers-step&view=lecture", "A will answer false. When is that right? In a step of B."],
   [3, "Who waits?", "#sides=coarse.lazy&quota=4&calls=0.add.5,1.contains.5&turns=0.0.0.0&view=lecture",
-    "Press 1 three times: LazyList has answered, CoarseList tries its lock."],
+    "Press B three times: LazyList has answered, CoarseList tries its lock."],
   [3, "Everybody judges", "#seed=lazy.2.5.2.17&judge", "Write the link on the board. All get the same run, without its answers."],
 ];
 const PANELS = { slides: "Lecture", embed: "Embed", homework: "Homework", handins: "Hand-ins", own: "Your own lessons" };

@@ -13,7 +13,7 @@ import pytest
 import webdriver  # (with build/ in the path, by pytest.ini)
 
 PAGE = pathlib.Path(__file__).resolve().parents[2]
-SECONDS = 20  # in which something has to be seen
+SECONDS = 60  # in which something has to be seen
 SLOW = 2  # seconds that the engine takes to come over a slow network
 SCENARIOS = {"webkit": 8}  # for which one browser is used, as WebKit's driver gives up after some dozen pages; others for all
 

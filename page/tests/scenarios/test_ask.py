@@ -80,7 +80,7 @@ def test_old_addresses_open_the_questions(visitor):
     visitor.open("#watch")
     assert visitor.text("h1") == "Guess, then see"
     visitor.open("#example=snip&event=17&view=lecture")
-    assert visitor.is_seen("#list svg") and visitor.event() == 17
+    assert visitor.is_seen(".list svg") and visitor.event() == 17
 
 
 def test_sentences_are_whole(visitor):

@@ -101,9 +101,9 @@ def test_each_level_is_broken_by_the_schedule_of_the_examples(visitor):
 
 def test_a_self_loop_does_not_cross_its_key(visitor):
     visitor.open("#example=marked-in-chain&event=20")
-    corners = visitor.inside("""const { now, drawList } = listsets;
+    corners = visitor.inside("""const { now, drawList, arranged, shapeFor } = listsets;
         const name = now.run.state.chain()[1];
         now.run.state.nodes[name].link = name;
-        document.getElementById("order").innerHTML = drawList(now.run.state, null, 900);
+        document.getElementById("order").innerHTML = drawList(now.run.state, null, arranged(now.run.state, null, shapeFor(900)));
         return document.querySelector(`#order [data-part="link ${name}"] path`).getAttribute("d").split(" L").length""")
     assert corners > 3

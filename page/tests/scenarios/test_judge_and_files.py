@@ -55,7 +55,7 @@ def test_compare_by_keys_and_back(visitor):
     visitor.click("#more summary")
     visitor.click("nav a[href='#compare']")
     visitor.wait("return document.getElementById('sides-where').innerText.startsWith('turn 7')")
-    visitor.press("Left", "Left", "1")
+    visitor.press("Left", "Left", "b")
     assert visitor.text("#sides-where") == "turn 6 of 6"
     visitor.back()
     visitor.wait("return location.hash === '#ask'")
@@ -96,7 +96,7 @@ def test_a_phone_by_touch(visitor):
 
 def test_a_lecture_is_left_by_escape(visitor):
     visitor.open("#example=snip&event=5&view=lecture")
-    assert not visitor.is_seen("#top") and visitor.is_seen("#list svg")
+    assert not visitor.is_seen("#top") and visitor.is_seen(".list svg")
     visitor.press("PageDown", "Escape")
     visitor.settle()
     assert visitor.is_seen("#top") and "view=" not in visitor.hash and visitor.event() == 6

@@ -98,8 +98,6 @@ def test_no_answer_is_told_unasked(visitor):
     assert "Hint." in visitor.text("#talk") and "See one of them" not in before
     visitor.click("#hint")
     visitor.click("[data-do=answer]")
-    visitor.press("a")  # a press shows the end at once
-    idle(visitor)
     visitor.wait("return document.querySelector('#talk').innerText.includes('shown to you')")
     assert not visitor.is_seen(".reveal")
 

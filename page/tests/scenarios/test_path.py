@@ -34,11 +34,8 @@ def test_who_presses_show_me_gets_through(visitor, number):
         stage = visitor.inside("return listsets.now.scene.stage")
         if stage == "done":
             break
-        if stage == "playing":
-            visitor.wait(DONE.replace("!== null &&", "!== null || listsets.now.scene.stage === 'moment' &&"))
-        else:
-            visitor.click("#show-me")
-            idle(visitor)
+        visitor.click("#show-me")
+        idle(visitor)
     visitor.wait(DONE)
     assert len(visitor.text(".why")) > 60 and visitor.text("#go-on").startswith(("Continue", "And now?"))
 

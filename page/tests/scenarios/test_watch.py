@@ -45,10 +45,10 @@ def test_reload_shows_the_same_run(visitor):
     visitor.open("#example=snip")
     visitor.press("Right", "Right")
     visitor.settle()
-    where, said = visitor.text("#where"), visitor.text("#said")
+    where, said = visitor.text("#where"), visitor.text(".tale")
     visitor.reload()
     visitor.wait("return document.body.dataset.ready === 'yes'")
-    assert (visitor.text("#where"), visitor.text("#said")) == (where, said)
+    assert (visitor.text("#where"), visitor.text(".tale")) == (where, said)
 
 
 def test_a_direct_link_says_who_ran_it(visitor):
@@ -72,7 +72,7 @@ def test_keys_and_slider(visitor):
     visitor.press("Right")
     assert visitor.event() == 1
     visitor.press("End")
-    assert visitor.event() == 39 and "it took effect at event 23, a step of t1" in visitor.text("#said")
+    assert visitor.event() == 39 and "it took effect at event 23, a step of B" in visitor.text(".tale")
     visitor.press("Shift+Left", "Home", "?")
     assert visitor.event() == 0 and visitor.is_seen("#key-help")
     visitor.press("?", "p", "p")
@@ -80,14 +80,16 @@ def test_keys_and_slider(visitor):
 
 
 def test_live_regions_say_a_sentence_once(visitor):
-    visitor.open("#example=snip")
-    visitor.script("""window.said = []; const live = [...document.querySelectorAll("[aria-live=polite], [role=status], output")];
-        new MutationObserver((all) => all.forEach(({ target }) => window.said.push((target.closest?.("[id]") ?? target.parentElement).id)))
-            .observe(document.body, { subtree: true, childList: true, characterData: true });
-        window.isLive = (id) => live.some((it) => it.id === id && it.getClientRects().length > 0)""")
-    visitor.press("Right")
-    heard = visitor.script("return [...new Set(window.said.filter(window.isLive))]")
-    assert heard == ["said"]
+    """Of a step the sentence alone is heard, once: on the bench, and of two lists at most one of each."""
+    for address, key, most in (("#example=snip", "Right", 1), ("#compare", "Left", 2)):
+        visitor.open(address)
+        visitor.script("""window.said = []; const isLive = (it) => it?.closest("[aria-live=polite], [role=status], [role=alert], output") ?? null;
+            new MutationObserver((all) => all.forEach(({ target }) => window.said.push(isLive(target.closest ? target : target.parentElement))))
+                .observe(document.body, { subtree: true, childList: true, characterData: true })""")
+        visitor.press(key)
+        visitor.settle()
+        heard = visitor.script("return window.said.filter((it) => it !== null && it.getClientRects().length > 0 && it.innerText !== '').map((it) => it.className)")
+        assert set(heard) == {"tale"} and len(heard) <= most, address
 
 
 def test_print_shows_the_run_alone(visitor):
@@ -103,5 +105,5 @@ def test_in_a_frame(visitor):
     visitor.script("""const frame = document.createElement("iframe");
         Object.assign(frame, { width: 800, height: 520, src: "../index.html#example=snip&event=5&view=list" }); document.body.append(frame)""")
     visitor.wait("return document.querySelector('iframe').contentDocument?.body?.dataset.ready === 'yes'")
-    svg = "return document.querySelector('iframe').contentDocument.querySelector('#list svg').getClientRects().length"
+    svg = "return document.querySelector('iframe').contentDocument.querySelector('.list svg').getClientRects().length"
     assert visitor.script(svg) == 1

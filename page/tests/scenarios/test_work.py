@@ -59,9 +59,9 @@ def test_a_million_events_can_be_cancelled(visitor):
 def test_what_is_to_come_is_hidden_and_can_be_shown(visitor):
     visitor.open("#example=read-in-anothers-step&event=12")
     visitor.script("scrollTo(0, 0)")
-    hidden = visitor.script("return document.querySelectorAll('#calls .point').length")
+    hidden = visitor.script("return document.querySelectorAll('.calls .point').length")
     visitor.click("#hides")
-    assert visitor.script("return document.querySelectorAll('#calls .point').length") > hidden
+    assert visitor.script("return document.querySelectorAll('.calls .point').length") > hidden
     visitor.reload()
     visitor.wait("return document.body.dataset.ready === 'yes'")
     assert not visitor.script("return document.getElementById('hides').checked")

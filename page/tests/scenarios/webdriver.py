@@ -77,6 +77,7 @@ class OverMarionette:
     def __init__(self, path, folder):
         port = free_port()
         own = [f'user_pref("marionette.port", {port});', 'user_pref("datareporting.policy.dataSubmissionEnabled", false);']
+        own.append('user_pref("ui.prefersReducedMotion", 1);')
         pathlib.Path(folder, "user.js").write_text("\n".join(own))
         self.process = started([path, "--headless", "--no-remote", "--marionette", "--profile", folder], folder)
         self.socket = until(lambda: socket.create_connection(("127.0.0.1", port), 60), OSError)

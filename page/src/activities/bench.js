@@ -1,0 +1,105 @@
+// The bench: the run in a figure at the event that is shown, the bar that moves it, and below, while they are unfolded, the threads'
+// registers, the step table and the proved code.
+import { LISTS } from "../../made/rows.js";
+import { drawOrder } from "../draw/contents.js";
+import { HISTORY_LEFT } from "../draw/history.js";
+import { drawListing } from "../draw/listing.js";
+import { drawTable } from "../draw/table.js";
+import { drawThreads, MOST_ROWS } from "../draw/threads.js";
+import { byId, setAble, setHtml } from "../page/dom.js";
+import { scrollToLine } from "../page/editor.js";
+import { hiddenOutcomes, isJudging, now, show, tell } from "../page/now.js";
+import { goByHand, isPlaying } from "../page/play.js";
+import { escaped } from "../run/markup.js";
+import { sentenceOf } from "../run/sentences.js";
+import { ShownRun } from "../story/live_run.js";
+import { StillFigure } from "../story/still_figure.js";
+
+const bench = { key: "", figure: null };
+const LACKING = "The code of the correct list. The list that runs here lacks one of its checks.";
+
+// The figure of the task: another task has a new one, which is as large as its own run needs.
+function figureOfTask(run) {
+  const { kind, lacks } = run.trace;
+  const key = [now.task.kind, now.task.id, now.task.work, kind, lacks].join();
+  if (bench.figure !== null && bench.key === key) return bench.figure;
+  bench.figure?.end();
+  bench.key = key;
+  const box = document.createElement("div");
+  byId("run-figure").replaceChildren(box);
+  const codeNote = lacks === null ? "" : LACKING;
+  const sentence = (moment) => sentenceOf(moment, hiddenOutcomes());
+  bench.figure = new StillFigure(box, { list: kind, run, sentence, codeTitle: LISTS[kind].name, codeNote, roomFor: 560 });
+  return bench.figure;
+}
+
+export function showRun(moment) {
+  const { trace, state, count } = now.run;
+  const run = new ShownRun(trace, state, count);
+  const figure = figureOfTask(run);
+  figure.box.classList.toggle("judged", isJudging());
+  figure.part("tale").setAttribute("aria-live", isPlaying() ? "off" : "polite");
+  figure.spec.high = isJudging() ? 0.24 : now.place.view === "lecture" ? 0.3 : 0.36;
+  figure.take(run, moment, now.prefs.hides);
+  setHtml(byId("order"), drawOrder(trace, count, now.prefs.hides));
+  showThreads(moment.event);
+  showTable(moment);
+  showListing(moment);
+  scrollToLine(moment.event);
+}
+
+// The names, and the bar below the picture.
+export function showBar() {
+  const { trace, count, source } = now.run;
+  const { total } = trace;
+  const name = `${LISTS[trace.kind].name}${trace.lacks === null ? "" : " without one check"}`;
+  byId("title").textContent = `${name}, ${trace.threads} thread${trace.threads > 1 ? "s" : ""}`;
+  byId("source").textContent = source;
+  const where = `event ${count} of ${total}`;
+  Object.assign(byId("slider"), { max: total, value: count });
+  byId("slider").setAttribute("aria-valuetext", where);
+  byId("where").textContent = where;
+  setAble("back", count > 0);
+  setAble("next", count < total);
+}
+
+function showThreads(event) {
+  if (!byId("threads-box").open) return;
+  byId("threads").innerHTML = drawThreads(now.run.state, event, now.prefs.allThreads, hiddenOutcomes().includes("reply"));
+  byId("all-threads").hidden = now.run.trace.threads <= MOST_ROWS;
+  byId("all-threads").textContent = now.prefs.allThreads ? "show only those with a pending call" : `show all ${now.run.trace.threads}`;
+}
+
+function showTable(moment) {
+  const which = now.run.lacks === null ? "" : "the correct ";
+  byId("table-title").textContent = `Step table of ${which}${LISTS[now.run.trace.kind].name}`;
+  if (byId("table-box").open) byId("table").innerHTML = drawTable(moment);
+}
+
+// The code of the open calls, scrolled to the line of the thread that has moved.
+function showListing(moment) {
+  if (!byId("listing-box").open) return;
+  const box = byId("listing");
+  box.innerHTML = drawListing(moment);
+  const line = box.querySelector(".moved") ?? box.querySelector(".here");
+  if (line === null) return;
+  const y = line.offsetTop - box.offsetTop;
+  if (y < box.scrollTop + 40 || y > box.scrollTop + box.clientHeight - 80) box.scrollTop = y - box.clientHeight / 2;
+}
+
+// A press on a part of the picture tells what its tooltip says; one on the history leads to the event there.
+function pressPicture({ target, clientX }) {
+  const calls = target.closest(".calls svg");
+  const said = target.closest("g, svg")?.querySelector(":scope > title")?.textContent ?? "";
+  if (calls !== null) {
+    const { first, step } = bench.figure.scale;
+    goByHand(first - 1 + Math.ceil((clientX - calls.getBoundingClientRect().left - HISTORY_LEFT) / step));
+  }
+  if (said !== "") tell(escaped(said));
+}
+
+export function listenToBench() {
+  byId("run-figure").addEventListener("click", pressPicture);
+  byId("turns").onclick = ({ target }) => target.dataset.event && goByHand(Number(target.dataset.event));
+  for (const name of ["table-box", "listing-box", "threads-box", "turns-box"]) byId(name).ontoggle = show;
+}
