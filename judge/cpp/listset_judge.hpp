@@ -33,10 +33,8 @@
 #include <string>
 #include <system_error>
 #include <thread>
-#include <typeinfo>
 #include <utility>
 #include <vector>
-#include <cxxabi.h>
 #include <dirent.h>
 #include <sys/mman.h>
 #include <sys/wait.h>
@@ -102,7 +100,7 @@ struct range {
 
 // made of words.json by judge/make_words: `longest` in looks at the counter, `part` in calls, `patience` in seconds
 constexpr shape PRESETS[] = {{"few keys", 4, 1, 2500, 4, 1}, {"fresh sets", 4, 40, 10, 4, 1}, {"multiples of 64", 4, 1, 2500, 8, 64}, {"one key", 3, 1, 2500, 1, 1}, {"sets that grow", 4, 20, 125, 64, 1}, {"many keys", 4, 1, 2500, 1000, 1}, {"multiples of 1,000", 8, 1, 1250, 8, 1000}};
-constexpr range RANGES[] = {{"threads", 1, 64}, {"threads times calls", 1, 1000000000}, {"keys", 1, 1048576}, {"pauses", 0, 100}, {"runs", 1, 1000000}, {"seconds", 1, 3600}, {"at_least", 0, 100}};
+constexpr range RANGES[] = {{"threads", 1, 64}, {"threads times calls", 1, 1000000000}, {"keys", 1, 1048576}, {"pauses", 0, 100}, {"runs", 1, 1000000}, {"seconds", 1, 3600}, {"at_least", 0, 100}, {"the sum of shares", 1, 1000000}};
 constexpr unsigned PART = 20000, LONGEST = 100, HOT = 4, ENOUGH = 5, HARDER = 2, FURTHER = 20, PATIENCE = 3, READABLE = 6, MEET = 250, AWAKE = 300000;
 constexpr const char *OK = "ok: %s calls, of which %s overlapped a change of their key";
 constexpr const char *FEW = "that is few: take more threads, fewer keys or a machine that does less";
@@ -126,9 +124,7 @@ constexpr const char *NO_FOLDER = "no file can be written in %s: name another fo
 constexpr const char *NO_MEMORY = "there is no memory for the calls of a run";
 constexpr const char *NO_PROCESS = "no process could be started for a run: %s";
 constexpr const char *NOT_AGAIN = "the test did not come to this judge again in a process of its own: set own_process to false";
-constexpr const char *NO_NODE = "node is not in PATH, which runs the %s that LISTSET names";
-constexpr const char *NO_NAMED = "LISTSET names %s, which cannot be run: build listset, and name it there";
-constexpr const char *NO_JUDGE = "there is no listset in PATH: build it, and put it there or name it by LISTSET";
+constexpr const char *NO_JUDGE = "%s cannot be run: build listset, and put it in PATH or name it by LISTSET (node runs a listset.js)";
 constexpr const char *NO_VERDICT = "%s gave no verdict, but said: %s. Take a newer listset";
 // end of what is made
 
@@ -145,13 +141,12 @@ template <class... With> std::string say(const char *text, const With &...with) 
 
 inline void check(const options &it) {
     const uint64_t all = uint64_t(it.threads ? it.threads : 1) * (it.calls ? it.calls : 1);
-    const uint64_t given[] = {it.threads ? it.threads : 1, all, it.keys ? it.keys : 1, it.pauses, it.runs, it.seconds, it.at_least};
+    const uint64_t given[] = {it.threads ? it.threads : 1, all, it.keys ? it.keys : 1, it.pauses, it.runs, it.seconds, it.at_least, uint64_t(it.adds) + it.removes + it.finds};
     const uint64_t *at = given;
     for (const range &its : RANGES) {
         if (*at < its.least || *at > its.most) throw no_verdict(say(RANGE, its.name, *at, its.least, its.most));
         at++;
     }
-    if (it.adds + it.removes + it.finds == 0) throw no_verdict(say(RANGE, "adds plus removes plus finds", 0, 1, 1000));
 }
 
 // ---- the three calls, by the names that the set has for them
@@ -257,22 +252,11 @@ struct area {
     }
 };
 
-// The type and the text of an exception.
-inline std::string told(const std::exception &it) {
-#ifdef __GXX_RTTI
-    int status;
-    std::unique_ptr<char, void (*)(void *)> name(abi::__cxa_demangle(typeid(it).name(), nullptr, nullptr, &status), free);
-    return std::string(name ? name.get() : typeid(it).name()) + ": " + it.what();
-#else
-    return it.what();
-#endif
-}
-
 template <class F> void tried(area &run, phase as, F call) {
     try {
         call();
     } catch (const std::exception &thrown) {
-        run.fail(as, told(thrown));
+        run.fail(as, thrown.what());
     } catch (...) {
         run.fail(as, "what is no std::exception");
     }
@@ -445,9 +429,10 @@ inline std::string made_part(caller &by, const area &run, unsigned seconds) {
 
 // ---- the judge
 
-// Its name, what it says of its proof, and the words of a shell that run it.
-struct judge_found {
-    std::string name, proof, command;
+// The status of a command or of the library, and what it says.
+struct answer {
+    int status;
+    std::string said;
 };
 
 // The line in which a judge says whether it is proved.
@@ -461,88 +446,55 @@ inline std::string stripped(std::string text) {
     return text;
 }
 
-// The status of a command or of the library, and what it says.
-struct answer {
-    int status;
-    std::string said;
-};
-
 #ifdef LISTSET_H
-// The library, which is given a recording at its end.
-struct asked {
-    std::string all;
-    asked(const judge_found &, const std::string &) {}
-    void write(const std::string &text) { all += text; }
-    answer end() {
+struct judge_found {
+    const std::string name = "liblistset", proof = proof_in(listset_version());
+
+    answer asked_of(const std::string &file) const {
+        std::string room(8192, '\0');
         uint8_t status;
-        size_t length;
-        std::unique_ptr<char, void (*)(void *)> said(listset_said(listset_judge, all.data(), all.size(), &length, &status), free);
-        if (!said) throw no_verdict("there is no memory for the answer of liblistset");
-        return {status, stripped(std::string(said.get(), length))};
+        std::unique_ptr<FILE, int (*)(FILE *)> from(fopen(file.c_str(), "r"), fclose);
+        if (!from) throw no_verdict(say(NO_FOLDER, file));
+        room.resize(listset_judge_from(fileno(from.get()), room.data(), room.size(), &status));
+        return {status, stripped(room)};
     }
 };
 
-inline judge_found find_judge() { return {"liblistset", proof_in(listset_version()), ""}; }
+inline judge_found find_judge() { return {}; }
 #else
+inline answer ran(const std::string &command) {
+    FILE *made = popen(("exec " + command).c_str(), "r");
+    if (!made) throw no_verdict(say(NO_PROCESS, std::string(strerror(errno))));
+    std::string said;
+    for (int it; (it = fgetc(made)) != EOF;) said += char(it);
+    const int status = pclose(made);
+    return {WIFEXITED(status) ? WEXITSTATUS(status) : 128, stripped(said)};
+}
+
 inline std::string quoted(const std::string &word) {
     std::string text = "'";
     for (char it : word) text += it == '\'' ? "'\\''" : std::string(1, it);
     return text + "'";
 }
 
-inline FILE *started(const std::string &command, const char *mode) {
-    FILE *made = popen(("exec " + command).c_str(), mode);
-    if (!made) throw no_verdict(say(NO_PROCESS, std::string(strerror(errno))));
-    return made;
-}
+struct judge_found {
+    std::string name, proof, command;  // the last for a shell
 
-inline int ended(FILE *command) {
-    const int status = pclose(command);
-    return WIFEXITED(status) ? WEXITSTATUS(status) : 128;
-}
-
-// A program, which is given a recording as it grows. What it says comes into a file.
-struct asked {
-    const std::string file;
-    FILE *to;
-
-    asked(const judge_found &by, const std::string &recording)
-        : file(recording + ".said"), to(started(by.command + " judge - >" + quoted(file) + " 2>&1", "w")) {}
-    asked(const asked &) = delete;
-    ~asked() {
-        if (to) end();
-    }
-    void write(const std::string &text) {
-        sigset_t broken, before, pending;
-        sigemptyset(&broken), sigaddset(&broken, SIGPIPE);
-        pthread_sigmask(SIG_BLOCK, &broken, &before);
-        ssize_t count = 1;  // (past the buffer of `to`, which would be written again where it is closed)
-        for (size_t at = 0; at < text.size() && (count > 0 || errno == EINTR); at += size_t(std::max<ssize_t>(count, 0)))
-            count = ::write(fileno(to), text.data() + at, text.size() - at);
-        int number;  // (one that has ended reads no further)
-        if (count < 0 && !sigpending(&pending) && sigismember(&pending, SIGPIPE)) sigwait(&broken, &number);
-        pthread_sigmask(SIG_SETMASK, &before, nullptr);
-    }
-    answer end() {
-        const int status = ended(std::exchange(to, nullptr));
-        std::ostringstream said;
-        said << std::ifstream(file).rdbuf();
-        std::remove(file.c_str());
-        return {status, stripped(said.str())};
+    answer asked_of(const std::string &file) const {
+        const std::string asked = command + " judge " + quoted(file);
+        const answer given = ran(asked + " 2>/dev/null");
+        return given.said.empty() ? ran(asked + " 2>&1") : given;
     }
 };
 
 inline judge_found find_judge() {
     const char *named = std::getenv("LISTSET");
-    const std::string name = named ? named : "listset";
+    const std::string name = named && *named ? named : "listset";
     const bool is_script = name.size() > 3 && name.substr(name.size() - 3) == ".js";
-    judge_found found{name, "", (is_script ? "node " : "") + quoted(name)};
-    FILE *version = started(found.command + " --version --long", "r");  // (what it says of a judge that it builds is for the user's eyes)
-    std::string said;
-    for (int it; (it = fgetc(version)) != EOF;) said += char(it);
-    if (ended(version) == 127) throw no_verdict(is_script ? say(NO_NODE, name) : named ? say(NO_NAMED, name) : NO_JUDGE);
-    found.proof = proof_in(said);
-    return found;
+    const std::string command = (is_script ? "node " : "") + quoted(name);
+    const answer version = ran(command + " --version --long");  // (what it says of a judge that it builds is for the user's eyes)
+    if (version.status == 127) throw no_verdict(say(NO_JUDGE, name));
+    return {name, proof_in(version.said), command};
 }
 #endif
 
@@ -552,9 +504,9 @@ struct judgement {
     uint64_t overlapped;
 };
 
-inline judgement judged(const judge_found &by, const answer &given) {
-    auto &[status, said] = given;
-    std::string first = said.substr(0, said.find('\n'));
+inline judgement judged(const judge_found &by, const std::string &file) {
+    const auto [status, said] = by.asked_of(file);
+    const std::string first = said.substr(0, said.find('\n'));
     unsigned long long overlapped;
     if (status == 1 && first == "not linearizable") return {said, 0};
     if (status == 0 && sscanf(said.c_str(), "ok %*u calls\n%llu of them", &overlapped) == 1) return {"", overlapped};
@@ -563,19 +515,17 @@ inline judgement judged(const judge_found &by, const answer &given) {
 
 // ---- a run, as it is judged
 
-// The text of a run: as it grows it is written into a file, and given to the judge.
+// The file into which a run is written as it grows.
 struct recording {
     const std::string path;
     bool is_kept;
     std::ofstream file;
-    std::optional<asked> judge;
 
-    recording(const options &how, uint64_t seed, const judge_found &by) : path(path_of(how.record, seed)), is_kept(!how.record.empty()) {
+    recording(const options &how, uint64_t seed) : path(path_of(how.record, seed)), is_kept(!how.record.empty()) {
         std::error_code fault;
         if (is_kept) std::filesystem::create_directories(how.record, fault);
         file.open(path);
         check();
-        judge.emplace(by, path);
     }
     recording(const recording &) = delete;
     ~recording() {
@@ -591,8 +541,6 @@ struct recording {
     void check() const {
         if (!file) throw no_verdict(say(NO_FOLDER, path.substr(0, path.rfind('/'))));
     }
-    void write(const std::string &text) { file << text, judge->write(text); }
-    answer end() { return file.close(), check(), judge->end(); }
 };
 
 inline std::string line_of(const slot &it, unsigned end) {
@@ -637,10 +585,12 @@ inline trouble record(caller &by, area &run, recording &to, unsigned seconds) {
         if (run.at == FAILED) found.how = run.why;
         if (!found.how.empty() && run.tickets == 0) throw no_verdict(say(NOT_MADE, found.how));
         auto [lines, under_way] = lines_of(run);
-        to.write((round > 0 ? "" : "listset-calls 1\n" + lines_of_keys("opening", run.opening, keys)) + lines);
+        to.file << (round > 0 ? "" : "listset-calls 1\n" + lines_of_keys("opening", run.opening, keys)) << lines;
         found.under_way = under_way;
     }
-    to.write(found.how.empty() ? lines_of_keys("key", run.left, keys) + "end\n" : "cut\n");
+    to.file << (found.how.empty() ? lines_of_keys("key", run.left, keys) + "end\n" : "cut\n");
+    to.file.close();
+    to.check();
     return found;
 }
 
@@ -650,6 +600,8 @@ inline trouble record(caller &by, area &run, recording &to, unsigned seconds) {
 struct call_line {
     std::string thread, word, key, answer;
     uint64_t begin = 0, end = 0;
+
+    std::string head() const { return "[" + word + " " + key; }
 };
 
 inline std::optional<call_line> call_in(const std::string &line) {
@@ -661,26 +613,37 @@ inline std::optional<call_line> call_in(const std::string &line) {
     return it;
 }
 
+// What a judge says of a recording that no order explains; nothing if some order does.
+struct refusal {
+    std::string said, key;  // the key of which it speaks
+    std::vector<call_line> calls;
+
+    refusal(const std::string &text = "") : said(text) {
+        if (const size_t at = text.find("of key "); at != std::string::npos) std::istringstream(text.substr(at + 7)) >> key;
+        std::istringstream lines(text);
+        for (std::string line; std::getline(lines, line);)
+            if (auto it = call_in(line)) calls.push_back(*it);
+    }
+    size_t size() const { return calls.size() + (said.find(" belong to these") == std::string::npos ? 0 : 1000); }
+    size_t rank() const { return size() > 1 ? size() : 999; }  // (a refusal of one call alone comes last)
+};
+
 // The calls as bars, one below another, from their begins to their ends.
 inline std::string picture_of(const std::vector<call_line> &calls) {
-    std::map<uint64_t, std::pair<size_t, size_t>> moments;  // at each moment its column, and the least distance from the begin of its call
-    uint64_t last = 0;
-    for (auto &it : calls) last = std::max({last, it.begin + 1, it.end + 1});
-    auto head = [](const call_line &it) { return "[" + it.word + " " + it.key; };
-    auto end_of = [&](const call_line &it) { return it.end ? it.end : last; };
-    for (auto &it : calls) moments[it.begin], moments[end_of(it)];
-    size_t column = 0;
-    for (auto &[moment, place] : moments) {
-        place.first = column;
+    std::map<uint64_t, size_t> columns;  // of each moment
+    auto end_of = [](const call_line &it) { return it.end ? it.end : UINT64_MAX; };
+    for (auto &it : calls) columns[it.begin] = columns[end_of(it)] = 0;
+    size_t next = 0;
+    for (auto &[moment, column] : columns) {
         for (auto &it : calls)
-            if (end_of(it) == moment) place.first = std::max(place.first, moments[it.begin].first + head(it).size() + it.answer.size() + 1);
-        column = place.first + 1;
+            if (end_of(it) == moment) next = std::max(next, columns[it.begin] + it.head().size() + it.answer.size() + 1);
+        column = next++;
     }
     std::string text;
     for (auto &it : calls) {
-        const size_t from = moments[it.begin].first, to = moments[end_of(it)].first, used = head(it).size() + it.answer.size();
-        text += "\nthread " + it.thread + std::string(it.thread.size() < 2 ? 2 : 1, ' ') + std::string(from, ' ') + head(it);
-        text += std::string(to - from - used, '-') + (it.end ? it.answer + "]" : "-..");
+        const size_t from = columns[it.begin], dashes = columns[end_of(it)] - from - it.head().size() - it.answer.size();
+        text += "\nthread " + it.thread + std::string(it.thread.size() < 2 ? 2 : 1, ' ') + std::string(from, ' ') + it.head();
+        text += std::string(dashes, '-') + (it.end ? it.answer + "]" : "-..");
     }
     return text;
 }
@@ -700,34 +663,19 @@ inline std::string count_of(const std::string &file, const std::string &key) {
     return is_cut || was + adds == is + removes ? "" : say(COUNTED, adds, removes, key, word(was), word(is));
 }
 
-// The key of which the judge's second line speaks.
-inline std::string key_in(const std::string &refused) {
-    const size_t at = refused.find("of key ");
-    return at == std::string::npos ? "" : refused.substr(at + 7, refused.find_first_not_of("0123456789", at + 7) - at - 7);
-}
-
-inline size_t calls_in(const std::string &refused) {
-    size_t count = refused.find(" belong to these") != std::string::npos ? 1000 : 0;
-    for (size_t at = 0; (at = refused.find("\ncall ", at)) != std::string::npos; at++) count++;
-    return count;
-}
-
 // What the judge says, with a picture; or, in place of many calls, what their count shows.
-inline std::string explained(const std::string &refused, const std::string &file) {
-    std::vector<call_line> calls;
-    std::istringstream lines(refused);
-    for (std::string line; std::getline(lines, line);)
-        if (auto it = call_in(line)) calls.push_back(*it);
-    const std::string counted = calls_in(refused) > READABLE ? count_of(file, key_in(refused)) : "";
-    if (counted.empty()) return refused + (calls.size() > 1 ? picture_of(calls) : "");
-    return refused.substr(0, refused.find('\n', refused.find('\n') + 1)) + "\n" + counted;
+inline std::string explained(const refusal &it, const std::string &file) {
+    const std::string counted = it.size() > READABLE ? count_of(file, it.key) : "";
+    if (counted.empty()) return it.said + (it.calls.size() > 1 ? picture_of(it.calls) : "");
+    return it.said.substr(0, it.said.find('\n', it.said.find('\n') + 1)) + "\n" + counted;
 }
 
 // ---- runs, one after another
 
 struct outcome {
     uint64_t seed = 0, calls = 0, overlapped = 0;
-    std::string name, refused, said, file;
+    std::string name, said, file;
+    refusal refused;
     bool is_few() const { return overlapped * 100 < calls * ENOUGH; }
 };
 
@@ -784,8 +732,7 @@ template <class Make, class Key> struct tester {
         return keys;
     }
 
-    std::string key_line(const std::string &refused, const shape &it, const std::vector<K> &keys) const {
-        const std::string number = key_in(refused);
+    std::string key_line(const std::string &number, const shape &it, const std::vector<K> &keys) const {
         if (number.empty()) return "";
         const unsigned long at = std::stoul(number);
         const std::string name = shown(keys[at % it.keys]), set = it.sets > 1 ? say(IN_SET, at / it.keys + 1) : "";
@@ -795,30 +742,29 @@ template <class Make, class Key> struct tester {
     outcome judged_run(uint64_t seed, const shape &it) const {
         auto run = area::made(it, seed);
         auto by_maker = std::make_shared<maker<Make, K>>(how, keys_of(it), make);
-        recording text(how, seed, by);
+        recording text(how, seed);
         std::unique_ptr<caller> start;
         if (how.own_process && is_alone()) start = std::make_unique<child>(*by_maker, *run);
         else start = std::make_unique<here>(by_maker, run);
         auto [trouble, under_way] = record(*start, *run, text, how.seconds);
-        start.reset();  // (a process that hangs would keep the judge's input open)
-        auto [refused, overlapped] = judged(by, text.end());
-        outcome found{seed, uint64_t(it.threads) * it.sets * it.calls, overlapped, it.name, refused, "", text.path};
-        if (!refused.empty()) found.said = explained(refused, text.path) + key_line(refused, it, by_maker->keys);
-        if (!trouble.empty()) found.said = say(UNDER_WAY, trouble, under_way, refused.empty() ? EXPLAINED : found.said), found.refused = "";
+        start.reset();
+        auto [refused, overlapped] = judged(by, text.path);
+        outcome found{seed, uint64_t(it.threads) * it.sets * it.calls, overlapped, it.name, "", text.path, refused};
+        if (!refused.empty()) found.said = explained(found.refused, text.path) + key_line(found.refused.key, it, by_maker->keys);
+        if (!trouble.empty()) found.said = say(UNDER_WAY, trouble, under_way, refused.empty() ? EXPLAINED : found.said), found.refused = {};
         text.is_kept |= !found.said.empty();
         return found;
     }
 
     // Of the refusal and of further runs, the one that has the fewest calls, and two at least.
     outcome smallest(outcome found) const {
-        auto rank = [](const outcome &it) { return calls_in(it.refused) < 2 ? 999 : calls_in(it.refused); };
         const auto since = std::chrono::steady_clock::now();
         const uint64_t first = found.seed;
-        for (unsigned i = 1; i <= FURTHER && rank(found) > READABLE / 2; i++) {
+        for (unsigned i = 1; i <= FURTHER && found.refused.rank() > READABLE / 2; i++) {
             if (std::chrono::steady_clock::now() - since > std::chrono::seconds(PATIENCE)) break;
             const uint64_t seed = first + i * std::size(PRESETS);
             outcome other = judged_run(seed, shape_of(seed));
-            if (!other.refused.empty() && rank(other) < rank(found)) std::swap(found, other);
+            if (!other.refused.said.empty() && other.refused.rank() < found.refused.rank()) std::swap(found, other);
             if (how.record.empty() && !other.said.empty()) std::remove(other.file.c_str());
         }
         return found;
@@ -837,7 +783,7 @@ template <class Make, class Key> struct tester {
                 if (!found.is_few() || std::chrono::steady_clock::now() > until) break;
             }
         }
-        if (!found.refused.empty()) found = smallest(found);
+        if (!found.refused.said.empty()) found = smallest(found);
         all.ok = found.said.empty();
         if (!all.ok) all.seed = found.seed, all.said = found.said, all.file = found.file;
         all.text = all.ok ? passed(all) : say(FAILED_RUN, found.seed, found.name, found.said, found.file, all.judge);

@@ -16,7 +16,6 @@ import collections
 import contextlib
 import ctypes
 import dataclasses
-import functools
 import itertools
 import mmap
 import os
@@ -33,7 +32,7 @@ import time
 import warnings
 from typing import Any, Callable
 
-__all__ = ["Failed", "NoVerdict", "NotEnded", "NotLinearizable", "TooFew", "Verdict", "judge"]
+__all__ = ["CutShort", "Failed", "NoVerdict", "NotLinearizable", "TooFew", "Verdict", "judge"]
 
 GOING, RESTING, STOPPING, ENDED = range(4)
 WORDS = ADD, REMOVE, CONTAINS = "add", "remove", "contains"
@@ -63,6 +62,7 @@ RANGES = (
     ("runs", 1, 1000000),
     ("seconds", 1, 3600),
     ("at_least", 0, 100),
+    ("the sum of shares", 1, 1000000),
 )
 PART, LONGEST, HOT, ENOUGH, HARDER, FURTHER, PATIENCE, READABLE, MEET, AWAKE, SLOW = 20000, 100, 4, 5, 2, 20, 3, 6, 250, 300000, 5
 OK = "ok: %s calls, of which %s overlapped a change of their key"
@@ -87,9 +87,7 @@ NO_FOLDER = "no file can be written in %s: name another folder by record"
 NO_MEMORY = "there is no memory for the calls of a run"
 NO_PROCESS = "no process could be started for a run: %s"
 NOT_AGAIN = "the test did not come to this judge again in a process of its own: set own_process to false"
-NO_NODE = "node is not in PATH, which runs the %s that LISTSET names"
-NO_NAMED = "LISTSET names %s, which cannot be run: build listset, and name it there"
-NO_JUDGE = "there is no listset in PATH: build it, and put it there or name it by LISTSET"
+NO_JUDGE = "%s cannot be run: build listset, and put it in PATH or name it by LISTSET (node runs a listset.js)"
 NO_VERDICT = "%s gave no verdict, but said: %s. Take a newer listset"
 # end of what is made
 
@@ -124,7 +122,7 @@ class NotLinearizable(Failed):
     """No order explains the run."""
 
 
-class NotEnded(Failed):
+class CutShort(Failed):
     """The set crashed, hung or raised in the run, which was judged up to there."""
 
 
@@ -155,12 +153,11 @@ class Options:
     def check(self) -> None:
         first = [1 if it is None else it for it in (self.threads, self.calls, self.keys)]
         all_calls = first[0] * first[1] if all(isinstance(it, int) for it in first) else 1
-        given = (first[0], all_calls, first[2], self.pauses, self.runs, self.seconds, self.at_least)
+        shares = sum(self.shares) if min(self.shares) >= 0 else min(self.shares)
+        given = (first[0], all_calls, first[2], self.pauses, self.runs, self.seconds, self.at_least, shares)
         for (name, least, most), it in zip(RANGES, given):
             if not (isinstance(it, int) and least <= it <= most):
                 raise NoVerdict(RANGE % (name, it, least, most))
-        if min(self.shares) < 0 or not sum(self.shares):
-            raise NoVerdict(RANGE % ("adds plus removes plus finds", sum(self.shares), 1, 1000))
 
     def shape_of(self, seed: int) -> Shape:
         """The preset of a seed, with what these options say."""
@@ -192,7 +189,7 @@ def judge(make: Callable[[], Any], *, threads: int | None = None, calls: int | N
           key: Callable[[int], Any] | None = None, pauses: int = 20, runs: int = 20, seed: int = 1, seconds: int = 10, at_least: int = 0,
           adds: int = 1, removes: int = 1, finds: int = 1, own_process: bool = True, opens_with_keys: bool = False,
           record: str | os.PathLike | None = None) -> Verdict:
-    """The Verdict of so many sets that `make` makes; raises NotLinearizable of a run that no order explains, and NotEnded of one that
+    """The Verdict of so many sets that `make` makes; raises NotLinearizable of a run that no order explains, and CutShort of one that
     crashes or hangs.
 
     threads -- that call a set at once: 1 to 64; by the presets of runs, in turn, where it is left out, as the next two
@@ -247,21 +244,22 @@ class Tester:
     def judged_run(self, seed: int, shape: Shape) -> Outcome:
         run = Run(self.make, self.how, shape, seed)
         is_own = self.how.own_process and hasattr(os, "fork") and threading.active_count() == 1
-        with Recording(seed, self.by, self.how.record) as recording:
+        with Recording(seed, self.how.record) as recording:
             with contextlib.closing(run.in_child() if is_own else run.in_this()) as parts:
                 for trouble in parts:
                     run.read(trouble)
-                    recording.write(run.text())
+                    recording.to.write(run.text())
                     if run.trouble:
                         break
-            overlapped, refused = recording.judged()
+            recording.to.close()
+            overlapped, refused = self.by.judged(recording.file)
             recording.is_kept |= bool(run.trouble or refused)
         said = explained(refused, recording.file) + run.key_line(refused) if refused else ""
         failed = NotLinearizable(seed, shape.name, said, recording.file, self.by) if refused else None
         if run.trouble:
             under_way = "".join(f"{line_of(it)}\n" for it in run.rows if not it.end and it.reply != UNKNOWN)
             said = UNDER_WAY % (run.trouble, under_way, said or EXPLAINED)
-            refused, failed = "", NotEnded(seed, shape.name, said, recording.file, self.by)
+            refused, failed = "", CutShort(seed, shape.name, said, recording.file, self.by)
         return Outcome(seed, shape.threads * shape.sets * shape.calls, overlapped, refused, failed)
 
     def smallest(self, found: Outcome) -> Outcome:
@@ -325,9 +323,9 @@ def picture_of(calls: list) -> list[str]:
 
 
 class Recording:
-    """The text of a run: as it grows it is written into a file, and given to the judge."""
+    """The file into which a run is written as it grows."""
 
-    def __init__(self, seed, by, record):
+    def __init__(self, seed, record):
         self.is_kept, folder = record is not None, pathlib.Path(record or tempfile.gettempdir())
         try:
             folder.mkdir(parents=True, exist_ok=True)
@@ -337,22 +335,13 @@ class Recording:
                 self.to = tempfile.NamedTemporaryFile("w", prefix=f"listset-seed-{seed}-", suffix=".calls", dir=folder, delete=False)
         except OSError:
             raise NoVerdict(NO_FOLDER % folder) from None
-        self.file, self.by, self.asked = pathlib.Path(self.to.name), by, by.ask()
+        self.file = pathlib.Path(self.to.name)
 
     def __enter__(self):
         return self
 
-    def write(self, text):
-        self.to.write(text)
-        self.asked.write(text)
-
-    def judged(self):
-        self.to.close()
-        return self.by.judged(*self.asked.answer())
-
     def __exit__(self, *_):
         self.to.close()
-        self.asked.end()
         if not self.is_kept:
             self.file.unlink()
 
@@ -638,71 +627,41 @@ class Judge:
         try:
             import listset
 
-            self.name, self.ask, version = "liblistset", functools.partial(Library, listset.said), listset.version()
+            self.name, self.answer, version = "liblistset", listset.judge_file, listset.version()
         except (ImportError, AttributeError):
-            self.name, self.ask, version = program()
+            self.name, words, version = program()
+            self.answer = lambda file: said([*words, "judge", file], subprocess.PIPE)
         self.proof = next((it for it in version.splitlines() if it.startswith("proof ")), "proof unknown")
 
     def __str__(self):
         return f"{self.name}, {self.proof}"
 
-    def judged(self, status, said):
+    def judged(self, file):
         """How many calls of a recording overlapped a change of their key, and nothing; or 0, and what the judge says if no order explains
         it."""
-        met = OVERLAPPED.match(said)
+        text, status = self.answer(file)
+        met = OVERLAPPED.match(text)
         if status == 0 and met:
             return int(met[1]), ""
-        if status == 1 and said.startswith("not linearizable"):
-            return 0, said
-        raise NoVerdict(NO_VERDICT % (self.name, said.partition("\n")[0] or "nothing"))
+        if status == 1 and text.startswith("not linearizable"):
+            return 0, text.strip()
+        raise NoVerdict(NO_VERDICT % (self.name, text.partition("\n")[0] or "nothing"))
 
 
-class Library:
-    """The library, which is given a recording at its end."""
-
-    def __init__(self, said):
-        self.said, self.text = said, []
-
-    def write(self, text):
-        self.text.append(text)
-
-    def answer(self):
-        answer, status = self.said("judge", "".join(self.text).encode())
-        return status, answer.decode(errors="replace").strip()
-
-    def end(self):
-        pass
-
-
-class Program:
-    """A program, which reads a recording as it grows. (What `--version` says of a judge that it builds is for the user's eyes.)"""
-
-    def __init__(self, words):
-        errors = None if "--version" in words else subprocess.PIPE
-        self.process = subprocess.Popen(words, stdin=subprocess.PIPE, stdout=subprocess.PIPE, stderr=errors, text=True)
-
-    def write(self, text):
-        with contextlib.suppress(BrokenPipeError):  # (one that has ended reads no further)
-            self.process.stdin.write(text)
-
-    def answer(self):
-        said, errors = self.process.communicate()
-        return self.process.returncode, (said or errors or "").strip()
-
-    def end(self):
-        self.process.kill()
-        self.process.communicate()
+def said(words, errors=None):
+    """What a command says, and its status."""
+    done = subprocess.run(words, stdin=subprocess.DEVNULL, stdout=subprocess.PIPE, stderr=errors)
+    return (done.stdout or done.stderr or b"").decode(errors="replace"), done.returncode
 
 
 def program():
-    """The name of the program, how it is asked, and what it says of its version."""
-    named = os.environ.get("LISTSET")
-    name = named or "listset"
+    """The name of the program, the words that run it, and what it says of its version."""
+    name = os.environ.get("LISTSET") or "listset"
     words = ["node", name] if name.endswith(".js") else [name]
     try:
-        status, version = Program([*words, "--version", "--long"]).answer()
+        version, status = said([*words, "--version", "--long"])  # (what it says of a judge that it builds is for the user's eyes)
     except OSError:
         status = 127
     if status != 127:
-        return name, functools.partial(Program, [*words, "judge", "-"]), version
-    raise NoVerdict(NO_NODE % name if len(words) > 1 else NO_NAMED % named if named else NO_JUDGE)
+        return name, words, version
+    raise NoVerdict(NO_JUDGE % name)

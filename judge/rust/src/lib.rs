@@ -122,10 +122,10 @@ impl Options {
     fn check(&self) -> Result<(), Failure> {
         let [threads, calls, keys] = [self.threads, self.calls, self.keys].map(|it| u64::from(it.max(1)));
         let others = [self.pauses, self.runs, self.seconds, self.at_least].map(u64::from);
-        let given = [threads, threads * calls, keys].into_iter().chain(others);
+        let shares = self.shares.iter().copied().map(u64::from).sum();
+        let given = [threads, threads * calls, keys].into_iter().chain(others).chain([shares]);
         match RANGES.iter().zip(given).find(|(its, given)| !(its.least..=its.most).contains(given)) {
             Some((its, given)) => no_verdict(say(RANGE, &[&its.name, &given, &its.least, &its.most])),
-            None if self.shares.iter().all(|&it| it == 0) => no_verdict(say(RANGE, &[&"the sum of shares", &0, &1, &1000])),
             None => Ok(()),
         }
     }
@@ -210,7 +210,7 @@ pub enum Failure {
     /// No order explains the run.
     NotLinearizable(Failed),
     /// The set crashed, hung or panicked in the run, which was judged up to there.
-    NotEnded(Failed),
+    CutShort(Failed),
     /// Fewer calls overlapped a change of their key than `at_least` asks for.
     TooFew(String),
     /// Nothing is known of the set: an option is out of range, no set could be made, or there is no judge.
@@ -220,7 +220,7 @@ pub enum Failure {
 impl fmt::Display for Failure {
     fn fmt(&self, f: &mut fmt::Formatter<'_>) -> fmt::Result {
         match self {
-            Failure::NotLinearizable(it) | Failure::NotEnded(it) => {
+            Failure::NotLinearizable(it) | Failure::CutShort(it) => {
                 write!(f, "{}", say(FAILED_RUN, &[&it.seed, &it.name, &it.said, &it.file.display(), &it.judge]))
             }
             Failure::TooFew(why) | Failure::NoVerdict(why) => write!(f, "{why}"),
@@ -401,7 +401,7 @@ impl<S: Sync> Tester<'_, S> {
                     }
                     self.drop_file(&other);
                 }
-                Err(Failure::NotEnded(other)) => {
+                Err(Failure::CutShort(other)) => {
                     self.drop_file(&other);
                     break; // (a process of its own that has ended makes no further run)
                 }

@@ -6,14 +6,13 @@ use std::sync::atomic::AtomicU32;
 use std::sync::atomic::Ordering::SeqCst;
 
 use crate::area::{Area, Row};
-use crate::judges::{Asked, Judge, Judged};
+use crate::judges::{Judge, Judged};
 use crate::words::*;
 use crate::{no_verdict, told, Failed, Failure, Options, Shape, Source};
 
-/// The text of a run: as it grows it is written into a file, and given to the judge.
+/// The file into which a run is written as it grows.
 pub struct Recording<'a> {
     judge: &'a Judge,
-    asked: Option<Asked>,
     shape: Shape,
     seed: u64,
     path: PathBuf,
@@ -30,17 +29,7 @@ impl<'a> Recording<'a> {
         let is_kept = options.record.is_some();
         let path = folder.join(name_of(seed, is_kept));
         match std::fs::create_dir_all(&folder).and_then(|()| File::create(&path)) {
-            Ok(file) => Ok(Recording {
-                judge,
-                asked: Some(judge.ask()?),
-                shape,
-                seed,
-                path,
-                file,
-                is_kept,
-                is_begun: false,
-                trouble: None,
-            }),
+            Ok(file) => Ok(Recording { judge, shape, seed, path, file, is_kept, is_begun: false, trouble: None }),
             Err(_) => no_verdict(say(NO_FOLDER, &[&folder.display()])),
         }
     }
@@ -59,14 +48,12 @@ impl<'a> Recording<'a> {
         } else if is_last {
             text += &format!("{}end\n", area.lines_of_keys("key", true));
         }
-        self.asked.iter_mut().for_each(|it| it.write(&text));
         self.file.write_all(text.as_bytes()).or_else(|_| no_verdict(say(NO_FOLDER, &[&self.path.display()])))
     }
 
     /// How many calls of the whole run overlapped a change of their key, by the judge; or what is wrong with it.
     pub(crate) fn judged<S>(mut self, source: &Source<S>) -> Result<u64, Failure> {
-        let asked = self.asked.take().expect("it is asked once");
-        let said = match self.judge.judged(asked)? {
+        let said = match self.judge.judged(&self.path)? {
             Judged::Ok { overlapped } if self.trouble.is_none() => return Ok(overlapped),
             Judged::Ok { .. } => EXPLAINED.to_string(),
             Judged::Refused(said) => told::explained(&said, &self.path) + &self.key_line(&said, source),
@@ -77,7 +64,7 @@ impl<'a> Recording<'a> {
             None => Failure::NotLinearizable(Failed { seed, name, said, file, judge }),
             Some((trouble, under_way)) => {
                 let said = say(UNDER_WAY, &[trouble, under_way, &said]);
-                Failure::NotEnded(Failed { seed, name, said, file, judge })
+                Failure::CutShort(Failed { seed, name, said, file, judge })
             }
         })
     }
