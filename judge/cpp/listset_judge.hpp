@@ -186,7 +186,7 @@ template <class S, class K> reply contains(S &set, const K &key) {
 
 // ---- a run, written down as it goes
 
-enum phase { GOING, RESTING, OVER, FAILED, UNMADE };
+enum phase { GOING, OVER, FAILED, UNMADE };
 
 // A call as its thread writes it: at its begin, and again at its end. A thread goes on under a new number after a reply that is not known.
 struct slot {
@@ -196,14 +196,14 @@ struct slot {
     std::atomic<unsigned> begin, end;  // 0 as long as it has none
 };
 
-// A run in memory that its process shares with this one: the calls from one rest to the next.
+// A run in memory that its process shares with this one: the calls since those in its file.
 struct area {
     const shape of;
     const uint64_t seed;
-    const unsigned rows, parts, rounds;        // the calls of each thread in a part, of which the last may have fewer; the parts of a set, and of all
-    slot *slots = nullptr;                     // those of each thread in turn
-    bool *opening = nullptr, *left = nullptr;  // of each key of each set whether it was there, at first and at the end
+    const unsigned rows, parts, rounds;  // the calls of each thread in a part, of which the last may have fewer; the parts of a set, and of all
+    slot *slots = nullptr;               // those of each thread in turn
     std::atomic<unsigned> tickets{0}, there{0}, done{0}, begun{0};
+    std::atomic<uint64_t> written{0};  // the bytes of the file
     std::atomic<phase> at{GOING};
     std::atomic<bool> is_stopping{false};
     char why[240] = "";
@@ -212,13 +212,11 @@ struct area {
         : of(it), seed(of_seed), rows(std::min(it.calls, PART / it.threads)), parts((it.calls - 1) / rows + 1), rounds(it.sets * parts) {}
 
     static std::shared_ptr<area> made(const shape &it, uint64_t of_seed) {
-        size_t count = area(it, of_seed).count(), keys = size_t(it.sets) * it.keys, size = sizeof(area) + count * sizeof(slot) + 2 * keys;
+        const size_t count = area(it, of_seed).count(), size = sizeof(area) + count * sizeof(slot);
         void *place = mmap(nullptr, size, PROT_READ | PROT_WRITE, MAP_SHARED | MAP_ANONYMOUS, -1, 0);
         if (place == MAP_FAILED) throw no_verdict(NO_MEMORY);
         std::shared_ptr<area> found(new (place) area(it, of_seed), [size](area *old) { old->~area(), munmap(old, size); });
         found->slots = new (found.get() + 1) slot[count]();
-        found->opening = reinterpret_cast<bool *>(found->slots + count);
-        found->left = found->opening + keys;
         return found;
     }
 
@@ -244,13 +242,26 @@ struct area {
         const unsigned all = there++ / of.threads * of.threads + of.threads;
         waits([&] { return there >= all; });
     }
-
-    // Once a part has been read.
-    void go_on() {
-        for (size_t i = 0; i < count(); i++) slots[i].begin = slots[i].end = 0;
-        at = GOING;
-    }
 };
+
+inline std::string line_of(const slot &it, unsigned end) {
+    static const char *const words[] = {" add ", " remove ", " contains "};
+    std::string text = "call " + std::to_string(it.thread) + words[int(it.call)] + std::to_string(it.key) + " " + std::to_string(it.begin) + " ";
+    const bool is_open = end == 0 || it.answer == reply::unknown;
+    return text + (is_open ? "- -\n" : std::to_string(end) + (it.answer == reply::yes ? " true\n" : " false\n"));
+}
+
+// The lines of the calls of a part by their begins, and those of the calls under way.
+inline std::pair<std::string, std::string> lines_of(const area &from) {
+    std::map<unsigned, std::pair<const slot *, unsigned>> found;
+    for (size_t i = 0; i < from.count(); i++) {
+        const unsigned end = from.slots[i].end, begin = from.slots[i].begin;
+        if (begin > 0) found[begin] = {&from.slots[i], end};
+    }
+    std::string lines, under_way;
+    for (auto &[begin, it] : found) lines += line_of(*it.first, it.second), under_way += it.second == 0 ? line_of(*it.first, 0) : "";
+    return {lines, under_way};
+}
 
 template <class F> void tried(area &run, phase as, F call) {
     try {
@@ -269,9 +280,10 @@ template <class Make, class K> struct maker {
     const options how;
     const std::vector<K> keys;
     Make make;
+    std::ofstream file;
     std::atomic<set_type *> set{nullptr};
 
-    maker(const options &it, std::vector<K> of, Make by) : how(it), keys(std::move(of)), make(std::move(by)) {}
+    maker(const options &it, std::vector<K> of, Make by, const std::string &path) : how(it), keys(std::move(of)), make(std::move(by)), file(path) {}
 
     kind drawn(std::mt19937 &draw) const {
         const unsigned removes_too = removes<set_type, K> ? how.removes : 0, at = unsigned(draw()) % (how.adds + removes_too + how.finds);
@@ -312,26 +324,36 @@ template <class Make, class K> struct maker {
         if (how.ends) how.ends();
     }
 
-    void look_up(area &run, bool *there) {
-        for (const K &key : keys) *there++ = contains(*set, key) == reply::yes, run.tickets++;
+    // The lines of the keys that the set of a round has.
+    std::string lines_of_keys(area &run, const char *word, unsigned round) {
+        std::string lines;
+        for (unsigned key = 0; key < run.of.keys; key++, run.tickets++)
+            if (contains(*set, keys[key]) == reply::yes) lines += word + std::to_string(round / run.parts * run.of.keys + key) + "\n";
+        return lines;
     }
 
-    // Makes each set and has the threads call it; rests after each part until somebody has read it.
+    void write(area &run, const std::string &lines) {
+        if (!(file << lines << std::flush)) run.fail(UNMADE, "its recording cannot be written");
+        run.written += lines.size();
+        for (size_t i = 0; i < run.count(); i++) run.slots[i].begin = run.slots[i].end = 0;
+    }
+
+    // Makes each set and has the threads call it; writes each part once it is made.
     void lead(area &run) {
         pointer own{};
-        for (unsigned round = 0; round < run.rounds; round++) {
-            const size_t first = size_t(round / run.parts) * run.of.keys;
-            if (round > 0) run.at = RESTING;
-            if (!run.waits([&] { return run.at == GOING; })) return;
+        std::string left, lines = "listset-calls 1\n";
+        for (unsigned round = 0; round < run.rounds; round++, lines = "") {
             if (round % run.parts == 0) {
                 tried(run, UNMADE, [&] { set = nullptr, own = nullptr, own = make(), set = &*own; });
                 if (run.is_stopping) return;
-                if (how.opens_with_keys) look_up(run, run.opening + first);
+                write(run, lines + (how.opens_with_keys ? lines_of_keys(run, "opening ", round) : ""));
             }
             run.begun = round + 1;
             if (!run.waits([&] { return run.done == run.of.threads * (round + 1); })) return;
-            if ((round + 1) % run.parts == 0) look_up(run, run.left + first);
+            if ((round + 1) % run.parts == 0) left += lines_of_keys(run, "key ", round);
+            write(run, lines_of(run).first);
         }
+        write(run, left + "end\n");
     }
 
     // Calls sets, to the end.
@@ -419,13 +441,6 @@ struct here : caller {
     bool has_ended() override { return *is_over; }
     std::string trouble() override { return ""; }
 };
-
-// Waits until the part is made that goes on; gives how it went wrong, or nothing.
-inline std::string made_part(caller &by, const area &run, unsigned seconds) {
-    bool has_ended = false;
-    if (!comes_to_end(run, seconds, [&] { return run.at == RESTING || (has_ended = by.has_ended()); })) return say(HUNG, seconds);
-    return has_ended ? by.trouble() : "";
-}
 
 // ---- the judge
 
@@ -519,13 +534,11 @@ inline judgement judged(const judge_found &by, const std::string &file) {
 struct recording {
     const std::string path;
     bool is_kept;
-    std::ofstream file;
 
     recording(const options &how, uint64_t seed) : path(path_of(how.record, seed)), is_kept(!how.record.empty()) {
         std::error_code fault;
         if (is_kept) std::filesystem::create_directories(how.record, fault);
-        file.open(path);
-        check();
+        if (!std::ofstream(path)) throw no_verdict(say(NO_FOLDER, path.substr(0, path.rfind('/'))));
     }
     recording(const recording &) = delete;
     ~recording() {
@@ -538,60 +551,26 @@ struct recording {
         const char *temporary = std::getenv("TMPDIR");
         return (temporary ? temporary : "/tmp") + ("/listset-" + name) + "-" + std::to_string(getpid()) + "-" + std::to_string(++files) + ".calls";
     }
-    void check() const {
-        if (!file) throw no_verdict(say(NO_FOLDER, path.substr(0, path.rfind('/'))));
-    }
 };
 
-inline std::string line_of(const slot &it, unsigned end) {
-    static const char *const words[] = {" add ", " remove ", " contains "};
-    std::string text = "call " + std::to_string(it.thread) + words[int(it.call)] + std::to_string(it.key) + " " + std::to_string(it.begin) + " ";
-    const bool is_open = end == 0 || it.answer == reply::unknown;
-    return text + (is_open ? "- -\n" : std::to_string(end) + (it.answer == reply::yes ? " true\n" : " false\n"));
-}
-
-// The lines of the calls of a part by their begins, and those of the calls under way.
-inline std::pair<std::string, std::string> lines_of(const area &from) {
-    std::map<unsigned, std::pair<const slot *, unsigned>> found;
-    for (size_t i = 0; i < from.count(); i++) {
-        const unsigned end = from.slots[i].end, begin = from.slots[i].begin;
-        if (begin > 0) found[begin] = {&from.slots[i], end};
-    }
-    std::string lines, under_way;
-    for (auto &[begin, it] : found) lines += line_of(*it.first, it.second), under_way += it.second == 0 ? line_of(*it.first, 0) : "";
-    return {lines, under_way};
-}
-
-inline std::string lines_of_keys(const std::string &word, const bool *there, size_t keys) {
-    std::string text;
-    for (size_t key = 0; key < keys; key++)
-        if (there[key]) text += word + " " + std::to_string(key) + "\n";
-    return text;
-}
-
-// How a run came to no end, and the calls under way.
+// How a run was cut short, and the calls under way.
 struct trouble {
     std::string how, under_way;
 };
 
-// Records a run as it is made.
-inline trouble record(caller &by, area &run, recording &to, unsigned seconds) {
+// Waits until a run is made. If it is cut short, its last calls are written here.
+inline trouble watched(caller &by, const area &run, const std::string &path, unsigned seconds) {
     trouble found;
-    const size_t keys = size_t(run.of.sets) * run.of.keys;
-    for (unsigned round = 0; round < run.rounds && found.how.empty(); round++) {
-        if (round > 0) run.go_on();
-        found.how = made_part(by, run, seconds);
-        if (run.at == UNMADE) throw no_verdict(run.why);
-        if (run.at == FAILED) found.how = run.why;
-        if (!found.how.empty() && run.tickets == 0) throw no_verdict(say(NOT_MADE, found.how));
-        auto [lines, under_way] = lines_of(run);
-        to.file << (round > 0 ? "" : "listset-calls 1\n" + lines_of_keys("opening", run.opening, keys)) << lines;
-        found.under_way = under_way;
-    }
-    to.file << (found.how.empty() ? lines_of_keys("key", run.left, keys) + "end\n" : "cut\n");
-    to.file.close();
-    to.check();
-    return found;
+    if (!comes_to_end(run, seconds, [&] { return by.has_ended(); })) found.how = say(HUNG, seconds);
+    else found.how = by.trouble();
+    if (run.at == UNMADE) throw no_verdict(run.why);
+    if (run.at == FAILED) found.how = run.why;
+    if (found.how.empty()) return found;
+    if (run.tickets == 0) throw no_verdict(say(NOT_MADE, found.how));
+    auto [lines, under_way] = lines_of(run);
+    std::filesystem::resize_file(path, run.written);
+    std::ofstream(path, std::ios::app) << lines << "cut\n";
+    return {found.how, under_way};
 }
 
 // ---- a refusal, as it is told
@@ -741,12 +720,12 @@ template <class Make, class Key> struct tester {
 
     outcome judged_run(uint64_t seed, const shape &it) const {
         auto run = area::made(it, seed);
-        auto by_maker = std::make_shared<maker<Make, K>>(how, keys_of(it), make);
         recording text(how, seed);
+        auto by_maker = std::make_shared<maker<Make, K>>(how, keys_of(it), make, text.path);
         std::unique_ptr<caller> start;
         if (how.own_process && is_alone()) start = std::make_unique<child>(*by_maker, *run);
         else start = std::make_unique<here>(by_maker, run);
-        auto [trouble, under_way] = record(*start, *run, text, how.seconds);
+        auto [trouble, under_way] = watched(*start, *run, text.path, how.seconds);
         start.reset();
         auto [refused, overlapped] = judged(by, text.path);
         outcome found{seed, uint64_t(it.threads) * it.sets * it.calls, overlapped, it.name, "", text.path, refused};
