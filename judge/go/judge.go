@@ -375,14 +375,9 @@ func (t *tester) judgedRun(seed int64, s shape) (int, error) {
 		return 0, err
 	}
 	defer r.close()
-	t.area.begin(seed, s.size, t.caller)
-	for round := 1; round <= s.rounds() && r.trouble == ""; round++ {
-		if r.trouble, err = t.area.made(t.caller); err == nil {
-			err = r.write(t.area, round)
-		}
-		if err != nil {
-			return 0, err
-		}
+	trouble, err := t.area.made(seed, s.size, r.file.Name(), t.caller)
+	if err != nil {
+		return 0, err
 	}
-	return r.judged(t.by, t.area)
+	return r.judged(t.by, t.area, trouble)
 }

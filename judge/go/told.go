@@ -11,17 +11,14 @@ import (
 	"sort"
 	"strconv"
 	"strings"
-	"sync/atomic"
 )
 
-// recording is a run that is written into a file as it grows.
+// recording is the file into which a run is written as it grows.
 type recording struct {
-	seed     int64
-	name     string
-	file     *os.File
-	isKept   bool
-	trouble  string // how the run was cut short, and the calls under way, if it was
-	underWay string
+	seed   int64
+	name   string
+	file   *os.File
+	isKept bool
 }
 
 func newRecording(seed int64, name, record string) (*recording, error) {
@@ -40,62 +37,16 @@ func newRecording(seed int64, name, record string) (*recording, error) {
 	return r, nil
 }
 
-func (s *slot) line(end uint32) string {
-	words := []string{"add", "remove", "contains"}
-	if end == 0 || s.reply == unknown {
-		return fmt.Sprintf("call %d %s %d %d - -\n", s.thread, words[s.call], s.key, s.begin)
+// judged is how many calls overlapped a change of their key; the error says what is wrong with the run, which may have been cut short.
+func (r *recording) judged(by *judgeFound, a *area, trouble string) (int, error) {
+	underWay, lines := "", ""
+	if trouble != "" {
+		lines, underWay = a.lines()
+		r.file.Truncate(a.written)
+		r.file.WriteAt([]byte(lines+"cut\n"), a.written)
 	}
-	return fmt.Sprintf("call %d %s %d %d %d %t\n", s.thread, words[s.call], s.key, s.begin, end, s.reply == yes)
-}
-
-func linesOf(word string, there []byte) (lines string) {
-	for key, is := range there {
-		if is == 1 {
-			lines += fmt.Sprintf("%s %d\n", word, key)
-		}
-	}
-	return lines
-}
-
-// write writes the part of a run that was made, the last if there is trouble, and lets the run go on.
-func (r *recording) write(a *area, round int) error {
-	lines, begins := map[uint32]string{}, []uint32{}
-	for i := range a.slots[:a.threads*a.rows()] {
-		s := &a.slots[i]
-		end, begin := atomic.LoadUint32(&s.end), atomic.LoadUint32(&s.begin)
-		if begin > 0 {
-			lines[begin], begins = s.line(end), append(begins, begin)
-			if end == 0 {
-				r.underWay += s.line(0)
-			}
-		}
-	}
-	sort.Slice(begins, func(i, j int) bool { return begins[i] < begins[j] })
-	var text strings.Builder
-	if round == 1 {
-		text.WriteString("listset-calls 1\n" + linesOf("opening", a.opening))
-	}
-	for _, begin := range begins {
-		text.WriteString(lines[begin])
-	}
-	if r.trouble != "" {
-		text.WriteString("cut\n")
-	} else if round == a.rounds() {
-		text.WriteString(linesOf("key", a.left) + "end\n")
-	} else {
-		for i := range a.slots {
-			a.slots[i] = slot{}
-		}
-		atomic.StoreUint32(&a.at, going)
-	}
-	_, err := r.file.WriteString(text.String())
-	return err
-}
-
-// judged is how many calls overlapped a change of their key; the error says what is wrong with the run.
-func (r *recording) judged(by *judgeFound, a *area) (int, error) {
 	overlapped, refused, err := by.judged(r.file)
-	if err != nil || refused == "" && r.trouble == "" {
+	if err != nil || refused == "" && trouble == "" {
 		return overlapped, err
 	}
 	r.isKept = true
@@ -103,10 +54,10 @@ func (r *recording) judged(by *judgeFound, a *area) (int, error) {
 	if refused != "" {
 		failed.Said = refused.explained(r.file.Name()) + keyLine(a, refused.key())
 	}
-	if r.trouble == "" {
+	if trouble == "" {
 		return 0, &NotLinearizable{failed, refused}
 	}
-	failed.Said = fmt.Sprintf(sayUnderWay, r.trouble, r.underWay, failed.Said)
+	failed.Said = fmt.Sprintf(sayUnderWay, trouble, underWay, failed.Said)
 	return 0, &CutShort{failed}
 }
 
