@@ -13,7 +13,6 @@ crashes or hangs is judged up to there.
 from __future__ import annotations
 
 import collections
-import contextlib
 import ctypes
 import dataclasses
 import itertools
@@ -34,9 +33,10 @@ from typing import Any, Callable
 
 __all__ = ["CutShort", "Failed", "NoVerdict", "NotLinearizable", "TooFew", "Verdict", "judge"]
 
-GOING, RESTING, STOPPING, ENDED = range(4)
+GOING, ENDED, UNMADE = range(3)
 WORDS = ADD, REMOVE, CONTAINS = "add", "remove", "contains"
 NO, YES, UNKNOWN = range(3)
+FIRST_LINE = "listset-calls 1\n"
 OVERLAPPED = re.compile("ok [0-9]+ calls\n([0-9]+) of them")
 OF_KEY = re.compile("of key ([0-9]+) ")
 CALL = re.compile("call ([0-9]+) ([a-z]+) ([0-9]+) ([0-9]+) ([0-9]+|-) ([a-z]+|-)", re.M)
@@ -242,23 +242,17 @@ class Tester:
         self.make, self.how, self.by = make, how, Judge()
 
     def judged_run(self, seed: int, shape: Shape) -> Outcome:
-        run = Run(self.make, self.how, shape, seed)
         is_own = self.how.own_process and hasattr(os, "fork") and threading.active_count() == 1
+        self.how.check_keys(shape)
         with Recording(seed, self.how.record) as recording:
-            with contextlib.closing(run.in_child() if is_own else run.in_this()) as parts:
-                for trouble in parts:
-                    run.read(trouble)
-                    recording.to.write(run.text())
-                    if run.trouble:
-                        break
-            recording.to.close()
+            run = Run(self.make, self.how, shape, seed, recording.file)
+            trouble, under_way = run.ended(run.in_child() if is_own else run.in_this())
             overlapped, refused = self.by.judged(recording.file)
-            recording.is_kept |= bool(run.trouble or refused)
+            recording.is_kept |= bool(trouble or refused)
         said = explained(refused, recording.file) + run.key_line(refused) if refused else ""
         failed = NotLinearizable(seed, shape.name, said, recording.file, self.by) if refused else None
-        if run.trouble:
-            under_way = "".join(f"{line_of(it)}\n" for it in run.rows if not it.end and it.reply != UNKNOWN)
-            said = UNDER_WAY % (run.trouble, under_way, said or EXPLAINED)
+        if trouble:
+            said = UNDER_WAY % (trouble, under_way, said or EXPLAINED)
             refused, failed = "", CutShort(seed, shape.name, said, recording.file, self.by)
         return Outcome(seed, shape.threads * shape.sets * shape.calls, overlapped, refused, failed)
 
@@ -330,18 +324,19 @@ class Recording:
         try:
             folder.mkdir(parents=True, exist_ok=True)
             if self.is_kept:
-                self.to = open(folder / f"seed-{seed}.calls", "w")
+                self.file = folder / f"seed-{seed}.calls"
+                self.file.write_text("")
             else:
-                self.to = tempfile.NamedTemporaryFile("w", prefix=f"listset-seed-{seed}-", suffix=".calls", dir=folder, delete=False)
+                number, name = tempfile.mkstemp(".calls", f"listset-seed-{seed}-", folder)
+                os.close(number)
+                self.file = pathlib.Path(name)
         except OSError:
             raise NoVerdict(NO_FOLDER % folder) from None
-        self.file = pathlib.Path(self.to.name)
 
     def __enter__(self):
         return self
 
     def __exit__(self, *_):
-        self.to.close()
         if not self.is_kept:
             self.file.unlink()
 
@@ -350,22 +345,19 @@ class Recording:
 
 
 class Run:
-    """The calls of sets in parts, of which `rows` has the last by their begins. They are written down as the run goes, in memory that
-    a process of its own shares with this one."""
+    """The calls of sets. They are written down as the run goes, in memory that a process of its own shares with this one, and part by
+    part into the file."""
 
-    SLOT, COUNT = struct.Struct("=IIIIBB"), struct.Struct("=I")  # of a call: begin, end or 0, thread, key, word, reply; how far a thread is
+    SLOT, COUNT = struct.Struct("=IIIIBB"), struct.Struct("=Q")  # of a call: begin, end or 0, thread, key, word, reply; how far a thread is
     WHY = 240  # the bytes of what was raised
 
-    def __init__(self, make, how, shape, seed):
-        self.make, self.how, self.shape, self.seed = make, how, shape, seed
-        how.check_keys(shape)
+    def __init__(self, make, how, shape, seed, file):
+        self.make, self.how, self.shape, self.seed, self.file = make, how, shape, seed, file
         self.tickets, self.there = itertools.count(1), threading.Barrier(shape.threads + 1)
         self.most = min(shape.calls, PART // shape.threads)  # of each thread the most calls of a part
-        self.parts, self.round = -(-shape.calls // self.most), 0  # of a set; the round that was read last
-        # what was raised; whether it goes on; how far each thread is, and the looks; of each key of each set whether it was there at
-        # first, and at the end; the calls
-        self.at_keys = self.WHY + 1 + (shape.threads + 1) * self.COUNT.size
-        self.at_slots = self.at_keys + 2 * shape.keys * shape.sets
+        self.parts = -(-shape.calls // self.most)  # of a set
+        # what was raised; whether it goes on; how far each thread is, the looks, and the file; the calls
+        self.at_slots = self.WHY + 1 + (shape.threads + 2) * self.COUNT.size
         self.slots = mmap.mmap(-1, self.at_slots + shape.threads * self.most * self.SLOT.size)
 
     @property
@@ -375,11 +367,17 @@ class Run:
     def count(self, at, number):
         self.COUNT.pack_into(self.slots, self.WHY + 1 + at * self.COUNT.size, number)
 
-    def fail(self, said):
+    @property
+    def written(self):
+        """The bytes of the file."""
+        return self.COUNT.unpack_from(self.slots, self.at_slots - self.COUNT.size)[0]
+
+    def fail(self, said, at=GOING):
         """Writes down what was raised; the first stays."""
         if not self.slots[0]:
             said = said.encode()[: self.WHY]
             self.slots[: len(said)] = said
+            self.at = at
 
     @property
     def at(self):
@@ -405,10 +403,10 @@ class Run:
         finally:
             sys.setswitchinterval(before)
         self.set = self.replies_of = None  # (it may go wrong at its end)
-        self.at = ENDED
+        self.at = self.at or ENDED
 
     def in_child(self):
-        """Has the run made in a process of its own; gives, of each part in turn, how it came to no end, if it did not."""
+        """Has the run made in a process of its own; gives how it was cut short, if it was."""
         child, status = os.fork(), []
         if child == 0:
             try:
@@ -422,8 +420,7 @@ class Run:
             return status.append(found) or True if pid else False
 
         try:
-            for trouble in self.made(has_ended):
-                yield trouble or self.crash(status)
+            return self.hung(has_ended) or self.crash(status)
         finally:
             if not status:
                 os.kill(child, signal.SIGKILL)
@@ -434,17 +431,27 @@ class Run:
         caller = threading.Thread(target=self.made_and_called, daemon=True)
         caller.start()
         try:
-            yield from self.made(lambda: not caller.is_alive())
+            return self.hung(lambda: not caller.is_alive())
         finally:
-            self.at = STOPPING
+            self.there.abort()
 
-    def made(self, has_ended):
-        """Lets the parts be made; gives, of each in turn, whether it hung."""
-        for one in range(self.rounds):
-            if one:
-                self.slots[self.at_slots :] = bytes(len(self.slots) - self.at_slots)
-                self.at = GOING
-            yield "" if self.comes_to_end(lambda: self.at == RESTING or has_ended()) else HUNG % self.how.seconds
+    def hung(self, has_ended):
+        return "" if self.comes_to_end(has_ended) else HUNG % self.how.seconds
+
+    def ended(self, trouble):
+        """How the run was cut short, and the calls under way, if it was: then its last calls are written here."""
+        why = self.slots[: self.WHY].rstrip(b"\0").decode(errors="replace")
+        if self.at == UNMADE:
+            raise NoVerdict(why)
+        rows, trouble = self.rows(), why or trouble
+        if not trouble:
+            return "", ""
+        if not rows and not why and self.written <= len(FIRST_LINE):
+            raise NoVerdict(NOT_MADE % trouble)
+        os.truncate(self.file, self.written)
+        with open(self.file, "a") as file:
+            file.write("".join(map(line_of, rows)) + "cut\n")
+        return trouble, "".join(line_of(it) for it in rows if not it.end and it.reply != UNKNOWN)
 
     def crash(self, status):
         """How the process of the run ended, if it was too soon or went wrong."""
@@ -453,7 +460,7 @@ class Run:
         if os.WIFSIGNALED(status[0]):
             return CRASHED % signal.Signals(os.WTERMSIG(status[0])).name
         ended = os.WEXITSTATUS(status[0])  # (not 0 if the set ended its process while it was deleted)
-        return ENDED_SO % ended if ended or self.at != ENDED else ""
+        return ENDED_SO % ended if ended or self.at == GOING and not self.slots[0] else ""
 
     def comes_to_end(self, is_done):
         """Waits until it is done; False if no call begins or ends for too long before that."""
@@ -469,28 +476,42 @@ class Run:
 
     def moved(self):
         """What changes as long as the run goes on."""
-        return self.slots[self.WHY : self.at_keys]
+        return self.slots[self.WHY : self.at_slots]
 
     def lead(self):
-        """Makes each set and has the threads call it; rests after each part until it has been read."""
-        keys = self.shape.keys
+        """Makes each set and has the threads call it; writes each part once it is made."""
+        left = []
         try:
-            for one in range(self.rounds):
-                if one and not self.goes_on():
-                    return
-                of_set = self.at_keys + one // self.parts * keys
-                if one % self.parts == 0:
-                    self.make_set()
-                    if self.how.opens_with_keys:
-                        self.look_up(of_set)
-                self.there.wait()  # none begins before all are there
-                self.there.wait()
-                if (one + 1) % self.parts == 0:
-                    self.look_up(of_set + self.shape.sets * keys)
+            with open(self.file, "wb", 0) as file:
+                self.write(file, [FIRST_LINE])
+                for one in range(self.rounds):
+                    if one % self.parts == 0:
+                        self.make_set()
+                        if self.how.opens_with_keys:
+                            self.write(file, self.lines_of_keys("opening", one))
+                    self.there.wait()  # none begins before all are there
+                    self.there.wait()
+                    if (one + 1) % self.parts == 0:
+                        left += self.lines_of_keys("key", one)
+                    rows = self.rows()
+                    self.check_replies(rows)
+                    self.write(file, map(line_of, rows))
+                self.write(file, [*left, "end\n"])
         except threading.BrokenBarrierError:
             pass
         finally:
             self.there.abort()
+
+    def write(self, file, lines):
+        text = "".join(lines).encode()
+        file.write(text)
+        self.count(self.shape.threads + 1, self.written + len(text))
+        self.slots[self.at_slots :] = bytes(len(self.slots) - self.at_slots)
+
+    def check_replies(self, rows):
+        for word in (ADD, REMOVE):
+            if {it.reply for it in rows if it.call == word and (it.end or it.reply == UNKNOWN)} == {UNKNOWN}:
+                self.fail(f"each {word} answered None, and has to answer True or False", UNMADE)
 
     def make_set(self):
         self.set = self.replies_of = None
@@ -498,19 +519,17 @@ class Run:
             made = self.set = self.make()
             self.replies_of = made.add, made.remove, made.contains if hasattr(made, CONTAINS) else made.__contains__
         except Exception as why:
-            self.fail(NOT_MADE % why)
+            self.fail(NOT_MADE % why, UNMADE)
             raise
 
-    def goes_on(self):
-        self.at = RESTING
-        while self.at == RESTING:
-            time.sleep(0.0005)
-        return self.at == GOING
-
-    def look_up(self, to):
+    def lines_of_keys(self, word, one):
+        """Those of the keys that the set of a round has."""
+        first, lines = one // self.parts * self.shape.keys, []
         for number in range(self.shape.keys):
-            self.slots[to + number] = bool(self.replies_of[2](self.how.key_of(number, self.shape)))
-            self.count(self.shape.threads, to + number)
+            if self.replies_of[2](self.how.key_of(number, self.shape)):
+                lines.append(f"{word} {first + number}\n")
+            self.count(self.shape.threads, first + number)
+        return lines
 
     def call_in_rounds(self, thread):
         """The calls of one thread."""
@@ -550,34 +569,14 @@ class Run:
                 sys.settrace(before)
         return number
 
-    def read(self, trouble):
-        """Takes in what was written down."""
-        why = self.slots[: self.WHY].rstrip(b"\0").decode(errors="replace")
-        self.trouble, self.rows, self.round = why or trouble, [], self.round + 1
-        if self.trouble and not why.startswith(THREW % "") and not self.slots[self.at_slots]:
-            raise NoVerdict(why if why.startswith(NOT_MADE % "") else NOT_MADE % self.trouble)
+    def rows(self):
+        """The calls since those in the file, by their begins."""
+        rows = []
         for at in range(self.shape.threads * self.most):
             begin, end, thread, key, word, reply = self.SLOT.unpack_from(self.slots, self.at_slots + at * self.SLOT.size)
             if begin:
-                self.rows.append(Call(begin, 0 if reply == UNKNOWN else end, thread, WORDS[word], key, reply))
-        self.rows.sort()
-        for word in (ADD, REMOVE):
-            replies = {it.reply for it in self.rows if it.call == word and (it.end or it.reply == UNKNOWN)}
-            if replies == {UNKNOWN}:
-                raise NoVerdict(f"each {word} answered None, and has to answer True or False")
-
-    def text(self):
-        """What the recording has of this part."""
-        first, last = self.round == 1, self.trouble or self.round == self.rounds
-        lines = ["listset-calls 1", *self.lines_of_keys("opening", 0)] if first else []
-        lines += map(line_of, self.rows)
-        if last:
-            lines += ["cut"] if self.trouble else [*self.lines_of_keys("key", 1), "end"]
-        return "".join(f"{it}\n" for it in lines)
-
-    def lines_of_keys(self, word, is_left):
-        keys = self.shape.keys * self.shape.sets
-        return (f"{word} {key}" for key in range(keys) if self.slots[self.at_keys + is_left * keys + key])
+                rows.append(Call(begin, 0 if reply == UNKNOWN else end, thread, WORDS[word], key, reply))
+        return sorted(rows)
 
     def key_line(self, refused):
         """Which key of which set it is that the judge names, if its number does not say so."""
@@ -594,7 +593,7 @@ def end_with_parent():
 
 
 def line_of(it):
-    return f"call {it.thread} {it.call} {it.key} {it.begin} {f'{it.end} {str(it.reply == YES).lower()}' if it.end else '- -'}"
+    return f"call {it.thread} {it.call} {it.key} {it.begin} {f'{it.end} {str(it.reply == YES).lower()}' if it.end else '- -'}\n"
 
 
 def pausing(pauses, draw, before):
