@@ -74,7 +74,7 @@ def wheel(packed_files, version, tag, about):
     told = {
         "METADATA": f"{head}License: {NO_LICENCE}\nRequires-Python: >=3.9\n\n{about}.\n",
         "WHEEL": f"Wheel-Version: 1.0\nGenerator: build/release\nRoot-Is-Purelib: false\nTag: {tag}\n",
-        "top_level.txt": "listset\nlistset_judge\n",
+        "top_level.txt": "".join(f"{it}\n" for it in sorted({pathlib.PurePath(name).parts[0].removesuffix(".py") for name in packed_files})),
     }
     packed_files = {**packed_files, **{f"{info}/{name}": text.encode() for name, text in told.items()}}
     lines = [f"{name},sha256={sum_in_wheel(content)},{len(content)}\n" for name, content in packed_files.items()]

@@ -23,10 +23,10 @@
        listset_seat seat = LISTSET_NONE;
        listset_fault fault = listset_open(LISTSET_LAZY, 4, 1000, 1, &none, 0, &seat);
        if (fault != LISTSET_OK) puts(listset_fault_text(fault));
-       if (listset_add(&seat, 7) == LISTSET_TRUE) ..
+       if (listset_add(&seat, 7).is == LISTSET_TRUE) ..
 
-   Compare a reply with LISTSET_TRUE: LISTSET_FULL and LISTSET_NO_SEAT are not 0 either. gcc and clang warn (-Wextra) if a reply is taken
-   for a fault, or is not looked at.
+   What a reply `is` is compared with LISTSET_TRUE: LISTSET_FULL and LISTSET_NO_SEAT are not 0 either, so that a reply by itself is no
+   condition: it does not compile. gcc and clang warn (-Wextra) if a reply or a fault is not looked at.
    What is refused, with LISTSET_NO_SEAT or a fault, changes nothing: an empty seat where a full one is wanted, a full one where an
    empty one is, a gather of two lists or two numbers, a close while seats are out, sizes and keys outside their limits, and want of
    memory.
@@ -129,14 +129,18 @@ typedef struct {
 /* the lists */
 typedef enum LISTSET_BYTE listset_list { LISTSET_COARSE, LISTSET_FINE, LISTSET_OPTIMISTIC, LISTSET_LAZY, LISTSET_LOCK_FREE } listset_list;
 
-/* What a call of a set answers. */
-typedef enum LISTSET_BYTE listset_reply {
+typedef enum LISTSET_BYTE listset_answer {
   LISTSET_FALSE = 0,
   LISTSET_TRUE = 1,
   LISTSET_FULL = 2,     /* add: the key is not there, and the seat has used its quota */
   LISTSET_AT = 3,       /* ceiling: the key is in *at */
   LISTSET_NOTHING = 4,  /* ceiling: there is no key at or above this one */
   LISTSET_NO_SEAT = 255 /* the seat is empty, or of a closed set; or the call has given up after 2^64 - 1 rounds, and the seat is lost */
+} listset_answer;
+
+/* What a call of a set answers. A struct, so that a reply is taken neither for a truth value nor for a fault: `reply.is == LISTSET_TRUE`. */
+typedef struct listset_reply {
+  listset_answer is;
 } listset_reply;
 
 /* Why something is refused. */

@@ -148,9 +148,9 @@ private:
     if (code != LISTSET_OK) throw fault(code);
   }
 
-  static listset_reply replied(listset_reply reply) {
-    if (reply == LISTSET_NO_SEAT) throw fault(LISTSET_NONE_THERE);
-    return reply;
+  static listset_answer replied(listset_reply reply) {
+    if (reply.is == LISTSET_NO_SEAT) throw fault(LISTSET_NONE_THERE);
+    return reply.is;
   }
 
   friend seat open(list, uint32_t, uint32_t, const std::vector<uint32_t> &);

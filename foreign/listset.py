@@ -101,6 +101,16 @@ def judge_text(recording):
     return _asked("judge", recording)
 
 
+def judge_file(path):
+    """What the program says of the recording in a file, of any length, and its exit status."""
+    room, status = ctypes.create_string_buffer(8192), ctypes.c_uint8()
+    function = _LIBRARY.listset_judge_from
+    function.restype = ctypes.c_size_t
+    with open(path, "rb") as file:
+        length = function(ctypes.c_int32(file.fileno()), room, ctypes.c_size_t(len(room)), ctypes.byref(status))
+    return room.raw[:length].decode(errors="replace"), status.value
+
+
 def check(report):
     """Raises `Wrong` where the order of a report does not explain its calls, or where the text is none."""
     _asked("check", report)

@@ -88,6 +88,19 @@ def installed(room, lacking):
     return InstalledLibraries(room)
 
 
+WRONG_USES = ["if (listset_add(&seat, 7)) return 1;", "listset_fault fault = listset_add(&seat, 7); return fault;",
+              "listset_reply reply = listset_close(&seat); return reply.is;"]  # fmt: skip
+
+
+@needs("gcc")
+@pytest.mark.parametrize("wrong", WRONG_USES)
+def test_a_reply_is_no_condition_and_no_fault(wrong):
+    program = "#include <listset.h>\nint main(void) { listset_seat seat = LISTSET_NONE; %s return listset_add(&seat, 7).is == LISTSET_TRUE; }\n"
+    words = ["gcc", "-std=c99", "-fsyntax-only", f"-I{FOREIGN}", "-x", "c", "-"]
+    well(*words, text=program % "")
+    assert ran(*words, text=program % wrong).returncode > 0
+
+
 @needs("gcc")
 def test_words(installed, program):
     """A program in C has the bytes and statuses of the program on the words of same_output, by each library."""

@@ -14,23 +14,21 @@ import pytest
 from harness.programs import QUICK_CARGO, TOP, ran, well
 
 FORMS = TOP / "judge"
-SECONDS = 120  # for each run of a set's judge
+SECONDS = 300  # for each run of a set's judge, on a machine that does much else
 # What is no judge, and what a form has to say then: `{}` is its path.
 NO_VERDICT = "{} gave no verdict, but said: %s. Take a newer listset"
+NO_JUDGE = "{} cannot be run: build listset, and put it in PATH or name it by LISTSET"
 NO_JUDGES = {
-    "missing": ("", "LISTSET names {}, which cannot be run: build listset, and name it there"),
+    "missing": ("", NO_JUDGE),
     "old": ("#!/bin/sh\necho 'error: unrecognized subcommand' >&2\nexit 2\n", NO_VERDICT % "error: unrecognized subcommand"),
-    "no script": ("#!/no/such/shell\n", "LISTSET names {}, which cannot be run: build listset, and name it there"),
+    "no script": ("#!/no/such/shell\n", NO_JUDGE),
     "silent": ("#!/bin/sh\nexit 0\n", NO_VERDICT % "nothing"),
     "before overlaps": ("#!/bin/sh\necho ok 9 calls\n", NO_VERDICT % "ok 9 calls"),
     "ok that fails": ("#!/bin/sh\necho ok 9 calls; echo 3 of them overlap\nexit 1\n", NO_VERDICT % "ok 9 calls"),
     "refusal that passes": ("#!/bin/sh\necho not linearizable\n", NO_VERDICT % "not linearizable"),
     "ok that is killed": ("#!/bin/sh\necho ok 9 calls; echo 3 of them overlap\nkill -9 $$\n", NO_VERDICT % "ok 9 calls"),
 }
-JUDGES_NOT_IN_PATH = [
-    (None, "there is no listset in PATH: build it, and put it there or name it by LISTSET"),
-    ("/no/such/listset.js", "node is not in PATH, which runs the /no/such/listset.js that LISTSET names"),
-]
+JUDGES_NOT_IN_PATH = [None, "/no/such/listset.js"]
 
 
 # ---- of each language what builds its sets, once for all, and the words that judge one of them
@@ -174,7 +172,7 @@ def test_runs_that_do_not_meet(form, program):
 
 
 STOPS = {
-    "hangs": ("seconds=1", "the set hung: no call began or ended for 1 s"), "exits": ("", "the set ended its process with the status 3"),
+    "hangs": ("seconds=3", "the set hung: no call began or ended for 3 s"), "exits": ("", "the set ended its process with the status 3"),
     "crashes": ("", "the set "), "throws": ("", "a call of the set failed: .*no memory"), "crashes late": ("threads=4 calls=15000 pauses=0", "the set "),
 }  # fmt: skip
 
@@ -184,7 +182,7 @@ STOPS = {
 def test_what_stops_is_judged_up_to_there(form, program, of):
     how, due = STOPS[of]
     kind, said = form.told(program, of, f"threads=4 calls=1000 keys=4 {how}")
-    assert kind == "not ended" and re.search(rf": {due}.*\nunder way:\n(call .* - -\n)*up to there: some order explains the calls\n", said), said
+    assert kind == "cut short" and re.search(rf": {due}.*\nunder way:\n(call .* - -\n)*up to there: some order explains the calls\n", said), said
     recorded, (under_way,) = form.recorded(said), re.findall("under way:\n((?:call .* - -\n)*)", said)
     assert recorded.endswith("\ncut\n") and recorded.count(" - -\n") == under_way.count("\n")
     assert recorded.count("\n") > 20_000 or of != "crashes late"
@@ -219,7 +217,6 @@ def test_a_seed_gives_the_same_calls_again(form, program):
 
 REFUSES = """#!/bin/sh
 case $1 in judge) ;; *) exit 0 ;; esac
-cat > /dev/null
 mkdir "$0 was asked" 2> /dev/null && count=%d || count=%d
 echo not linearizable; echo no order explains the calls of key 1 up to moment 9
 for i in $(seq $count); do echo call $i add 1 $i $((i + 20)) true; done
@@ -257,8 +254,9 @@ def test_the_smallest_refusal_of_further_runs_is_told(form):
 # ---- the judge underneath
 
 
-# The program, but for how many calls of a recording overlap
+# The program, but for how many calls of a recording overlap; it speaks on standard error too, as ./listset does of a program without proof
 OVERLAPS_ALL = """#!/bin/sh
+echo 'listset: without a proof' >&2
 '%s' "$@" | sed 's/^[0-9]* of them /900 of them /'
 """
 
@@ -273,9 +271,9 @@ def test_the_verdict_names_its_judge_and_counts_the_calls_that_overlap(form, pro
 
 @each(LANGUAGES)
 def test_a_judge_that_is_not_in_path_is_named(form):
-    for judge, due in JUDGES_NOT_IN_PATH:
+    for judge in JUDGES_NOT_IN_PATH:
         kind, said = form.told(judge, "right", FEW, PATH=str(form.room / "empty"))
-        assert kind == "none" and due in said
+        assert kind == "none" and NO_JUDGE.format(judge or "listset") in said
 
 
 @each(LANGUAGES)
@@ -300,7 +298,7 @@ NO_RUNS = {
     "threads=65": "threads is 65, and has to be 1 to 64", "threads=2 calls=500000001": "threads times calls is 1000000002, and has to be 1 to 1000000000",
     "keys=1048577": "keys is 1048577, and has to be 1 to 1048576", "pauses=101": "pauses is 101, and has to be 0 to 100",
     "runs=0": "runs is 0, and has to be 1 to 1000000", "seconds=3601": "seconds is 3601, and has to be 1 to 3600",
-    "at_least=101": "at_least is 101, and has to be 0 to 100", "adds=0 removes=0 finds=0": ", and has to be 1 to 1000",
+    "at_least=101": "at_least is 101, and has to be 0 to 100", "adds=0 removes=0 finds=0": "the sum of shares is 0, and has to be 1 to 1000000",
     "record=/dev/null/x": "no file can be written in /dev/null/x: name another folder by record",
 }  # fmt: skip
 

@@ -33,7 +33,8 @@ try:
 except listset.Wrong as wrong:
     print(wrong.text.strip(), wrong.status)
 """
-TEST_WITH_WHEEL = """import listset_judge, threading
+TEST_WITH_WHEEL = """import listset_judge, listset_servers, sys, threading
+assert listset_servers.Listset(int(sys.argv[1])).add(7) is True
 class MySet(set):
     lock = threading.Lock()
     def add(self, key):
@@ -222,7 +223,10 @@ def test_the_wheel_is_installed(release, program, room):
     well(sys.executable, "-m", "pip", "install", "--no-index", "--no-deps", "--quiet", "--target", top, file, env=WITHOUT_RATTLE)
     how = {"env": {**WITHOUT_RATTLE, "PYTHONPATH": str(top)}}
     assert well(sys.executable, "-B", "-c", PROGRAM_WITH_WHEEL, SCHEDULES / "snip.broken.report", **how) == told_of_broken(program)
-    said, proved = well(sys.executable, "-B", "-c", TEST_WITH_WHEEL, **how), version_stamp.told(proof_of(program)).splitlines()[3]
+    serve = [program, "serve", "lazy", "1", "10", "0", "1"]
+    with subprocess.Popen(serve, stdin=subprocess.DEVNULL, stdout=subprocess.PIPE, text=True) as server:  # (which ends with its one session)
+        said = well(sys.executable, "-B", "-c", TEST_WITH_WHEEL, server.stdout.readline().strip().rpartition(":")[2], **how)
+    proved = version_stamp.told(proof_of(program)).splitlines()[3]
     assert said.startswith("ok: ") and said.endswith(f"; judge: liblistset, {proved}\n")
 
 

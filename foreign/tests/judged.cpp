@@ -14,7 +14,7 @@ template <listset::list KIND> struct Shared {
 
 template <listset::list KIND> static bool is_right() {
   listset::options how;
-  how.runs = 6;  // one of each preset
+  how.runs = 7;  // one of each preset
   listset::verdict verdict = listset::judge<Shared<KIND>>(how);
   std::cout << verdict << "\n";
   std::string version(listset::version()), proof = version.substr(version.find("\nproof ") + 1);

@@ -39,10 +39,10 @@ static void expect(const char *what, size_t found, size_t due) {
 static void calls_without_a_seat(const char *what, listset_seat *none) {
   uint32_t at = UNTOUCHED, room[4] = {UNTOUCHED};
   listset_seat out = LISTSET_NONE;
-  expect(what, listset_add(none, 1), LISTSET_NO_SEAT);
-  expect(what, listset_remove(none, 1), LISTSET_NO_SEAT);
-  expect(what, listset_contains(none, 1), LISTSET_NO_SEAT);
-  expect(what, listset_ceiling(none, 1, &at), LISTSET_NO_SEAT);
+  expect(what, listset_add(none, 1).is, LISTSET_NO_SEAT);
+  expect(what, listset_remove(none, 1).is, LISTSET_NO_SEAT);
+  expect(what, listset_contains(none, 1).is, LISTSET_NO_SEAT);
+  expect(what, listset_ceiling(none, 1, &at).is, LISTSET_NO_SEAT);
   expect(what, at, UNTOUCHED);
   expect(what, listset_split(none, &out), none->full ? LISTSET_NO_MORE : LISTSET_NONE_THERE);
   expect(what, out.full, false);
@@ -71,25 +71,25 @@ static void refused_calls(uint8_t kind) {
   expect("split", listset_split(&a, &b), LISTSET_OK);
   expect("none is left", listset_split(&a, &c), LISTSET_NO_MORE);
   expect("a seat is out", listset_close(&a), LISTSET_SEATS_OUT);
-  expect("the set goes on", listset_contains(&a, 7), LISTSET_TRUE);
-  expect("add", listset_add(&b, 100), LISTSET_TRUE);
-  expect("add again", listset_add(&a, 100), LISTSET_FALSE);
-  expect("add more", listset_add(&b, 101), LISTSET_TRUE);
-  expect("past the quota", listset_add(&b, 102), LISTSET_FULL);
-  expect("ceiling", listset_ceiling(&b, 64, &at), LISTSET_AT);
+  expect("the set goes on", listset_contains(&a, 7).is, LISTSET_TRUE);
+  expect("add", listset_add(&b, 100).is, LISTSET_TRUE);
+  expect("add again", listset_add(&a, 100).is, LISTSET_FALSE);
+  expect("add more", listset_add(&b, 101).is, LISTSET_TRUE);
+  expect("past the quota", listset_add(&b, 102).is, LISTSET_FULL);
+  expect("ceiling", listset_ceiling(&b, 64, &at).is, LISTSET_AT);
   expect("of 64", at, 100);
-  expect("no ceiling", listset_ceiling(&b, 102, &at), LISTSET_NOTHING);
+  expect("no ceiling", listset_ceiling(&b, 102, &at).is, LISTSET_NOTHING);
   expect("it writes nothing", at, 100);
   expect("gather a seat of another set", listset_gather(&a, &other), LISTSET_NO_GATHER);
-  expect("the one goes on", listset_contains(&a, 63), LISTSET_TRUE);
-  expect("the other goes on", listset_contains(&other, 63), LISTSET_FALSE);
+  expect("the one goes on", listset_contains(&a, 63).is, LISTSET_TRUE);
+  expect("the other goes on", listset_contains(&other, 63).is, LISTSET_FALSE);
   expect("gather none", listset_gather(&a, &c), LISTSET_NONE_THERE);
   expect("gather into none", listset_gather(&c, &b), LISTSET_NONE_THERE);
   expect("keys of a running set", listset_keys(&a, room, 8), SIZE_MAX);
   expect("gather", listset_gather(&a, &b), LISTSET_OK);
   expect("what was gathered is not split off", listset_split(&a, &b), LISTSET_NO_MORE);
   calls_without_a_seat("a gathered seat", &b);
-  expect("remove", listset_remove(&a, 7), LISTSET_TRUE);
+  expect("remove", listset_remove(&a, 7).is, LISTSET_TRUE);
   expect("close", listset_close(&a), LISTSET_OK);
   calls_without_a_seat("a closed set", &a);
   expect("gather a closed set", listset_gather(&other, &a), LISTSET_NO_GATHER);
@@ -118,13 +118,13 @@ static void calls_without_memory(uint8_t kind) {
   expect("open for two", listset_open(kind, 2, 2, 1, KEYS, 3, &a), LISTSET_OK);
   expect("split one of two", listset_split(&a, &b), LISTSET_OK);
   asked_before = asked;
-  expect_unasked("add by one", listset_add(&a, 100), LISTSET_TRUE);
-  expect_unasked("add by the other", listset_add(&b, 100), LISTSET_FALSE);
-  expect_unasked("contains", listset_contains(&b, 100), LISTSET_TRUE);
-  expect_unasked("ceiling", listset_ceiling(&b, 64, &at), LISTSET_AT);
-  expect_unasked("remove", listset_remove(&b, 100), LISTSET_TRUE);
+  expect_unasked("add by one", listset_add(&a, 100).is, LISTSET_TRUE);
+  expect_unasked("add by the other", listset_add(&b, 100).is, LISTSET_FALSE);
+  expect_unasked("contains", listset_contains(&b, 100).is, LISTSET_TRUE);
+  expect_unasked("ceiling", listset_ceiling(&b, 64, &at).is, LISTSET_AT);
+  expect_unasked("remove", listset_remove(&b, 100).is, LISTSET_TRUE);
   expect_unasked("gather", listset_gather(&a, &b), LISTSET_OK);
-  expect_unasked("add once gathered", listset_add(&a, 9), LISTSET_TRUE);
+  expect_unasked("add once gathered", listset_add(&a, 9).is, LISTSET_TRUE);
   listset_drop(&a);
 }
 
@@ -164,11 +164,11 @@ static void most_keys(uint8_t kind) {
   uint32_t at = 0;
   static uint32_t room[MOST_KEYS];
   expect("open with the most keys", listset_open(kind, 1, 1, 1, many, MOST_KEYS, &seat), LISTSET_OK);
-  expect("remove the last", listset_remove(&seat, many[MOST_KEYS - 1]), LISTSET_TRUE);
-  expect("it is away", listset_contains(&seat, many[MOST_KEYS - 1]), LISTSET_FALSE);
-  expect("no ceiling of it", listset_ceiling(&seat, many[MOST_KEYS - 1], &at), LISTSET_NOTHING);
-  expect("add the greatest", listset_add(&seat, UINT32_MAX), LISTSET_TRUE);
-  expect("ceiling", listset_ceiling(&seat, many[MOST_KEYS - 1], &at), LISTSET_AT);
+  expect("remove the last", listset_remove(&seat, many[MOST_KEYS - 1]).is, LISTSET_TRUE);
+  expect("it is away", listset_contains(&seat, many[MOST_KEYS - 1]).is, LISTSET_FALSE);
+  expect("no ceiling of it", listset_ceiling(&seat, many[MOST_KEYS - 1], &at).is, LISTSET_NOTHING);
+  expect("add the greatest", listset_add(&seat, UINT32_MAX).is, LISTSET_TRUE);
+  expect("ceiling", listset_ceiling(&seat, many[MOST_KEYS - 1], &at).is, LISTSET_AT);
   expect("the greatest", at, UINT32_MAX);
   expect("close with the most keys", listset_close(&seat), LISTSET_OK);
   expect("the most keys", listset_keys(&seat, room, MOST_KEYS), MOST_KEYS);
@@ -194,12 +194,12 @@ static void one_life(uint8_t kind, size_t refused) {
     expect("nothing is split off", b.full, false);
     expect("it is split off later", listset_split(&a, &b), LISTSET_OK);
   }
-  expect("add", listset_add(&a, 5), LISTSET_TRUE);
+  expect("add", listset_add(&a, 5).is, LISTSET_TRUE);
   expect("gather", listset_gather(&a, &b), LISTSET_OK);
   fault = listset_close(&a);
   if (fault != LISTSET_OK) {
     expect("close tells", fault, LISTSET_OUT_OF_MEMORY);
-    expect("the set goes on", listset_contains(&a, 5), LISTSET_TRUE);
+    expect("the set goes on", listset_contains(&a, 5).is, LISTSET_TRUE);
     expect("it is closed later", listset_close(&a), LISTSET_OK);
   }
   expect("keys", listset_keys(&a, room, 8), 4);

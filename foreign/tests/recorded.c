@@ -25,13 +25,13 @@ static call all[THREADS * CALLS];
 static char text[THREADS * CALLS * LINE];
 
 static void *run(void *given) {
-  static uint8_t (*const FUNCTIONS[])(listset_seat *, uint32_t) = {listset_add, listset_remove, listset_contains};
+  static listset_reply (*const FUNCTIONS[])(listset_seat *, uint32_t) = {listset_add, listset_remove, listset_contains};
   task *it = given;
   unsigned long drawn = 88172645463325252ul + it->number;
   for (call *made = it->calls; made < it->calls + CALLS; made++) {
     drawn = drawn * 6364136223846793005ul + 1442695040888963407ul;
     *made = (call){.thread = it->number, .kind = (drawn >> 40) % 3, .key = (drawn >> 50) % KEYS, .begin = ++tickets};
-    made->reply = FUNCTIONS[made->kind](&it->seat, made->key);
+    made->reply = FUNCTIONS[made->kind](&it->seat, made->key).is;
     made->end = ++tickets;
   }
   return NULL;

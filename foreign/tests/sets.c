@@ -33,10 +33,10 @@ static uint64_t draw(uint64_t *drawn) {
 
 static void call_shared(task *it, uint32_t kind, uint32_t key) {
   uint32_t at;
-  uint8_t reply = kind == 0   ? listset_add(&it->seat, key)
-                  : kind == 1 ? listset_remove(&it->seat, key)
-                  : kind == 2 ? listset_contains(&it->seat, key)
-                              : listset_ceiling(&it->seat, key, &at);
+  uint8_t reply = kind == 0   ? listset_add(&it->seat, key).is
+                  : kind == 1 ? listset_remove(&it->seat, key).is
+                  : kind == 2 ? listset_contains(&it->seat, key).is
+                              : listset_ceiling(&it->seat, key, &at).is;
   if (kind < 2 && reply == LISTSET_TRUE) net[key] += kind == 0 ? 1 : -1;
   it->adds += kind == 0 && reply == LISTSET_TRUE;
   bool may = kind == 3   ? (reply == LISTSET_AT && at >= key) || reply == LISTSET_NOTHING
@@ -53,16 +53,16 @@ static void call_own(task *it, uint32_t kind, uint32_t k) {
   switch (kind) {
   case 0:
     want = it->own[k] ? LISTSET_FALSE : it->adds < QUOTA ? LISTSET_TRUE : LISTSET_FULL;
-    wrong += listset_add(&it->seat, base + k) != want;
+    wrong += listset_add(&it->seat, base + k).is != want;
     if (want == LISTSET_TRUE) it->own[k] = true, it->adds++;
     break;
   case 1:
-    wrong += listset_remove(&it->seat, base + k) != it->own[k];
+    wrong += listset_remove(&it->seat, base + k).is != it->own[k];
     it->own[k] = false;
     break;
-  case 2: wrong += listset_contains(&it->seat, base + k) != it->own[k]; break;
+  case 2: wrong += listset_contains(&it->seat, base + k).is != it->own[k]; break;
   default:
-    want = listset_ceiling(&it->seat, base + k, &at);
+    want = listset_ceiling(&it->seat, base + k, &at).is;
     wrong += next < OWN ? want != LISTSET_AT || at != base + next : !(want == LISTSET_NOTHING || (want == LISTSET_AT && at >= base + OWN));
   }
 }

@@ -33,10 +33,8 @@
 #include <string>
 #include <system_error>
 #include <thread>
-#include <typeinfo>
 #include <utility>
 #include <vector>
-#include <cxxabi.h>
 #include <dirent.h>
 #include <sys/mman.h>
 #include <sys/wait.h>
@@ -102,7 +100,7 @@ struct range {
 
 // made of words.json by judge/make_words: `longest` in looks at the counter, `part` in calls, `patience` in seconds
 constexpr shape PRESETS[] = {{"few keys", 4, 1, 2500, 4, 1}, {"fresh sets", 4, 40, 10, 4, 1}, {"multiples of 64", 4, 1, 2500, 8, 64}, {"one key", 3, 1, 2500, 1, 1}, {"sets that grow", 4, 20, 125, 64, 1}, {"many keys", 4, 1, 2500, 1000, 1}, {"multiples of 1,000", 8, 1, 1250, 8, 1000}};
-constexpr range RANGES[] = {{"threads", 1, 64}, {"threads times calls", 1, 1000000000}, {"keys", 1, 1048576}, {"pauses", 0, 100}, {"runs", 1, 1000000}, {"seconds", 1, 3600}, {"at_least", 0, 100}};
+constexpr range RANGES[] = {{"threads", 1, 64}, {"threads times calls", 1, 1000000000}, {"keys", 1, 1048576}, {"pauses", 0, 100}, {"runs", 1, 1000000}, {"seconds", 1, 3600}, {"at_least", 0, 100}, {"the sum of shares", 1, 1000000}};
 constexpr unsigned PART = 20000, LONGEST = 100, HOT = 4, ENOUGH = 5, HARDER = 2, FURTHER = 20, PATIENCE = 3, READABLE = 6, MEET = 250, AWAKE = 300000;
 constexpr const char *OK = "ok: %s calls, of which %s overlapped a change of their key";
 constexpr const char *FEW = "that is few: take more threads, fewer keys or a machine that does less";
@@ -126,9 +124,7 @@ constexpr const char *NO_FOLDER = "no file can be written in %s: name another fo
 constexpr const char *NO_MEMORY = "there is no memory for the calls of a run";
 constexpr const char *NO_PROCESS = "no process could be started for a run: %s";
 constexpr const char *NOT_AGAIN = "the test did not come to this judge again in a process of its own: set own_process to false";
-constexpr const char *NO_NODE = "node is not in PATH, which runs the %s that LISTSET names";
-constexpr const char *NO_NAMED = "LISTSET names %s, which cannot be run: build listset, and name it there";
-constexpr const char *NO_JUDGE = "there is no listset in PATH: build it, and put it there or name it by LISTSET";
+constexpr const char *NO_JUDGE = "%s cannot be run: build listset, and put it in PATH or name it by LISTSET (node runs a listset.js)";
 constexpr const char *NO_VERDICT = "%s gave no verdict, but said: %s. Take a newer listset";
 // end of what is made
 
@@ -145,13 +141,12 @@ template <class... With> std::string say(const char *text, const With &...with) 
 
 inline void check(const options &it) {
     const uint64_t all = uint64_t(it.threads ? it.threads : 1) * (it.calls ? it.calls : 1);
-    const uint64_t given[] = {it.threads ? it.threads : 1, all, it.keys ? it.keys : 1, it.pauses, it.runs, it.seconds, it.at_least};
+    const uint64_t given[] = {it.threads ? it.threads : 1, all, it.keys ? it.keys : 1, it.pauses, it.runs, it.seconds, it.at_least, uint64_t(it.adds) + it.removes + it.finds};
     const uint64_t *at = given;
     for (const range &its : RANGES) {
         if (*at < its.least || *at > its.most) throw no_verdict(say(RANGE, its.name, *at, its.least, its.most));
         at++;
     }
-    if (it.adds + it.removes + it.finds == 0) throw no_verdict(say(RANGE, "adds plus removes plus finds", 0, 1, 1000));
 }
 
 // ---- the three calls, by the names that the set has for them
@@ -191,7 +186,7 @@ template <class S, class K> reply contains(S &set, const K &key) {
 
 // ---- a run, written down as it goes
 
-enum phase { GOING, RESTING, OVER, FAILED, UNMADE };
+enum phase { GOING, OVER, FAILED, UNMADE };
 
 // A call as its thread writes it: at its begin, and again at its end. A thread goes on under a new number after a reply that is not known.
 struct slot {
@@ -201,14 +196,14 @@ struct slot {
     std::atomic<unsigned> begin, end;  // 0 as long as it has none
 };
 
-// A run in memory that its process shares with this one: the calls from one rest to the next.
+// A run in memory that its process shares with this one: the calls since those in its file.
 struct area {
     const shape of;
     const uint64_t seed;
-    const unsigned rows, parts, rounds;        // the calls of each thread in a part, of which the last may have fewer; the parts of a set, and of all
-    slot *slots = nullptr;                     // those of each thread in turn
-    bool *opening = nullptr, *left = nullptr;  // of each key of each set whether it was there, at first and at the end
+    const unsigned rows, parts, rounds;  // the calls of each thread in a part, of which the last may have fewer; the parts of a set, and of all
+    slot *slots = nullptr;               // those of each thread in turn
     std::atomic<unsigned> tickets{0}, there{0}, done{0}, begun{0};
+    std::atomic<uint64_t> written{0};  // the bytes of the file
     std::atomic<phase> at{GOING};
     std::atomic<bool> is_stopping{false};
     char why[240] = "";
@@ -217,13 +212,11 @@ struct area {
         : of(it), seed(of_seed), rows(std::min(it.calls, PART / it.threads)), parts((it.calls - 1) / rows + 1), rounds(it.sets * parts) {}
 
     static std::shared_ptr<area> made(const shape &it, uint64_t of_seed) {
-        size_t count = area(it, of_seed).count(), keys = size_t(it.sets) * it.keys, size = sizeof(area) + count * sizeof(slot) + 2 * keys;
+        const size_t count = area(it, of_seed).count(), size = sizeof(area) + count * sizeof(slot);
         void *place = mmap(nullptr, size, PROT_READ | PROT_WRITE, MAP_SHARED | MAP_ANONYMOUS, -1, 0);
         if (place == MAP_FAILED) throw no_verdict(NO_MEMORY);
         std::shared_ptr<area> found(new (place) area(it, of_seed), [size](area *old) { old->~area(), munmap(old, size); });
         found->slots = new (found.get() + 1) slot[count]();
-        found->opening = reinterpret_cast<bool *>(found->slots + count);
-        found->left = found->opening + keys;
         return found;
     }
 
@@ -249,30 +242,32 @@ struct area {
         const unsigned all = there++ / of.threads * of.threads + of.threads;
         waits([&] { return there >= all; });
     }
-
-    // Once a part has been read.
-    void go_on() {
-        for (size_t i = 0; i < count(); i++) slots[i].begin = slots[i].end = 0;
-        at = GOING;
-    }
 };
 
-// The type and the text of an exception.
-inline std::string told(const std::exception &it) {
-#ifdef __GXX_RTTI
-    int status;
-    std::unique_ptr<char, void (*)(void *)> name(abi::__cxa_demangle(typeid(it).name(), nullptr, nullptr, &status), free);
-    return std::string(name ? name.get() : typeid(it).name()) + ": " + it.what();
-#else
-    return it.what();
-#endif
+inline std::string line_of(const slot &it, unsigned end) {
+    static const char *const words[] = {" add ", " remove ", " contains "};
+    std::string text = "call " + std::to_string(it.thread) + words[int(it.call)] + std::to_string(it.key) + " " + std::to_string(it.begin) + " ";
+    const bool is_open = end == 0 || it.answer == reply::unknown;
+    return text + (is_open ? "- -\n" : std::to_string(end) + (it.answer == reply::yes ? " true\n" : " false\n"));
+}
+
+// The lines of the calls of a part by their begins, and those of the calls under way.
+inline std::pair<std::string, std::string> lines_of(const area &from) {
+    std::map<unsigned, std::pair<const slot *, unsigned>> found;
+    for (size_t i = 0; i < from.count(); i++) {
+        const unsigned end = from.slots[i].end, begin = from.slots[i].begin;
+        if (begin > 0) found[begin] = {&from.slots[i], end};
+    }
+    std::string lines, under_way;
+    for (auto &[begin, it] : found) lines += line_of(*it.first, it.second), under_way += it.second == 0 ? line_of(*it.first, 0) : "";
+    return {lines, under_way};
 }
 
 template <class F> void tried(area &run, phase as, F call) {
     try {
         call();
     } catch (const std::exception &thrown) {
-        run.fail(as, told(thrown));
+        run.fail(as, thrown.what());
     } catch (...) {
         run.fail(as, "what is no std::exception");
     }
@@ -285,9 +280,10 @@ template <class Make, class K> struct maker {
     const options how;
     const std::vector<K> keys;
     Make make;
+    std::ofstream file;
     std::atomic<set_type *> set{nullptr};
 
-    maker(const options &it, std::vector<K> of, Make by) : how(it), keys(std::move(of)), make(std::move(by)) {}
+    maker(const options &it, std::vector<K> of, Make by, const std::string &path) : how(it), keys(std::move(of)), make(std::move(by)), file(path) {}
 
     kind drawn(std::mt19937 &draw) const {
         const unsigned removes_too = removes<set_type, K> ? how.removes : 0, at = unsigned(draw()) % (how.adds + removes_too + how.finds);
@@ -328,26 +324,36 @@ template <class Make, class K> struct maker {
         if (how.ends) how.ends();
     }
 
-    void look_up(area &run, bool *there) {
-        for (const K &key : keys) *there++ = contains(*set, key) == reply::yes, run.tickets++;
+    // The lines of the keys that the set of a round has.
+    std::string lines_of_keys(area &run, const char *word, unsigned round) {
+        std::string lines;
+        for (unsigned key = 0; key < run.of.keys; key++, run.tickets++)
+            if (contains(*set, keys[key]) == reply::yes) lines += word + std::to_string(round / run.parts * run.of.keys + key) + "\n";
+        return lines;
     }
 
-    // Makes each set and has the threads call it; rests after each part until somebody has read it.
+    void write(area &run, const std::string &lines) {
+        if (!(file << lines << std::flush)) run.fail(UNMADE, "its recording cannot be written");
+        run.written += lines.size();
+        for (size_t i = 0; i < run.count(); i++) run.slots[i].begin = run.slots[i].end = 0;
+    }
+
+    // Makes each set and has the threads call it; writes each part once it is made.
     void lead(area &run) {
         pointer own{};
-        for (unsigned round = 0; round < run.rounds; round++) {
-            const size_t first = size_t(round / run.parts) * run.of.keys;
-            if (round > 0) run.at = RESTING;
-            if (!run.waits([&] { return run.at == GOING; })) return;
+        std::string left, lines = "listset-calls 1\n";
+        for (unsigned round = 0; round < run.rounds; round++, lines = "") {
             if (round % run.parts == 0) {
                 tried(run, UNMADE, [&] { set = nullptr, own = nullptr, own = make(), set = &*own; });
                 if (run.is_stopping) return;
-                if (how.opens_with_keys) look_up(run, run.opening + first);
+                write(run, lines + (how.opens_with_keys ? lines_of_keys(run, "opening ", round) : ""));
             }
             run.begun = round + 1;
             if (!run.waits([&] { return run.done == run.of.threads * (round + 1); })) return;
-            if ((round + 1) % run.parts == 0) look_up(run, run.left + first);
+            if ((round + 1) % run.parts == 0) left += lines_of_keys(run, "key ", round);
+            write(run, lines_of(run).first);
         }
+        write(run, left + "end\n");
     }
 
     // Calls sets, to the end.
@@ -436,18 +442,12 @@ struct here : caller {
     std::string trouble() override { return ""; }
 };
 
-// Waits until the part is made that goes on; gives how it went wrong, or nothing.
-inline std::string made_part(caller &by, const area &run, unsigned seconds) {
-    bool has_ended = false;
-    if (!comes_to_end(run, seconds, [&] { return run.at == RESTING || (has_ended = by.has_ended()); })) return say(HUNG, seconds);
-    return has_ended ? by.trouble() : "";
-}
-
 // ---- the judge
 
-// Its name, what it says of its proof, and the words of a shell that run it.
-struct judge_found {
-    std::string name, proof, command;
+// The status of a command or of the library, and what it says.
+struct answer {
+    int status;
+    std::string said;
 };
 
 // The line in which a judge says whether it is proved.
@@ -461,88 +461,55 @@ inline std::string stripped(std::string text) {
     return text;
 }
 
-// The status of a command or of the library, and what it says.
-struct answer {
-    int status;
-    std::string said;
-};
-
 #ifdef LISTSET_H
-// The library, which is given a recording at its end.
-struct asked {
-    std::string all;
-    asked(const judge_found &, const std::string &) {}
-    void write(const std::string &text) { all += text; }
-    answer end() {
+struct judge_found {
+    const std::string name = "liblistset", proof = proof_in(listset_version());
+
+    answer asked_of(const std::string &file) const {
+        std::string room(8192, '\0');
         uint8_t status;
-        size_t length;
-        std::unique_ptr<char, void (*)(void *)> said(listset_said(listset_judge, all.data(), all.size(), &length, &status), free);
-        if (!said) throw no_verdict("there is no memory for the answer of liblistset");
-        return {status, stripped(std::string(said.get(), length))};
+        std::unique_ptr<FILE, int (*)(FILE *)> from(fopen(file.c_str(), "r"), fclose);
+        if (!from) throw no_verdict(say(NO_FOLDER, file));
+        room.resize(listset_judge_from(fileno(from.get()), room.data(), room.size(), &status));
+        return {status, stripped(room)};
     }
 };
 
-inline judge_found find_judge() { return {"liblistset", proof_in(listset_version()), ""}; }
+inline judge_found find_judge() { return {}; }
 #else
+inline answer ran(const std::string &command) {
+    FILE *made = popen(("exec " + command).c_str(), "r");
+    if (!made) throw no_verdict(say(NO_PROCESS, std::string(strerror(errno))));
+    std::string said;
+    for (int it; (it = fgetc(made)) != EOF;) said += char(it);
+    const int status = pclose(made);
+    return {WIFEXITED(status) ? WEXITSTATUS(status) : 128, stripped(said)};
+}
+
 inline std::string quoted(const std::string &word) {
     std::string text = "'";
     for (char it : word) text += it == '\'' ? "'\\''" : std::string(1, it);
     return text + "'";
 }
 
-inline FILE *started(const std::string &command, const char *mode) {
-    FILE *made = popen(("exec " + command).c_str(), mode);
-    if (!made) throw no_verdict(say(NO_PROCESS, std::string(strerror(errno))));
-    return made;
-}
+struct judge_found {
+    std::string name, proof, command;  // the last for a shell
 
-inline int ended(FILE *command) {
-    const int status = pclose(command);
-    return WIFEXITED(status) ? WEXITSTATUS(status) : 128;
-}
-
-// A program, which is given a recording as it grows. What it says comes into a file.
-struct asked {
-    const std::string file;
-    FILE *to;
-
-    asked(const judge_found &by, const std::string &recording)
-        : file(recording + ".said"), to(started(by.command + " judge - >" + quoted(file) + " 2>&1", "w")) {}
-    asked(const asked &) = delete;
-    ~asked() {
-        if (to) end();
-    }
-    void write(const std::string &text) {
-        sigset_t broken, before, pending;
-        sigemptyset(&broken), sigaddset(&broken, SIGPIPE);
-        pthread_sigmask(SIG_BLOCK, &broken, &before);
-        ssize_t count = 1;  // (past the buffer of `to`, which would be written again where it is closed)
-        for (size_t at = 0; at < text.size() && (count > 0 || errno == EINTR); at += size_t(std::max<ssize_t>(count, 0)))
-            count = ::write(fileno(to), text.data() + at, text.size() - at);
-        int number;  // (one that has ended reads no further)
-        if (count < 0 && !sigpending(&pending) && sigismember(&pending, SIGPIPE)) sigwait(&broken, &number);
-        pthread_sigmask(SIG_SETMASK, &before, nullptr);
-    }
-    answer end() {
-        const int status = ended(std::exchange(to, nullptr));
-        std::ostringstream said;
-        said << std::ifstream(file).rdbuf();
-        std::remove(file.c_str());
-        return {status, stripped(said.str())};
+    answer asked_of(const std::string &file) const {
+        const std::string asked = command + " judge " + quoted(file);
+        const answer given = ran(asked + " 2>/dev/null");
+        return given.said.empty() ? ran(asked + " 2>&1") : given;
     }
 };
 
 inline judge_found find_judge() {
     const char *named = std::getenv("LISTSET");
-    const std::string name = named ? named : "listset";
+    const std::string name = named && *named ? named : "listset";
     const bool is_script = name.size() > 3 && name.substr(name.size() - 3) == ".js";
-    judge_found found{name, "", (is_script ? "node " : "") + quoted(name)};
-    FILE *version = started(found.command + " --version --long", "r");  // (what it says of a judge that it builds is for the user's eyes)
-    std::string said;
-    for (int it; (it = fgetc(version)) != EOF;) said += char(it);
-    if (ended(version) == 127) throw no_verdict(is_script ? say(NO_NODE, name) : named ? say(NO_NAMED, name) : NO_JUDGE);
-    found.proof = proof_in(said);
-    return found;
+    const std::string command = (is_script ? "node " : "") + quoted(name);
+    const answer version = ran(command + " --version --long");  // (what it says of a judge that it builds is for the user's eyes)
+    if (version.status == 127) throw no_verdict(say(NO_JUDGE, name));
+    return {name, proof_in(version.said), command};
 }
 #endif
 
@@ -552,9 +519,9 @@ struct judgement {
     uint64_t overlapped;
 };
 
-inline judgement judged(const judge_found &by, const answer &given) {
-    auto &[status, said] = given;
-    std::string first = said.substr(0, said.find('\n'));
+inline judgement judged(const judge_found &by, const std::string &file) {
+    const auto [status, said] = by.asked_of(file);
+    const std::string first = said.substr(0, said.find('\n'));
     unsigned long long overlapped;
     if (status == 1 && first == "not linearizable") return {said, 0};
     if (status == 0 && sscanf(said.c_str(), "ok %*u calls\n%llu of them", &overlapped) == 1) return {"", overlapped};
@@ -563,19 +530,15 @@ inline judgement judged(const judge_found &by, const answer &given) {
 
 // ---- a run, as it is judged
 
-// The text of a run: as it grows it is written into a file, and given to the judge.
+// The file into which a run is written as it grows.
 struct recording {
     const std::string path;
     bool is_kept;
-    std::ofstream file;
-    std::optional<asked> judge;
 
-    recording(const options &how, uint64_t seed, const judge_found &by) : path(path_of(how.record, seed)), is_kept(!how.record.empty()) {
+    recording(const options &how, uint64_t seed) : path(path_of(how.record, seed)), is_kept(!how.record.empty()) {
         std::error_code fault;
         if (is_kept) std::filesystem::create_directories(how.record, fault);
-        file.open(path);
-        check();
-        judge.emplace(by, path);
+        if (!std::ofstream(path)) throw no_verdict(say(NO_FOLDER, path.substr(0, path.rfind('/'))));
     }
     recording(const recording &) = delete;
     ~recording() {
@@ -588,60 +551,26 @@ struct recording {
         const char *temporary = std::getenv("TMPDIR");
         return (temporary ? temporary : "/tmp") + ("/listset-" + name) + "-" + std::to_string(getpid()) + "-" + std::to_string(++files) + ".calls";
     }
-    void check() const {
-        if (!file) throw no_verdict(say(NO_FOLDER, path.substr(0, path.rfind('/'))));
-    }
-    void write(const std::string &text) { file << text, judge->write(text); }
-    answer end() { return file.close(), check(), judge->end(); }
 };
 
-inline std::string line_of(const slot &it, unsigned end) {
-    static const char *const words[] = {" add ", " remove ", " contains "};
-    std::string text = "call " + std::to_string(it.thread) + words[int(it.call)] + std::to_string(it.key) + " " + std::to_string(it.begin) + " ";
-    const bool is_open = end == 0 || it.answer == reply::unknown;
-    return text + (is_open ? "- -\n" : std::to_string(end) + (it.answer == reply::yes ? " true\n" : " false\n"));
-}
-
-// The lines of the calls of a part by their begins, and those of the calls under way.
-inline std::pair<std::string, std::string> lines_of(const area &from) {
-    std::map<unsigned, std::pair<const slot *, unsigned>> found;
-    for (size_t i = 0; i < from.count(); i++) {
-        const unsigned end = from.slots[i].end, begin = from.slots[i].begin;
-        if (begin > 0) found[begin] = {&from.slots[i], end};
-    }
-    std::string lines, under_way;
-    for (auto &[begin, it] : found) lines += line_of(*it.first, it.second), under_way += it.second == 0 ? line_of(*it.first, 0) : "";
-    return {lines, under_way};
-}
-
-inline std::string lines_of_keys(const std::string &word, const bool *there, size_t keys) {
-    std::string text;
-    for (size_t key = 0; key < keys; key++)
-        if (there[key]) text += word + " " + std::to_string(key) + "\n";
-    return text;
-}
-
-// How a run came to no end, and the calls under way.
+// How a run was cut short, and the calls under way.
 struct trouble {
     std::string how, under_way;
 };
 
-// Records a run as it is made.
-inline trouble record(caller &by, area &run, recording &to, unsigned seconds) {
+// Waits until a run is made. If it is cut short, its last calls are written here.
+inline trouble watched(caller &by, const area &run, const std::string &path, unsigned seconds) {
     trouble found;
-    const size_t keys = size_t(run.of.sets) * run.of.keys;
-    for (unsigned round = 0; round < run.rounds && found.how.empty(); round++) {
-        if (round > 0) run.go_on();
-        found.how = made_part(by, run, seconds);
-        if (run.at == UNMADE) throw no_verdict(run.why);
-        if (run.at == FAILED) found.how = run.why;
-        if (!found.how.empty() && run.tickets == 0) throw no_verdict(say(NOT_MADE, found.how));
-        auto [lines, under_way] = lines_of(run);
-        to.write((round > 0 ? "" : "listset-calls 1\n" + lines_of_keys("opening", run.opening, keys)) + lines);
-        found.under_way = under_way;
-    }
-    to.write(found.how.empty() ? lines_of_keys("key", run.left, keys) + "end\n" : "cut\n");
-    return found;
+    if (!comes_to_end(run, seconds, [&] { return by.has_ended(); })) found.how = say(HUNG, seconds);
+    else found.how = by.trouble();
+    if (run.at == UNMADE) throw no_verdict(run.why);
+    if (run.at == FAILED) found.how = run.why;
+    if (found.how.empty()) return found;
+    if (run.tickets == 0) throw no_verdict(say(NOT_MADE, found.how));
+    auto [lines, under_way] = lines_of(run);
+    std::filesystem::resize_file(path, run.written);
+    std::ofstream(path, std::ios::app) << lines << "cut\n";
+    return {found.how, under_way};
 }
 
 // ---- a refusal, as it is told
@@ -650,6 +579,8 @@ inline trouble record(caller &by, area &run, recording &to, unsigned seconds) {
 struct call_line {
     std::string thread, word, key, answer;
     uint64_t begin = 0, end = 0;
+
+    std::string head() const { return "[" + word + " " + key; }
 };
 
 inline std::optional<call_line> call_in(const std::string &line) {
@@ -661,26 +592,37 @@ inline std::optional<call_line> call_in(const std::string &line) {
     return it;
 }
 
+// What a judge says of a recording that no order explains; nothing if some order does.
+struct refusal {
+    std::string said, key;  // the key of which it speaks
+    std::vector<call_line> calls;
+
+    refusal(const std::string &text = "") : said(text) {
+        if (const size_t at = text.find("of key "); at != std::string::npos) std::istringstream(text.substr(at + 7)) >> key;
+        std::istringstream lines(text);
+        for (std::string line; std::getline(lines, line);)
+            if (auto it = call_in(line)) calls.push_back(*it);
+    }
+    size_t size() const { return calls.size() + (said.find(" belong to these") == std::string::npos ? 0 : 1000); }
+    size_t rank() const { return size() > 1 ? size() : 999; }  // (a refusal of one call alone comes last)
+};
+
 // The calls as bars, one below another, from their begins to their ends.
 inline std::string picture_of(const std::vector<call_line> &calls) {
-    std::map<uint64_t, std::pair<size_t, size_t>> moments;  // at each moment its column, and the least distance from the begin of its call
-    uint64_t last = 0;
-    for (auto &it : calls) last = std::max({last, it.begin + 1, it.end + 1});
-    auto head = [](const call_line &it) { return "[" + it.word + " " + it.key; };
-    auto end_of = [&](const call_line &it) { return it.end ? it.end : last; };
-    for (auto &it : calls) moments[it.begin], moments[end_of(it)];
-    size_t column = 0;
-    for (auto &[moment, place] : moments) {
-        place.first = column;
+    std::map<uint64_t, size_t> columns;  // of each moment
+    auto end_of = [](const call_line &it) { return it.end ? it.end : UINT64_MAX; };
+    for (auto &it : calls) columns[it.begin] = columns[end_of(it)] = 0;
+    size_t next = 0;
+    for (auto &[moment, column] : columns) {
         for (auto &it : calls)
-            if (end_of(it) == moment) place.first = std::max(place.first, moments[it.begin].first + head(it).size() + it.answer.size() + 1);
-        column = place.first + 1;
+            if (end_of(it) == moment) next = std::max(next, columns[it.begin] + it.head().size() + it.answer.size() + 1);
+        column = next++;
     }
     std::string text;
     for (auto &it : calls) {
-        const size_t from = moments[it.begin].first, to = moments[end_of(it)].first, used = head(it).size() + it.answer.size();
-        text += "\nthread " + it.thread + std::string(it.thread.size() < 2 ? 2 : 1, ' ') + std::string(from, ' ') + head(it);
-        text += std::string(to - from - used, '-') + (it.end ? it.answer + "]" : "-..");
+        const size_t from = columns[it.begin], dashes = columns[end_of(it)] - from - it.head().size() - it.answer.size();
+        text += "\nthread " + it.thread + std::string(it.thread.size() < 2 ? 2 : 1, ' ') + std::string(from, ' ') + it.head();
+        text += std::string(dashes, '-') + (it.end ? it.answer + "]" : "-..");
     }
     return text;
 }
@@ -700,34 +642,19 @@ inline std::string count_of(const std::string &file, const std::string &key) {
     return is_cut || was + adds == is + removes ? "" : say(COUNTED, adds, removes, key, word(was), word(is));
 }
 
-// The key of which the judge's second line speaks.
-inline std::string key_in(const std::string &refused) {
-    const size_t at = refused.find("of key ");
-    return at == std::string::npos ? "" : refused.substr(at + 7, refused.find_first_not_of("0123456789", at + 7) - at - 7);
-}
-
-inline size_t calls_in(const std::string &refused) {
-    size_t count = refused.find(" belong to these") != std::string::npos ? 1000 : 0;
-    for (size_t at = 0; (at = refused.find("\ncall ", at)) != std::string::npos; at++) count++;
-    return count;
-}
-
 // What the judge says, with a picture; or, in place of many calls, what their count shows.
-inline std::string explained(const std::string &refused, const std::string &file) {
-    std::vector<call_line> calls;
-    std::istringstream lines(refused);
-    for (std::string line; std::getline(lines, line);)
-        if (auto it = call_in(line)) calls.push_back(*it);
-    const std::string counted = calls_in(refused) > READABLE ? count_of(file, key_in(refused)) : "";
-    if (counted.empty()) return refused + (calls.size() > 1 ? picture_of(calls) : "");
-    return refused.substr(0, refused.find('\n', refused.find('\n') + 1)) + "\n" + counted;
+inline std::string explained(const refusal &it, const std::string &file) {
+    const std::string counted = it.size() > READABLE ? count_of(file, it.key) : "";
+    if (counted.empty()) return it.said + (it.calls.size() > 1 ? picture_of(it.calls) : "");
+    return it.said.substr(0, it.said.find('\n', it.said.find('\n') + 1)) + "\n" + counted;
 }
 
 // ---- runs, one after another
 
 struct outcome {
     uint64_t seed = 0, calls = 0, overlapped = 0;
-    std::string name, refused, said, file;
+    std::string name, said, file;
+    refusal refused;
     bool is_few() const { return overlapped * 100 < calls * ENOUGH; }
 };
 
@@ -784,8 +711,7 @@ template <class Make, class Key> struct tester {
         return keys;
     }
 
-    std::string key_line(const std::string &refused, const shape &it, const std::vector<K> &keys) const {
-        const std::string number = key_in(refused);
+    std::string key_line(const std::string &number, const shape &it, const std::vector<K> &keys) const {
         if (number.empty()) return "";
         const unsigned long at = std::stoul(number);
         const std::string name = shown(keys[at % it.keys]), set = it.sets > 1 ? say(IN_SET, at / it.keys + 1) : "";
@@ -794,31 +720,30 @@ template <class Make, class Key> struct tester {
 
     outcome judged_run(uint64_t seed, const shape &it) const {
         auto run = area::made(it, seed);
-        auto by_maker = std::make_shared<maker<Make, K>>(how, keys_of(it), make);
-        recording text(how, seed, by);
+        recording text(how, seed);
+        auto by_maker = std::make_shared<maker<Make, K>>(how, keys_of(it), make, text.path);
         std::unique_ptr<caller> start;
         if (how.own_process && is_alone()) start = std::make_unique<child>(*by_maker, *run);
         else start = std::make_unique<here>(by_maker, run);
-        auto [trouble, under_way] = record(*start, *run, text, how.seconds);
-        start.reset();  // (a process that hangs would keep the judge's input open)
-        auto [refused, overlapped] = judged(by, text.end());
-        outcome found{seed, uint64_t(it.threads) * it.sets * it.calls, overlapped, it.name, refused, "", text.path};
-        if (!refused.empty()) found.said = explained(refused, text.path) + key_line(refused, it, by_maker->keys);
-        if (!trouble.empty()) found.said = say(UNDER_WAY, trouble, under_way, refused.empty() ? EXPLAINED : found.said), found.refused = "";
+        auto [trouble, under_way] = watched(*start, *run, text.path, how.seconds);
+        start.reset();
+        auto [refused, overlapped] = judged(by, text.path);
+        outcome found{seed, uint64_t(it.threads) * it.sets * it.calls, overlapped, it.name, "", text.path, refused};
+        if (!refused.empty()) found.said = explained(found.refused, text.path) + key_line(found.refused.key, it, by_maker->keys);
+        if (!trouble.empty()) found.said = say(UNDER_WAY, trouble, under_way, refused.empty() ? EXPLAINED : found.said), found.refused = {};
         text.is_kept |= !found.said.empty();
         return found;
     }
 
     // Of the refusal and of further runs, the one that has the fewest calls, and two at least.
     outcome smallest(outcome found) const {
-        auto rank = [](const outcome &it) { return calls_in(it.refused) < 2 ? 999 : calls_in(it.refused); };
         const auto since = std::chrono::steady_clock::now();
         const uint64_t first = found.seed;
-        for (unsigned i = 1; i <= FURTHER && rank(found) > READABLE / 2; i++) {
+        for (unsigned i = 1; i <= FURTHER && found.refused.rank() > READABLE / 2; i++) {
             if (std::chrono::steady_clock::now() - since > std::chrono::seconds(PATIENCE)) break;
             const uint64_t seed = first + i * std::size(PRESETS);
             outcome other = judged_run(seed, shape_of(seed));
-            if (!other.refused.empty() && rank(other) < rank(found)) std::swap(found, other);
+            if (!other.refused.said.empty() && other.refused.rank() < found.refused.rank()) std::swap(found, other);
             if (how.record.empty() && !other.said.empty()) std::remove(other.file.c_str());
         }
         return found;
@@ -837,7 +762,7 @@ template <class Make, class Key> struct tester {
                 if (!found.is_few() || std::chrono::steady_clock::now() > until) break;
             }
         }
-        if (!found.refused.empty()) found = smallest(found);
+        if (!found.refused.said.empty()) found = smallest(found);
         all.ok = found.said.empty();
         if (!all.ok) all.seed = found.seed, all.said = found.said, all.file = found.file;
         all.text = all.ok ? passed(all) : say(FAILED_RUN, found.seed, found.name, found.said, found.file, all.judge);

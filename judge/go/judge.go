@@ -61,14 +61,15 @@ func (o Options) check() error {
 		}
 		return given
 	}
-	given := []int{or1(o.Threads), or1(o.Threads) * or1(o.Calls), or1(o.Keys), o.Pauses, o.Runs, o.Seconds, o.AtLeast}
+	shares := o.Adds + o.Removes + o.Finds
+	if o.Adds < 0 || o.Removes < 0 || o.Finds < 0 {
+		shares = -1
+	}
+	given := []int{or1(o.Threads), or1(o.Threads) * or1(o.Calls), or1(o.Keys), o.Pauses, o.Runs, o.Seconds, o.AtLeast, shares}
 	for i, its := range ranges {
 		if given[i] < its.least || given[i] > its.most {
 			return fmt.Errorf(sayRange, its.name, given[i], its.least, its.most)
 		}
-	}
-	if o.Adds < 0 || o.Removes < 0 || o.Finds < 0 || o.Adds+o.Removes+o.Finds == 0 {
-		return fmt.Errorf(sayRange, "adds plus removes plus finds", o.Adds+o.Removes+o.Finds, 1, 1000)
 	}
 	return nil
 }
@@ -169,7 +170,7 @@ func (f *Failed) Error() string {
 	return fmt.Sprintf(sayFailedRun, f.Seed, f.Name, f.Said, f.File, f.Judge)
 }
 
-// NotLinearizable is the error if no order explains a run. NotEnded is the error if the set crashed, hung or panicked in it, which was
+// NotLinearizable is the error if no order explains a run. CutShort is the error if the set crashed, hung or panicked in it, which was
 // judged up to there. Any other error means that nothing is known of the set: an option is out of range, no set could be made, too few
 // calls overlapped, or there is no judge.
 type NotLinearizable struct {
@@ -177,7 +178,7 @@ type NotLinearizable struct {
 	refused refusal
 }
 
-type NotEnded struct{ Failed }
+type CutShort struct{ Failed }
 
 // Test is what Check needs of a *testing.T.
 type Test interface {
@@ -353,7 +354,7 @@ func (t *tester) smallest(best *NotLinearizable) error {
 				best, other = other, best
 			}
 			t.drop(other.File)
-		} else if ended, is := err.(*NotEnded); is {
+		} else if ended, is := err.(*CutShort); is {
 			t.drop(ended.File)
 			break // (a process of its own that has ended makes no further run)
 		}
@@ -369,19 +370,14 @@ func (t *tester) drop(file string) {
 
 // judgedRun has a run made, and judges it as it is made: how many calls overlapped a change of their key.
 func (t *tester) judgedRun(seed int64, s shape) (int, error) {
-	r, err := newRecording(seed, s.name, t.options.Record, t.by)
+	r, err := newRecording(seed, s.name, t.options.Record)
 	if err != nil {
 		return 0, err
 	}
 	defer r.close()
-	t.area.begin(seed, s.size, t.caller)
-	for round := 1; round <= s.rounds() && r.trouble == ""; round++ {
-		if r.trouble, err = t.area.made(t.caller); err == nil {
-			err = r.write(t.area, round)
-		}
-		if err != nil {
-			return 0, err
-		}
+	trouble, err := t.area.made(seed, s.size, r.file.Name(), t.caller)
+	if err != nil {
+		return 0, err
 	}
-	return r.judged(t.area)
+	return r.judged(t.by, t.area, trouble)
 }

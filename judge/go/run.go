@@ -4,7 +4,10 @@ import (
 	"errors"
 	"fmt"
 	"math/rand"
+	"os"
 	"runtime"
+	"sort"
+	"strings"
 	"sync"
 	"sync/atomic"
 	"time"
@@ -22,7 +25,6 @@ const (
 const (
 	waiting uint32 = iota
 	going
-	resting
 	over
 	failed
 	unmade
@@ -35,26 +37,34 @@ type slot struct {
 	thread, call, key, reply uint32
 }
 
-// head is what those share who make a run and read it.
+// text is one that processes share.
+type text struct {
+	length uint32
+	bytes  [1000]byte
+}
+
+func (t *text) set(to string) { t.length = uint32(copy(t.bytes[:], to)) }
+
+func (t *text) String() string { return string(t.bytes[:t.length]) }
+
+// head is what those share who make a run and watch it.
 type head struct {
-	seed int64
+	seed    int64
+	written int64 // the bytes of its file
 	size
 	tickets, there, done, begun uint32
 	at, isStopping              uint32
 	isHere                      uint32 // that a process of its own has come to the test's Check
-	length                      uint32 // of why it failed
-	why                         [240]byte
+	file, why                   text   // why it failed
 }
 
-// area is a run in memory that another process may share: the calls from one rest to the next.
+// area is a run in memory that another process may share: the calls since those in its file.
 type area struct {
 	options Options
 	source  source
 	memory  []byte
 	*head   // and behind it:
 	slots   []slot
-	opening []byte // of each key of each set 1 if it was there at first,
-	left    []byte // and at the end
 }
 
 func newArea(options Options, source source) *area {
@@ -64,22 +74,44 @@ func newArea(options Options, source source) *area {
 	return a
 }
 
-func (a *area) allKeys() int { return a.options.most(func(s size) int { return s.sets * s.keys }) }
-
-func (a *area) bytes() int {
-	return int(unsafe.Sizeof(head{})) + manyPart*int(unsafe.Sizeof(slot{})) + 2*a.allKeys()
-}
+func (a *area) bytes() int { return int(unsafe.Sizeof(head{})) + manyPart*int(unsafe.Sizeof(slot{})) }
 
 // lay has the run written down in this memory.
 func (a *area) lay(memory []byte) {
-	slots := memory[unsafe.Sizeof(head{}):]
-	keys := slots[manyPart*unsafe.Sizeof(slot{}):]
 	a.memory, a.head = memory, (*head)(unsafe.Pointer(&memory[0]))
-	a.slots = unsafe.Slice((*slot)(unsafe.Pointer(&slots[0])), manyPart)
-	a.opening, a.left = keys[:a.allKeys()], keys[a.allKeys():]
+	a.slots = unsafe.Slice((*slot)(unsafe.Pointer(&memory[unsafe.Sizeof(head{})])), manyPart)
 }
 
-// ---- who reads a run
+// lines is the calls since those in the file, by their begins, and those that are under way.
+func (a *area) lines() (lines, underWay string) {
+	of, begins := map[uint32]string{}, []uint32{}
+	for i := range a.slots[:a.threads*a.rows()] {
+		s := &a.slots[i]
+		end, begin := atomic.LoadUint32(&s.end), atomic.LoadUint32(&s.begin)
+		if begin > 0 {
+			of[begin], begins = s.line(end), append(begins, begin)
+			if end == 0 {
+				underWay += s.line(0)
+			}
+		}
+	}
+	sort.Slice(begins, func(i, j int) bool { return begins[i] < begins[j] })
+	var text strings.Builder
+	for _, begin := range begins {
+		text.WriteString(of[begin])
+	}
+	return text.String(), underWay
+}
+
+func (s *slot) line(end uint32) string {
+	words := []string{"add", "remove", "contains"}
+	if end == 0 || s.reply == unknown {
+		return fmt.Sprintf("call %d %s %d %d - -\n", s.thread, words[s.call], s.key, s.begin)
+	}
+	return fmt.Sprintf("call %d %s %d %d %d %t\n", s.thread, words[s.call], s.key, s.begin, end, s.reply == yes)
+}
+
+// ---- who watches a run
 
 // caller has runs made.
 type caller interface {
@@ -100,35 +132,30 @@ func (h *here) trouble() string { return "" }
 
 func (h *here) stop() { atomic.StoreUint32(&h.isStopping, 1) }
 
-// begin has the run of a seed begin.
-func (a *area) begin(seed int64, s size, by caller) {
+// made has the run of a seed made. If it was cut short, it gives how.
+func (a *area) made(seed int64, s size, file string, by caller) (trouble string, err error) {
 	for i := range a.memory {
 		a.memory[i] = 0
 	}
 	a.head.seed, a.head.size = seed, s
+	a.file.set(file)
 	atomic.StoreUint32(&a.at, going)
 	by.begin()
-}
-
-// made waits until a part is made, or no call begins or ends for too long: then it gives how it went wrong.
-func (a *area) made(by caller) (trouble string, err error) {
 	since, seen := time.Now(), uint32(0)
-	for atomic.LoadUint32(&a.at) != resting && trouble == "" {
-		if by.hasEnded() {
-			trouble = by.trouble()
-			break
-		}
+	for ; !by.hasEnded() && trouble == ""; time.Sleep(300 * time.Microsecond) {
 		if now := atomic.LoadUint32(&a.tickets); now != seen {
 			since, seen = time.Now(), now
 		}
 		if time.Since(since) > time.Duration(a.options.Seconds)*time.Second {
 			trouble = fmt.Sprintf(sayHung, a.options.Seconds)
 		}
-		time.Sleep(300 * time.Microsecond)
+	}
+	if trouble == "" {
+		trouble = by.trouble()
 	}
 	at, isBegun := atomic.LoadUint32(&a.at), atomic.LoadUint32(&a.tickets) > 0
 	if at >= failed {
-		trouble = string(a.why[:a.length])
+		trouble = a.why.String()
 	}
 	if at == unmade {
 		err = errors.New(trouble)
@@ -143,7 +170,7 @@ func (a *area) made(by caller) (trouble string, err error) {
 // fail writes down a panic, the first.
 func (a *area) fail(as uint32, words string) {
 	if why := recover(); why != nil && atomic.CompareAndSwapUint32(&a.isStopping, 0, 1) {
-		a.length = uint32(copy(a.why[:], fmt.Sprintf(words, why)))
+		a.why.set(fmt.Sprintf(words, why))
 		atomic.StoreUint32(&a.at, as)
 	}
 }
@@ -197,23 +224,23 @@ func (a *area) newSet() (set Set) {
 	return set
 }
 
-// lead makes each set and has the goroutines call it; rests after each part until it has been read.
+// lead makes each set and has the goroutines call it; writes each part once it is made.
 func (a *area) lead(on *stage) {
 	defer a.fail(failed, sayThrew)
+	file, err := os.OpenFile(a.file.String(), os.O_WRONLY, 0)
+	if err != nil {
+		panic(err)
+	}
+	defer file.Close()
+	left := ""
+	a.write(file, "listset-calls 1\n")
 	for round := 0; round < a.rounds(); round++ {
-		keys := round / a.parts() * a.keys
-		if round > 0 {
-			atomic.StoreUint32(&a.at, resting)
-			if !a.waits(func() bool { return atomic.LoadUint32(&a.at) == going }) {
-				return
-			}
-		}
 		if round%a.parts() == 0 {
 			if on.set = a.newSet(); on.set == nil {
 				return
 			}
 			if a.options.OpensWithKeys {
-				a.lookUp(on.set, a.opening[keys:])
+				a.write(file, a.linesOfKeys("opening", on.set, round))
 			}
 		}
 		atomic.StoreUint32(&a.begun, uint32(round+1))
@@ -221,8 +248,21 @@ func (a *area) lead(on *stage) {
 			return
 		}
 		if (round+1)%a.parts() == 0 {
-			a.lookUp(on.set, a.left[keys:])
+			left += a.linesOfKeys("key", on.set, round)
 		}
+		lines, _ := a.lines()
+		a.write(file, lines)
+	}
+	a.write(file, left+"end\n")
+}
+
+func (a *area) write(file *os.File, lines string) {
+	if _, err := file.WriteString(lines); err != nil {
+		panic(err)
+	}
+	atomic.AddInt64(&a.written, int64(len(lines)))
+	for i := range a.slots[:a.threads*a.rows()] {
+		a.slots[i] = slot{}
 	}
 }
 
@@ -234,13 +274,15 @@ func (a *area) number(key int) uint32 {
 	return uint32(key * a.times)
 }
 
-func (a *area) lookUp(set Set, to []byte) {
+// linesOfKeys has the keys that the set of a round has.
+func (a *area) linesOfKeys(word string, set Set, round int) (lines string) {
 	for key := 0; key < a.keys; key++ {
 		if reply(set, 2, a.number(key)) == yes {
-			to[key] = 1
+			lines += fmt.Sprintf("%s %d\n", word, round/a.parts()*a.keys+key)
 		}
 		atomic.AddUint32(&a.tickets, 1)
 	}
+	return lines
 }
 
 // callInRounds makes the calls of one goroutine.

@@ -137,11 +137,11 @@ func (told) Log(verdict ...any) { fmt.Printf("verdict: ok\n%v\n", verdict[0]) }
 func (told) Fatal(why ...any) {
 	kind, err := "none", why[0].(error)
 	var refused *NotLinearizable
-	var ended *NotEnded
+	var cut *CutShort
 	if errors.As(err, &refused) {
 		kind = "refused"
-	} else if errors.As(err, &ended) {
-		kind = "not ended"
+	} else if errors.As(err, &cut) {
+		kind = "cut short"
 	} else if strings.Contains(err.Error(), "at_least") && !strings.HasPrefix(err.Error(), "at_least") {
 		kind = "too few"
 	}

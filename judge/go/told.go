@@ -2,7 +2,6 @@ package judge
 
 import (
 	"bytes"
-	"errors"
 	"fmt"
 	"io"
 	"os"
@@ -12,23 +11,18 @@ import (
 	"sort"
 	"strconv"
 	"strings"
-	"sync/atomic"
 )
 
-// recording is the text of a run: as it grows it is written into a file, and given to the judge.
+// recording is the file into which a run is written as it grows.
 type recording struct {
-	seed     int64
-	name     string
-	file     *os.File
-	isKept   bool
-	by       *judgeFound
-	asked    asked
-	trouble  string // how the run came to no end, and the calls under way, if it did not
-	underWay string
+	seed   int64
+	name   string
+	file   *os.File
+	isKept bool
 }
 
-func newRecording(seed int64, name, record string, by *judgeFound) (*recording, error) {
-	r, folder, err := &recording{seed: seed, name: name, isKept: record != "", by: by}, record, error(nil)
+func newRecording(seed int64, name, record string) (*recording, error) {
+	r, folder, err := &recording{seed: seed, name: name, isKept: record != ""}, record, error(nil)
 	if r.isKept {
 		if err = os.MkdirAll(folder, 0o777); err == nil {
 			r.file, err = os.Create(filepath.Join(folder, fmt.Sprintf("seed-%d.calls", seed)))
@@ -40,81 +34,31 @@ func newRecording(seed int64, name, record string, by *judgeFound) (*recording, 
 	if err != nil {
 		return nil, fmt.Errorf(sayNoFolder, folder)
 	}
-	if r.asked, err = by.ask(); err != nil {
-		r.close()
-	}
-	return r, err
+	return r, nil
 }
 
-func (s *slot) line(end uint32) string {
-	words := []string{"add", "remove", "contains"}
-	if end == 0 || s.reply == unknown {
-		return fmt.Sprintf("call %d %s %d %d - -\n", s.thread, words[s.call], s.key, s.begin)
+// judged is how many calls overlapped a change of their key; the error says what is wrong with the run, which may have been cut short.
+func (r *recording) judged(by *judgeFound, a *area, trouble string) (int, error) {
+	underWay, lines := "", ""
+	if trouble != "" {
+		lines, underWay = a.lines()
+		r.file.Truncate(a.written)
+		r.file.WriteAt([]byte(lines+"cut\n"), a.written)
 	}
-	return fmt.Sprintf("call %d %s %d %d %d %t\n", s.thread, words[s.call], s.key, s.begin, end, s.reply == yes)
-}
-
-func linesOf(word string, there []byte) (lines string) {
-	for key, is := range there {
-		if is == 1 {
-			lines += fmt.Sprintf("%s %d\n", word, key)
-		}
-	}
-	return lines
-}
-
-// write writes the part of a run that was made, the last if there is trouble, and lets the run go on.
-func (r *recording) write(a *area, round int) error {
-	lines, begins := map[uint32]string{}, []uint32{}
-	for i := range a.slots[:a.threads*a.rows()] {
-		s := &a.slots[i]
-		end, begin := atomic.LoadUint32(&s.end), atomic.LoadUint32(&s.begin)
-		if begin > 0 {
-			lines[begin], begins = s.line(end), append(begins, begin)
-			if end == 0 {
-				r.underWay += s.line(0)
-			}
-		}
-	}
-	sort.Slice(begins, func(i, j int) bool { return begins[i] < begins[j] })
-	var text strings.Builder
-	if round == 1 {
-		text.WriteString("listset-calls 1\n" + linesOf("opening", a.opening))
-	}
-	for _, begin := range begins {
-		text.WriteString(lines[begin])
-	}
-	if r.trouble != "" {
-		text.WriteString("cut\n")
-	} else if round == a.rounds() {
-		text.WriteString(linesOf("key", a.left) + "end\n")
-	} else {
-		for i := range a.slots {
-			a.slots[i] = slot{}
-		}
-		atomic.StoreUint32(&a.at, going)
-	}
-	io.WriteString(r.asked, text.String()) // (one that has ended reads no further)
-	_, err := r.file.WriteString(text.String())
-	return err
-}
-
-// judged is how many calls overlapped a change of their key, by the judge; the error says what is wrong with the run.
-func (r *recording) judged(a *area) (int, error) {
-	overlapped, refused, err := r.by.judged(r.asked.answer())
-	if err != nil || refused == "" && r.trouble == "" {
+	overlapped, refused, err := by.judged(r.file)
+	if err != nil || refused == "" && trouble == "" {
 		return overlapped, err
 	}
 	r.isKept = true
-	said := sayExplained
+	failed := Failed{r.seed, r.name, sayExplained, r.file.Name(), by.String()}
 	if refused != "" {
-		said = refused.explained(r.file.Name()) + keyLine(a, refused.key())
+		failed.Said = refused.explained(r.file.Name()) + keyLine(a, refused.key())
 	}
-	if r.trouble == "" {
-		return 0, &NotLinearizable{Failed{r.seed, r.name, said, r.file.Name(), r.by.String()}, refused}
+	if trouble == "" {
+		return 0, &NotLinearizable{failed, refused}
 	}
-	said = fmt.Sprintf(sayUnderWay, r.trouble, r.underWay, said)
-	return 0, &NotEnded{Failed{r.seed, r.name, said, r.file.Name(), r.by.String()}}
+	failed.Said = fmt.Sprintf(sayUnderWay, trouble, underWay, failed.Said)
+	return 0, &CutShort{failed}
 }
 
 // keyLine tells which key of which set has this number in the recording, if the number does not say so.
@@ -235,16 +179,10 @@ func pictureOf(calls [][]string) string {
 
 // ---- the judge
 
-// judgeFound is the judge underneath: its name, what it says of its proof, and how it is asked.
+// judgeFound is the judge underneath: its name, what it says of its proof, and what it says of a recording.
 type judgeFound struct {
 	name, proof string
-	ask         func() (asked, error)
-}
-
-// asked is a judge that is given a recording as it grows.
-type asked interface {
-	io.Writer
-	answer() (status int, said string)
+	answer      func(recording *os.File) (status int, said string)
 }
 
 // library is liblistset, in a test with the tag `listset` (library.go).
@@ -256,28 +194,22 @@ func findJudge() (*judgeFound, error) {
 	if library != nil {
 		return library, nil
 	}
-	name, isNamed := os.LookupEnv("LISTSET")
-	if !isNamed {
+	name := os.Getenv("LISTSET")
+	if name == "" {
 		name = "listset"
 	}
 	command := []string{name}
 	if strings.HasSuffix(name, ".js") {
 		command = []string{"node", name}
 	}
-	status, version := 127, ""
-	if asked, err := start(append(command, "--version", "--long"), os.Stderr); err == nil {
-		status, version = asked.answer()
+	status, version := ran(append(command, "--version", "--long"), os.Stderr) // (what it says of a judge that it builds)
+	if status == 127 {
+		return nil, fmt.Errorf(sayNoJudge, name)
 	}
-	switch {
-	case status != 127:
-		ask := func() (asked, error) { return start(append(command, "judge", "-"), nil) }
-		return &judgeFound{name, proofIn(version), ask}, nil
-	case len(command) > 1:
-		return nil, fmt.Errorf(sayNoNode, name)
-	case isNamed:
-		return nil, fmt.Errorf(sayNoNamed, name)
+	ask := func(recording *os.File) (int, string) {
+		return ran(append(command, "judge", recording.Name()), io.Discard)
 	}
-	return nil, errors.New(sayNoJudge)
+	return &judgeFound{name, proofIn(version), ask}, nil
 }
 
 // proofIn is the line in which a judge says whether it is proved.
@@ -288,39 +220,23 @@ func proofIn(version string) string {
 	return "proof unknown"
 }
 
-// program is a command, which is given its input as it grows.
-type program struct {
-	io.WriteCloser
-	made      *exec.Cmd
-	out, errs bytes.Buffer
+// ran is the status of a command, 127 if there is none, and what it said, on its standard error if on its output nothing.
+func ran(words []string, shown io.Writer) (int, string) {
+	var out, errs bytes.Buffer
+	made := exec.Command(words[0], words[1:]...)
+	made.Stdout, made.Stderr = &out, io.MultiWriter(&errs, shown)
+	if err := made.Run(); made.ProcessState == nil {
+		return 127, err.Error()
+	}
+	if out.Len() == 0 {
+		out = errs
+	}
+	return made.ProcessState.ExitCode(), strings.TrimSpace(out.String())
 }
 
-// start starts a command, whose standard error goes there, or is kept.
-func start(words []string, errs io.Writer) (p *program, err error) {
-	p = &program{made: exec.Command(words[0], words[1:]...)}
-	p.made.Stdout, p.made.Stderr = &p.out, &p.errs
-	if errs != nil {
-		p.made.Stderr = errs
-	}
-	if p.WriteCloser, err = p.made.StdinPipe(); err == nil {
-		err = p.made.Start()
-	}
-	return p, err
-}
-
-// answer gives the status of a command, and what it said.
-func (p *program) answer() (int, string) {
-	p.Close()
-	p.made.Wait()
-	said := strings.TrimSpace(p.out.String())
-	if said == "" {
-		said = strings.TrimSpace(p.errs.String())
-	}
-	return p.made.ProcessState.ExitCode(), said
-}
-
-// judged is what a judge's answer says of a recording: how many calls overlapped a change of their key, or why none explains it.
-func (j *judgeFound) judged(status int, said string) (overlapped int, refused refusal, err error) {
+// judged is how many calls of a recording overlapped a change of their key, or why no order explains it.
+func (j *judgeFound) judged(recording *os.File) (overlapped int, refused refusal, err error) {
+	status, said := j.answer(recording)
 	if _, err := fmt.Sscanf(said, "ok %d calls\n%d of them", new(int), &overlapped); status == 0 && err == nil {
 		return overlapped, "", nil
 	}

@@ -4,7 +4,7 @@ package judge
 // made of words.json
 var presets = []shape{{"few keys", size{4, 1, 2500, 4, 1}}, {"fresh sets", size{4, 40, 10, 4, 1}}, {"multiples of 64", size{4, 1, 2500, 8, 64}}, {"one key", size{3, 1, 2500, 1, 1}}, {"sets that grow", size{4, 20, 125, 64, 1}}, {"many keys", size{4, 1, 2500, 1000, 1}}, {"multiples of 1,000", size{8, 1, 1250, 8, 1000}}}
 
-var ranges = []limits{{"threads", 1, 64}, {"threads times calls", 1, 1000000000}, {"keys", 1, 1048576}, {"pauses", 0, 100}, {"runs", 1, 1000000}, {"seconds", 1, 3600}, {"at_least", 0, 100}}
+var ranges = []limits{{"threads", 1, 64}, {"threads times calls", 1, 1000000000}, {"keys", 1, 1048576}, {"pauses", 0, 100}, {"runs", 1, 1000000}, {"seconds", 1, 3600}, {"at_least", 0, 100}, {"the sum of shares", 1, 1000000}}
 
 const (
 	manyPart     = 20000
@@ -39,9 +39,7 @@ const (
 	sayNoMemory  = "there is no memory for the calls of a run"
 	sayNoProcess = "no process could be started for a run: %v"
 	sayNotAgain  = "the test did not come to this judge again in a process of its own: set own_process to false"
-	sayNoNode    = "node is not in PATH, which runs the %v that LISTSET names"
-	sayNoNamed   = "LISTSET names %v, which cannot be run: build listset, and name it there"
-	sayNoJudge   = "there is no listset in PATH: build it, and put it there or name it by LISTSET"
+	sayNoJudge   = "%v cannot be run: build listset, and put it in PATH or name it by LISTSET (node runs a listset.js)"
 	sayNoVerdict = "%v gave no verdict, but said: %v. Take a newer listset"
 )
 

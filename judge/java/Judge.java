@@ -66,7 +66,7 @@ public final class Judge {
 
     // made of words.json by judge/make_words: PART and MEET in calls, PATIENCE in seconds
     private static final Shape[] PRESETS = {new Shape("few keys", 4, 1, 2500, 4, 1), new Shape("fresh sets", 4, 40, 10, 4, 1), new Shape("multiples of 64", 4, 1, 2500, 8, 64), new Shape("one key", 3, 1, 2500, 1, 1), new Shape("sets that grow", 4, 20, 125, 64, 1), new Shape("many keys", 4, 1, 2500, 1000, 1), new Shape("multiples of 1,000", 8, 1, 1250, 8, 1000)};
-    private static final Limits[] RANGES = {new Limits("threads", 1, 64), new Limits("threads times calls", 1, 1000000000), new Limits("keys", 1, 1048576), new Limits("pauses", 0, 100), new Limits("runs", 1, 1000000), new Limits("seconds", 1, 3600), new Limits("at_least", 0, 100)};
+    private static final Limits[] RANGES = {new Limits("threads", 1, 64), new Limits("threads times calls", 1, 1000000000), new Limits("keys", 1, 1048576), new Limits("pauses", 0, 100), new Limits("runs", 1, 1000000), new Limits("seconds", 1, 3600), new Limits("at_least", 0, 100), new Limits("the sum of shares", 1, 1000000)};
     private static final int PART = 20000, LONGEST = 100, HOT = 4, ENOUGH = 5, HARDER = 2, FURTHER = 20, PATIENCE = 3, READABLE = 6, MEET = 250, AWAKE = 300000;
     private static final String OK = "ok: %s calls, of which %s overlapped a change of their key";
     private static final String FEW = "that is few: take more threads, fewer keys or a machine that does less";
@@ -90,9 +90,7 @@ public final class Judge {
     private static final String NO_MEMORY = "there is no memory for the calls of a run";
     private static final String NO_PROCESS = "no process could be started for a run: %s";
     private static final String NOT_AGAIN = "the test did not come to this judge again in a process of its own: set own_process to false";
-    private static final String NO_NODE = "node is not in PATH, which runs the %s that LISTSET names";
-    private static final String NO_NAMED = "LISTSET names %s, which cannot be run: build listset, and name it there";
-    private static final String NO_JUDGE = "there is no listset in PATH: build it, and put it there or name it by LISTSET";
+    private static final String NO_JUDGE = "%s cannot be run: build listset, and put it in PATH or name it by LISTSET (node runs a listset.js)";
     private static final String NO_VERDICT = "%s gave no verdict, but said: %s. Take a newer listset";
     // end of what is made
 
@@ -156,13 +154,12 @@ public final class Judge {
 
         private void check() {
             long t = Math.max(threads, 1), c = Math.max(calls, 1);
-            long[] given = {threads == 0 ? 1 : threads, calls < 0 ? calls : t * c, keys == 0 ? 1 : keys, pauses, runs, seconds, atLeast};
+            long shares = Math.min(adds, Math.min(removes, finds)) < 0 ? -1 : (long) adds + removes + finds;
+            long[] given = {threads == 0 ? 1 : threads, calls < 0 ? calls : t * c, keys == 0 ? 1 : keys, pauses, runs, seconds, atLeast, shares};
             for (int i = 0; i < RANGES.length; i++) {
                 Limits its = RANGES[i];
                 if (given[i] < its.least || given[i] > its.most) throw new NoVerdict(RANGE.formatted(its.name, given[i], its.least, its.most));
             }
-            boolean isMix = adds >= 0 && removes >= 0 && finds >= 0 && adds + removes + finds > 0;
-            if (!isMix) throw new NoVerdict(RANGE.formatted("the sum of shares", adds + removes + finds, 1, 1000));
         }
 
         /** The preset of a seed, with what these options say. */
@@ -224,10 +221,10 @@ public final class Judge {
     }
 
     /** The set ended its JVM, hung or threw in the run, which was judged up to there. */
-    public static final class NotEnded extends Failed {
+    public static final class CutShort extends Failed {
         private static final long serialVersionUID = 1;
 
-        NotEnded(long seed, String name, String said, Path file, Program judge) { super(seed, name, said, file, judge); }
+        CutShort(long seed, String name, String said, Path file, Program judge) { super(seed, name, said, file, judge); }
     }
 
     /** Fewer calls overlapped a change of their key than asked for. */
@@ -335,7 +332,7 @@ public final class Judge {
                     boolean isSmaller = Told.rank(other.refused) < Told.rank(found.refused);
                     drop(isSmaller ? found : other);
                     if (isSmaller) found = other;
-                } catch (NotEnded ended) {
+                } catch (CutShort ended) {
                     drop(ended);
                     break; // (a JVM of its own that has ended makes no further run)
                 }
@@ -754,14 +751,13 @@ public final class Judge {
     /** What a recording has of a part of a run; how this came to no end, or null; and the calls under way. */
     private record Part(String text, String trouble, String underWay) { }
 
-    /** The text of a run: as it grows it is written into a file, and given to the judge. */
+    /** The file into which a run is written as it grows. */
     private static final class Recording implements AutoCloseable {
         private final long seed;
         private final Shape shape;
         private final Program program;
         private final Path folder, file;
         private final Writer to;
-        private final Asked asked;
         private boolean isKept;
 
         Recording(long seed, Shape shape, String record, Program program) {
@@ -777,7 +773,6 @@ public final class Judge {
             } catch (IOException none) {
                 throw unwritten();
             }
-            asked = program.asked("judge", "-");
         }
 
         private NoVerdict unwritten() { return new NoVerdict(NO_FOLDER.formatted(folder)); }
@@ -788,23 +783,22 @@ public final class Judge {
             } catch (IOException full) {
                 throw unwritten();
             }
-            asked.write(text);
         }
 
-        /** How many calls overlapped a change of their key; throws if no order explains them, or the run came to no end. */
+        /** How many calls overlapped a change of their key; throws if no order explains them, or the run was cut short. */
         long judged(String trouble, Calls<?, ?> calls) {
-            Judgement judged = program.judged(asked.answer());
+            flush();
+            Judgement judged = program.judged(file);
             if (trouble == null && judged.refused == null) return judged.overlapped;
             isKept = true;
-            String said = judged.refused == null ? EXPLAINED : Told.explained(judged.refused, written()) + keyLine(judged.refused, calls);
-            if (trouble != null) throw new NotEnded(seed, shape.name, trouble.formatted(said), file, program);
+            String said = judged.refused == null ? EXPLAINED : Told.explained(judged.refused, file) + keyLine(judged.refused, calls);
+            if (trouble != null) throw new CutShort(seed, shape.name, trouble.formatted(said), file, program);
             throw new NotLinearizable(seed, shape.name, said, judged.refused, file, program);
         }
 
-        private String written() {
+        private void flush() {
             try {
                 to.flush();
-                return Files.readString(file);
             } catch (IOException full) {
                 throw unwritten();
             }
@@ -820,7 +814,6 @@ public final class Judge {
         }
 
         @Override public void close() {
-            asked.process.destroy();
             try {
                 to.close();
             } catch (IOException full) {
@@ -849,14 +842,20 @@ public final class Judge {
         static long rank(String refused) { return callsIn(refused) > 1 ? callsIn(refused) : 999; }
 
         /** What the judge says, with a picture; or, in place of many calls, what their count shows. */
-        static String explained(String refused, String recorded) {
-            String counted = callsIn(refused) > READABLE ? countOf(recorded, "" + keyIn(refused)) : "";
+        static String explained(String refused, Path file) {
+            String counted = callsIn(refused) > READABLE ? countOf(file, "" + keyIn(refused)) : "";
             if (!counted.isEmpty()) return String.join("\n", refused.lines().limit(2).toList()) + "\n" + counted;
             return refused + pictureOf(CALL.matcher(refused).results().toList());
         }
 
         /** That the calls of a key that answered true do not fit to how it was; else nothing. */
-        private static String countOf(String recorded, String key) {
+        private static String countOf(Path file, String key) {
+            String recorded;
+            try {
+                recorded = Files.readString(file);
+            } catch (IOException gone) {
+                return "";
+            }
             List<MatchResult> calls = CALL.matcher(recorded).results().filter(it -> it.group(3).equals(key)).toList();
             long adds = calls.stream().filter(it -> it.group(2).equals("add") && it.group(6).equals("true")).count();
             long removes = calls.stream().filter(it -> it.group(2).equals("remove") && it.group(6).equals("true")).count();
@@ -905,32 +904,7 @@ public final class Judge {
     }
 
     /** The status of a command, and what it said. */
-    private record Answer(int status, String said) { }
-
-    /** A command, which is given its input as it grows. */
-    private record Asked(Process process) {
-        void write(String text) {
-            try {
-                process.getOutputStream().write(text.getBytes(StandardCharsets.US_ASCII));
-            } catch (IOException ended) {
-                // (one that has ended reads no further)
-            }
-        }
-
-        Answer answer() {
-            try {
-                try {
-                    process.getOutputStream().close();
-                } catch (IOException ended) {
-                    // (the same)
-                }
-                String said = new String(process.getInputStream().readAllBytes()).strip(), errors = new String(process.getErrorStream().readAllBytes()).strip();
-                return new Answer(process.waitFor(), said.isEmpty() ? errors : said);
-            } catch (IOException | InterruptedException why) {
-                throw new NoVerdict("the judge could not be asked: ", why);
-            }
-        }
-    }
+    private record Answer(String said, int status) { }
 
     /** The program that judges: its name, the command to which words are added, and what it says of its proof. It prints itself. */
     private record Program(String name, List<String> command, String proof) {
@@ -938,25 +912,30 @@ public final class Judge {
 
         static Program found() {
             String named = System.getenv("LISTSET"), name = named == null ? "listset" : named;
-            boolean isScript = name.endsWith(".js");
-            Program asked = new Program(name, isScript ? List.of("node", name) : List.of(name), "");
-            String proof = asked.asked("--version", "--long").answer().said.lines().filter(it -> it.startsWith("proof ")).findFirst().orElse("proof unknown");
-            return new Program(name, asked.command, proof);
+            Program asked = new Program(name, name.endsWith(".js") ? List.of("node", name) : List.of(name), "");
+            String version = asked.answer("--version", "--long").said;
+            return new Program(name, asked.command, version.lines().filter(it -> it.startsWith("proof ")).findFirst().orElse("proof unknown"));
         }
 
-        Asked asked(String... words) {
+        private Answer answer(String... words) {
             List<String> all = new ArrayList<>(command);
             all.addAll(List.of(words));
+            ProcessBuilder made = new ProcessBuilder(all);
+            if (words[0].equals("--version")) made.redirectError(ProcessBuilder.Redirect.INHERIT); // (what it says of a judge that it builds)
             try {
-                ProcessBuilder made = new ProcessBuilder(all);
-                boolean isVersion = all.contains("--version"); // (what it says of a judge that it builds is for the user's eyes)
-                return new Asked((isVersion ? made.redirectError(ProcessBuilder.Redirect.INHERIT) : made).start());
+                Process process = made.start();
+                process.getOutputStream().close();
+                String said = new String(process.getInputStream().readAllBytes()), errors = new String(process.getErrorStream().readAllBytes());
+                return new Answer((said.isEmpty() ? errors : said).strip(), process.waitFor());
             } catch (IOException none) {
-                throw new NoVerdict(command.size() > 1 ? NO_NODE.formatted(name) : System.getenv("LISTSET") != null ? NO_NAMED.formatted(name) : NO_JUDGE);
+                throw new NoVerdict(NO_JUDGE.formatted(name));
+            } catch (InterruptedException why) {
+                throw new NoVerdict("the test was interrupted: ", why);
             }
         }
 
-        Judgement judged(Answer answer) {
+        Judgement judged(Path recording) {
+            Answer answer = answer("judge", recording.toString());
             Matcher ok = Judgement.OK.matcher(answer.said);
             if (answer.status == 0 && ok.matches()) return new Judgement(null, Long.parseLong(ok.group(1)));
             if (answer.status == 1 && answer.said.startsWith("not linearizable")) return new Judgement(answer.said, 0);

@@ -13,10 +13,8 @@ crashes or hangs is judged up to there.
 from __future__ import annotations
 
 import collections
-import contextlib
 import ctypes
 import dataclasses
-import functools
 import itertools
 import mmap
 import os
@@ -33,11 +31,12 @@ import time
 import warnings
 from typing import Any, Callable
 
-__all__ = ["Failed", "NoVerdict", "NotEnded", "NotLinearizable", "TooFew", "Verdict", "judge"]
+__all__ = ["CutShort", "Failed", "NoVerdict", "NotLinearizable", "TooFew", "Verdict", "judge"]
 
-GOING, RESTING, STOPPING, ENDED = range(4)
+GOING, ENDED, UNMADE = range(3)
 WORDS = ADD, REMOVE, CONTAINS = "add", "remove", "contains"
 NO, YES, UNKNOWN = range(3)
+FIRST_LINE = "listset-calls 1\n"
 OVERLAPPED = re.compile("ok [0-9]+ calls\n([0-9]+) of them")
 OF_KEY = re.compile("of key ([0-9]+) ")
 CALL = re.compile("call ([0-9]+) ([a-z]+) ([0-9]+) ([0-9]+) ([0-9]+|-) ([a-z]+|-)", re.M)
@@ -63,6 +62,7 @@ RANGES = (
     ("runs", 1, 1000000),
     ("seconds", 1, 3600),
     ("at_least", 0, 100),
+    ("the sum of shares", 1, 1000000),
 )
 PART, LONGEST, HOT, ENOUGH, HARDER, FURTHER, PATIENCE, READABLE, MEET, AWAKE, SLOW = 20000, 100, 4, 5, 2, 20, 3, 6, 250, 300000, 5
 OK = "ok: %s calls, of which %s overlapped a change of their key"
@@ -87,9 +87,7 @@ NO_FOLDER = "no file can be written in %s: name another folder by record"
 NO_MEMORY = "there is no memory for the calls of a run"
 NO_PROCESS = "no process could be started for a run: %s"
 NOT_AGAIN = "the test did not come to this judge again in a process of its own: set own_process to false"
-NO_NODE = "node is not in PATH, which runs the %s that LISTSET names"
-NO_NAMED = "LISTSET names %s, which cannot be run: build listset, and name it there"
-NO_JUDGE = "there is no listset in PATH: build it, and put it there or name it by LISTSET"
+NO_JUDGE = "%s cannot be run: build listset, and put it in PATH or name it by LISTSET (node runs a listset.js)"
 NO_VERDICT = "%s gave no verdict, but said: %s. Take a newer listset"
 # end of what is made
 
@@ -124,7 +122,7 @@ class NotLinearizable(Failed):
     """No order explains the run."""
 
 
-class NotEnded(Failed):
+class CutShort(Failed):
     """The set crashed, hung or raised in the run, which was judged up to there."""
 
 
@@ -155,12 +153,11 @@ class Options:
     def check(self) -> None:
         first = [1 if it is None else it for it in (self.threads, self.calls, self.keys)]
         all_calls = first[0] * first[1] if all(isinstance(it, int) for it in first) else 1
-        given = (first[0], all_calls, first[2], self.pauses, self.runs, self.seconds, self.at_least)
+        shares = sum(self.shares) if min(self.shares) >= 0 else min(self.shares)
+        given = (first[0], all_calls, first[2], self.pauses, self.runs, self.seconds, self.at_least, shares)
         for (name, least, most), it in zip(RANGES, given):
             if not (isinstance(it, int) and least <= it <= most):
                 raise NoVerdict(RANGE % (name, it, least, most))
-        if min(self.shares) < 0 or not sum(self.shares):
-            raise NoVerdict(RANGE % ("adds plus removes plus finds", sum(self.shares), 1, 1000))
 
     def shape_of(self, seed: int) -> Shape:
         """The preset of a seed, with what these options say."""
@@ -192,7 +189,7 @@ def judge(make: Callable[[], Any], *, threads: int | None = None, calls: int | N
           key: Callable[[int], Any] | None = None, pauses: int = 20, runs: int = 20, seed: int = 1, seconds: int = 10, at_least: int = 0,
           adds: int = 1, removes: int = 1, finds: int = 1, own_process: bool = True, opens_with_keys: bool = False,
           record: str | os.PathLike | None = None) -> Verdict:
-    """The Verdict of so many sets that `make` makes; raises NotLinearizable of a run that no order explains, and NotEnded of one that
+    """The Verdict of so many sets that `make` makes; raises NotLinearizable of a run that no order explains, and CutShort of one that
     crashes or hangs.
 
     threads -- that call a set at once: 1 to 64; by the presets of runs, in turn, where it is left out, as the next two
@@ -245,23 +242,18 @@ class Tester:
         self.make, self.how, self.by = make, how, Judge()
 
     def judged_run(self, seed: int, shape: Shape) -> Outcome:
-        run = Run(self.make, self.how, shape, seed)
         is_own = self.how.own_process and hasattr(os, "fork") and threading.active_count() == 1
-        with Recording(seed, self.by, self.how.record) as recording:
-            with contextlib.closing(run.in_child() if is_own else run.in_this()) as parts:
-                for trouble in parts:
-                    run.read(trouble)
-                    recording.write(run.text())
-                    if run.trouble:
-                        break
-            overlapped, refused = recording.judged()
-            recording.is_kept |= bool(run.trouble or refused)
+        self.how.check_keys(shape)
+        with Recording(seed, self.how.record) as recording:
+            run = Run(self.make, self.how, shape, seed, recording.file)
+            trouble, under_way = run.ended(run.in_child() if is_own else run.in_this())
+            overlapped, refused = self.by.judged(recording.file)
+            recording.is_kept |= bool(trouble or refused)
         said = explained(refused, recording.file) + run.key_line(refused) if refused else ""
         failed = NotLinearizable(seed, shape.name, said, recording.file, self.by) if refused else None
-        if run.trouble:
-            under_way = "".join(f"{line_of(it)}\n" for it in run.rows if not it.end and it.reply != UNKNOWN)
-            said = UNDER_WAY % (run.trouble, under_way, said or EXPLAINED)
-            refused, failed = "", NotEnded(seed, shape.name, said, recording.file, self.by)
+        if trouble:
+            said = UNDER_WAY % (trouble, under_way, said or EXPLAINED)
+            refused, failed = "", CutShort(seed, shape.name, said, recording.file, self.by)
         return Outcome(seed, shape.threads * shape.sets * shape.calls, overlapped, refused, failed)
 
     def smallest(self, found: Outcome) -> Outcome:
@@ -325,34 +317,26 @@ def picture_of(calls: list) -> list[str]:
 
 
 class Recording:
-    """The text of a run: as it grows it is written into a file, and given to the judge."""
+    """The file into which a run is written as it grows."""
 
-    def __init__(self, seed, by, record):
+    def __init__(self, seed, record):
         self.is_kept, folder = record is not None, pathlib.Path(record or tempfile.gettempdir())
         try:
             folder.mkdir(parents=True, exist_ok=True)
             if self.is_kept:
-                self.to = open(folder / f"seed-{seed}.calls", "w")
+                self.file = folder / f"seed-{seed}.calls"
+                self.file.write_text("")
             else:
-                self.to = tempfile.NamedTemporaryFile("w", prefix=f"listset-seed-{seed}-", suffix=".calls", dir=folder, delete=False)
+                number, name = tempfile.mkstemp(".calls", f"listset-seed-{seed}-", folder)
+                os.close(number)
+                self.file = pathlib.Path(name)
         except OSError:
             raise NoVerdict(NO_FOLDER % folder) from None
-        self.file, self.by, self.asked = pathlib.Path(self.to.name), by, by.ask()
 
     def __enter__(self):
         return self
 
-    def write(self, text):
-        self.to.write(text)
-        self.asked.write(text)
-
-    def judged(self):
-        self.to.close()
-        return self.by.judged(*self.asked.answer())
-
     def __exit__(self, *_):
-        self.to.close()
-        self.asked.end()
         if not self.is_kept:
             self.file.unlink()
 
@@ -361,22 +345,19 @@ class Recording:
 
 
 class Run:
-    """The calls of sets in parts, of which `rows` has the last by their begins. They are written down as the run goes, in memory that
-    a process of its own shares with this one."""
+    """The calls of sets. They are written down as the run goes, in memory that a process of its own shares with this one, and part by
+    part into the file."""
 
-    SLOT, COUNT = struct.Struct("=IIIIBB"), struct.Struct("=I")  # of a call: begin, end or 0, thread, key, word, reply; how far a thread is
+    SLOT, COUNT = struct.Struct("=IIIIBB"), struct.Struct("=Q")  # of a call: begin, end or 0, thread, key, word, reply; how far a thread is
     WHY = 240  # the bytes of what was raised
 
-    def __init__(self, make, how, shape, seed):
-        self.make, self.how, self.shape, self.seed = make, how, shape, seed
-        how.check_keys(shape)
+    def __init__(self, make, how, shape, seed, file):
+        self.make, self.how, self.shape, self.seed, self.file = make, how, shape, seed, file
         self.tickets, self.there = itertools.count(1), threading.Barrier(shape.threads + 1)
         self.most = min(shape.calls, PART // shape.threads)  # of each thread the most calls of a part
-        self.parts, self.round = -(-shape.calls // self.most), 0  # of a set; the round that was read last
-        # what was raised; whether it goes on; how far each thread is, and the looks; of each key of each set whether it was there at
-        # first, and at the end; the calls
-        self.at_keys = self.WHY + 1 + (shape.threads + 1) * self.COUNT.size
-        self.at_slots = self.at_keys + 2 * shape.keys * shape.sets
+        self.parts = -(-shape.calls // self.most)  # of a set
+        # what was raised; whether it goes on; how far each thread is, the looks, and the file; the calls
+        self.at_slots = self.WHY + 1 + (shape.threads + 2) * self.COUNT.size
         self.slots = mmap.mmap(-1, self.at_slots + shape.threads * self.most * self.SLOT.size)
 
     @property
@@ -386,11 +367,17 @@ class Run:
     def count(self, at, number):
         self.COUNT.pack_into(self.slots, self.WHY + 1 + at * self.COUNT.size, number)
 
-    def fail(self, said):
+    @property
+    def written(self):
+        """The bytes of the file."""
+        return self.COUNT.unpack_from(self.slots, self.at_slots - self.COUNT.size)[0]
+
+    def fail(self, said, at=GOING):
         """Writes down what was raised; the first stays."""
         if not self.slots[0]:
             said = said.encode()[: self.WHY]
             self.slots[: len(said)] = said
+            self.at = at
 
     @property
     def at(self):
@@ -416,10 +403,10 @@ class Run:
         finally:
             sys.setswitchinterval(before)
         self.set = self.replies_of = None  # (it may go wrong at its end)
-        self.at = ENDED
+        self.at = self.at or ENDED
 
     def in_child(self):
-        """Has the run made in a process of its own; gives, of each part in turn, how it came to no end, if it did not."""
+        """Has the run made in a process of its own; gives how it was cut short, if it was."""
         child, status = os.fork(), []
         if child == 0:
             try:
@@ -433,8 +420,7 @@ class Run:
             return status.append(found) or True if pid else False
 
         try:
-            for trouble in self.made(has_ended):
-                yield trouble or self.crash(status)
+            return self.hung(has_ended) or self.crash(status)
         finally:
             if not status:
                 os.kill(child, signal.SIGKILL)
@@ -445,17 +431,27 @@ class Run:
         caller = threading.Thread(target=self.made_and_called, daemon=True)
         caller.start()
         try:
-            yield from self.made(lambda: not caller.is_alive())
+            return self.hung(lambda: not caller.is_alive())
         finally:
-            self.at = STOPPING
+            self.there.abort()
 
-    def made(self, has_ended):
-        """Lets the parts be made; gives, of each in turn, whether it hung."""
-        for one in range(self.rounds):
-            if one:
-                self.slots[self.at_slots :] = bytes(len(self.slots) - self.at_slots)
-                self.at = GOING
-            yield "" if self.comes_to_end(lambda: self.at == RESTING or has_ended()) else HUNG % self.how.seconds
+    def hung(self, has_ended):
+        return "" if self.comes_to_end(has_ended) else HUNG % self.how.seconds
+
+    def ended(self, trouble):
+        """How the run was cut short, and the calls under way, if it was: then its last calls are written here."""
+        why = self.slots[: self.WHY].rstrip(b"\0").decode(errors="replace")
+        if self.at == UNMADE:
+            raise NoVerdict(why)
+        rows, trouble = self.rows(), why or trouble
+        if not trouble:
+            return "", ""
+        if not rows and not why and self.written <= len(FIRST_LINE):
+            raise NoVerdict(NOT_MADE % trouble)
+        os.truncate(self.file, self.written)
+        with open(self.file, "a") as file:
+            file.write("".join(map(line_of, rows)) + "cut\n")
+        return trouble, "".join(line_of(it) for it in rows if not it.end and it.reply != UNKNOWN)
 
     def crash(self, status):
         """How the process of the run ended, if it was too soon or went wrong."""
@@ -464,7 +460,7 @@ class Run:
         if os.WIFSIGNALED(status[0]):
             return CRASHED % signal.Signals(os.WTERMSIG(status[0])).name
         ended = os.WEXITSTATUS(status[0])  # (not 0 if the set ended its process while it was deleted)
-        return ENDED_SO % ended if ended or self.at != ENDED else ""
+        return ENDED_SO % ended if ended or self.at == GOING and not self.slots[0] else ""
 
     def comes_to_end(self, is_done):
         """Waits until it is done; False if no call begins or ends for too long before that."""
@@ -480,28 +476,42 @@ class Run:
 
     def moved(self):
         """What changes as long as the run goes on."""
-        return self.slots[self.WHY : self.at_keys]
+        return self.slots[self.WHY : self.at_slots]
 
     def lead(self):
-        """Makes each set and has the threads call it; rests after each part until it has been read."""
-        keys = self.shape.keys
+        """Makes each set and has the threads call it; writes each part once it is made."""
+        left = []
         try:
-            for one in range(self.rounds):
-                if one and not self.goes_on():
-                    return
-                of_set = self.at_keys + one // self.parts * keys
-                if one % self.parts == 0:
-                    self.make_set()
-                    if self.how.opens_with_keys:
-                        self.look_up(of_set)
-                self.there.wait()  # none begins before all are there
-                self.there.wait()
-                if (one + 1) % self.parts == 0:
-                    self.look_up(of_set + self.shape.sets * keys)
+            with open(self.file, "wb", 0) as file:
+                self.write(file, [FIRST_LINE])
+                for one in range(self.rounds):
+                    if one % self.parts == 0:
+                        self.make_set()
+                        if self.how.opens_with_keys:
+                            self.write(file, self.lines_of_keys("opening", one))
+                    self.there.wait()  # none begins before all are there
+                    self.there.wait()
+                    if (one + 1) % self.parts == 0:
+                        left += self.lines_of_keys("key", one)
+                    rows = self.rows()
+                    self.check_replies(rows)
+                    self.write(file, map(line_of, rows))
+                self.write(file, [*left, "end\n"])
         except threading.BrokenBarrierError:
             pass
         finally:
             self.there.abort()
+
+    def write(self, file, lines):
+        text = "".join(lines).encode()
+        file.write(text)
+        self.count(self.shape.threads + 1, self.written + len(text))
+        self.slots[self.at_slots :] = bytes(len(self.slots) - self.at_slots)
+
+    def check_replies(self, rows):
+        for word in (ADD, REMOVE):
+            if {it.reply for it in rows if it.call == word and (it.end or it.reply == UNKNOWN)} == {UNKNOWN}:
+                self.fail(f"each {word} answered None, and has to answer True or False", UNMADE)
 
     def make_set(self):
         self.set = self.replies_of = None
@@ -509,19 +519,17 @@ class Run:
             made = self.set = self.make()
             self.replies_of = made.add, made.remove, made.contains if hasattr(made, CONTAINS) else made.__contains__
         except Exception as why:
-            self.fail(NOT_MADE % why)
+            self.fail(NOT_MADE % why, UNMADE)
             raise
 
-    def goes_on(self):
-        self.at = RESTING
-        while self.at == RESTING:
-            time.sleep(0.0005)
-        return self.at == GOING
-
-    def look_up(self, to):
+    def lines_of_keys(self, word, one):
+        """Those of the keys that the set of a round has."""
+        first, lines = one // self.parts * self.shape.keys, []
         for number in range(self.shape.keys):
-            self.slots[to + number] = bool(self.replies_of[2](self.how.key_of(number, self.shape)))
-            self.count(self.shape.threads, to + number)
+            if self.replies_of[2](self.how.key_of(number, self.shape)):
+                lines.append(f"{word} {first + number}\n")
+            self.count(self.shape.threads, first + number)
+        return lines
 
     def call_in_rounds(self, thread):
         """The calls of one thread."""
@@ -561,34 +569,14 @@ class Run:
                 sys.settrace(before)
         return number
 
-    def read(self, trouble):
-        """Takes in what was written down."""
-        why = self.slots[: self.WHY].rstrip(b"\0").decode(errors="replace")
-        self.trouble, self.rows, self.round = why or trouble, [], self.round + 1
-        if self.trouble and not why.startswith(THREW % "") and not self.slots[self.at_slots]:
-            raise NoVerdict(why if why.startswith(NOT_MADE % "") else NOT_MADE % self.trouble)
+    def rows(self):
+        """The calls since those in the file, by their begins."""
+        rows = []
         for at in range(self.shape.threads * self.most):
             begin, end, thread, key, word, reply = self.SLOT.unpack_from(self.slots, self.at_slots + at * self.SLOT.size)
             if begin:
-                self.rows.append(Call(begin, 0 if reply == UNKNOWN else end, thread, WORDS[word], key, reply))
-        self.rows.sort()
-        for word in (ADD, REMOVE):
-            replies = {it.reply for it in self.rows if it.call == word and (it.end or it.reply == UNKNOWN)}
-            if replies == {UNKNOWN}:
-                raise NoVerdict(f"each {word} answered None, and has to answer True or False")
-
-    def text(self):
-        """What the recording has of this part."""
-        first, last = self.round == 1, self.trouble or self.round == self.rounds
-        lines = ["listset-calls 1", *self.lines_of_keys("opening", 0)] if first else []
-        lines += map(line_of, self.rows)
-        if last:
-            lines += ["cut"] if self.trouble else [*self.lines_of_keys("key", 1), "end"]
-        return "".join(f"{it}\n" for it in lines)
-
-    def lines_of_keys(self, word, is_left):
-        keys = self.shape.keys * self.shape.sets
-        return (f"{word} {key}" for key in range(keys) if self.slots[self.at_keys + is_left * keys + key])
+                rows.append(Call(begin, 0 if reply == UNKNOWN else end, thread, WORDS[word], key, reply))
+        return sorted(rows)
 
     def key_line(self, refused):
         """Which key of which set it is that the judge names, if its number does not say so."""
@@ -605,7 +593,7 @@ def end_with_parent():
 
 
 def line_of(it):
-    return f"call {it.thread} {it.call} {it.key} {it.begin} {f'{it.end} {str(it.reply == YES).lower()}' if it.end else '- -'}"
+    return f"call {it.thread} {it.call} {it.key} {it.begin} {f'{it.end} {str(it.reply == YES).lower()}' if it.end else '- -'}\n"
 
 
 def pausing(pauses, draw, before):
@@ -638,71 +626,41 @@ class Judge:
         try:
             import listset
 
-            self.name, self.ask, version = "liblistset", functools.partial(Library, listset.said), listset.version()
+            self.name, self.answer, version = "liblistset", listset.judge_file, listset.version()
         except (ImportError, AttributeError):
-            self.name, self.ask, version = program()
+            self.name, words, version = program()
+            self.answer = lambda file: said([*words, "judge", file], subprocess.PIPE)
         self.proof = next((it for it in version.splitlines() if it.startswith("proof ")), "proof unknown")
 
     def __str__(self):
         return f"{self.name}, {self.proof}"
 
-    def judged(self, status, said):
+    def judged(self, file):
         """How many calls of a recording overlapped a change of their key, and nothing; or 0, and what the judge says if no order explains
         it."""
-        met = OVERLAPPED.match(said)
+        text, status = self.answer(file)
+        met = OVERLAPPED.match(text)
         if status == 0 and met:
             return int(met[1]), ""
-        if status == 1 and said.startswith("not linearizable"):
-            return 0, said
-        raise NoVerdict(NO_VERDICT % (self.name, said.partition("\n")[0] or "nothing"))
+        if status == 1 and text.startswith("not linearizable"):
+            return 0, text.strip()
+        raise NoVerdict(NO_VERDICT % (self.name, text.partition("\n")[0] or "nothing"))
 
 
-class Library:
-    """The library, which is given a recording at its end."""
-
-    def __init__(self, said):
-        self.said, self.text = said, []
-
-    def write(self, text):
-        self.text.append(text)
-
-    def answer(self):
-        answer, status = self.said("judge", "".join(self.text).encode())
-        return status, answer.decode(errors="replace").strip()
-
-    def end(self):
-        pass
-
-
-class Program:
-    """A program, which reads a recording as it grows. (What `--version` says of a judge that it builds is for the user's eyes.)"""
-
-    def __init__(self, words):
-        errors = None if "--version" in words else subprocess.PIPE
-        self.process = subprocess.Popen(words, stdin=subprocess.PIPE, stdout=subprocess.PIPE, stderr=errors, text=True)
-
-    def write(self, text):
-        with contextlib.suppress(BrokenPipeError):  # (one that has ended reads no further)
-            self.process.stdin.write(text)
-
-    def answer(self):
-        said, errors = self.process.communicate()
-        return self.process.returncode, (said or errors or "").strip()
-
-    def end(self):
-        self.process.kill()
-        self.process.communicate()
+def said(words, errors=None):
+    """What a command says, and its status."""
+    done = subprocess.run(words, stdin=subprocess.DEVNULL, stdout=subprocess.PIPE, stderr=errors)
+    return (done.stdout or done.stderr or b"").decode(errors="replace"), done.returncode
 
 
 def program():
-    """The name of the program, how it is asked, and what it says of its version."""
-    named = os.environ.get("LISTSET")
-    name = named or "listset"
+    """The name of the program, the words that run it, and what it says of its version."""
+    name = os.environ.get("LISTSET") or "listset"
     words = ["node", name] if name.endswith(".js") else [name]
     try:
-        status, version = Program([*words, "--version", "--long"]).answer()
+        version, status = said([*words, "--version", "--long"])  # (what it says of a judge that it builds is for the user's eyes)
     except OSError:
         status = 127
     if status != 127:
-        return name, functools.partial(Program, [*words, "judge", "-"]), version
-    raise NoVerdict(NO_NODE % name if len(words) > 1 else NO_NAMED % named if named else NO_JUDGE)
+        return name, words, version
+    raise NoVerdict(NO_JUDGE % name)

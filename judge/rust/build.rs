@@ -15,8 +15,8 @@ fn main() {
     assert!(found.is_some() || places.len() > 1, "LISTSET_LIB names {}, where no liblistset.a is", places[0].display());
     let Some(found) = found else { return };
     let library = found.join("liblistset.a");
-    let is_new = fs::read(&library).unwrap_or_default().windows(13).any(|it| it == b"listset_judge");
-    assert!(is_new, "{} has no function listset_judge: take a newer one", library.display());
+    let is_new = fs::read(&library).unwrap_or_default().windows(18).any(|it| it == b"listset_judge_from");
+    assert!(is_new, "{} has no function listset_judge_from: take a newer one", library.display());
     println!("cargo:rerun-if-changed={}", library.display());
     println!("cargo:rustc-link-search=native={}", found.display());
     println!("cargo:rustc-link-lib=static=listset");

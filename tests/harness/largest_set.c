@@ -17,7 +17,7 @@ static void expect(int kind, const char *what, size_t found, size_t due) {
 
 // Falling keys, each of which comes right behind the head.
 static void fill(int kind, listset_seat *seat, uint32_t first) {
-  for (uint32_t number = QUOTA; number > 0; number--) expect(kind, "add", listset_add(seat, first + number - 1), LISTSET_TRUE);
+  for (uint32_t number = QUOTA; number > 0; number--) expect(kind, "add", listset_add(seat, first + number - 1).is, LISTSET_TRUE);
 }
 
 // Takes all other seats out of the first, fills each, and takes it in again: once a seat has gathered another, none is split off it.
@@ -37,10 +37,10 @@ static void trial(int kind) {
   for (uint32_t number = 0; number < OPENING; number++) keys[number] = 2 * MOST + number;
   expect(kind, "open", listset_open(kind, SEATS, QUOTA, 1, keys, OPENING, &seat), LISTSET_OK);
   fill_all(kind, &seat);
-  expect(kind, "contains", listset_contains(&seat, last), LISTSET_TRUE);
-  expect(kind, "ceiling", listset_ceiling(&seat, last, &at), LISTSET_AT);
+  expect(kind, "contains", listset_contains(&seat, last).is, LISTSET_TRUE);
+  expect(kind, "ceiling", listset_ceiling(&seat, last, &at).is, LISTSET_AT);
   expect(kind, "of the last", at, last);
-  expect(kind, "add past all", listset_add(&seat, UINT32_MAX), LISTSET_FULL);
+  expect(kind, "add past all", listset_add(&seat, UINT32_MAX).is, LISTSET_FULL);
   expect(kind, "close", listset_close(&seat), LISTSET_OK);
   expect(kind, "keys", listset_keys(&seat, keys, MOST), MOST);
   expect(kind, "the last of them", keys[MOST - 1], last);

@@ -100,7 +100,7 @@ int main() {
     try {
         auto verdict = judged(std::getenv("SET"), how_of(words));
         bool is_refused = verdict.said.rfind("not linearizable", 0) == 0, is_few = verdict.file.empty();
-        std::cout << "verdict: " << (verdict ? "ok" : is_refused ? "refused" : is_few ? "too few" : "not ended") << "\n" << verdict << "\n";
+        std::cout << "verdict: " << (verdict ? "ok" : is_refused ? "refused" : is_few ? "too few" : "cut short") << "\n" << verdict << "\n";
     } catch (const listset::no_verdict &why) {
         std::cout << "verdict: none\n" << why.what() << "\n";
     }

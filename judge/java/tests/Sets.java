@@ -112,7 +112,7 @@ final class Sets {
         try {
             text = judged(System.getenv("SET"), howOf(System.getenv("HOW"))).toString();
         } catch (Judge.Failed | Judge.TooFew | Judge.NoVerdict why) {
-            kind = why instanceof Judge.NotLinearizable ? "refused" : why instanceof Judge.NotEnded ? "not ended" : why instanceof Judge.TooFew ? "too few" : "none";
+            kind = why instanceof Judge.NotLinearizable ? "refused" : why instanceof Judge.CutShort ? "cut short" : why instanceof Judge.TooFew ? "too few" : "none";
             text = why.getMessage();
         }
         System.out.println("verdict: " + kind + "\n" + text);

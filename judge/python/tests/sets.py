@@ -87,7 +87,7 @@ def fails():
 
 STOPS = {"hangs": lambda: time.sleep(1 << 20), "crashes": os.abort, "crashes late": os.abort, "exits": lambda: os._exit(3), "throws": fails}
 KEYS = {"texts": lambda number: f"key {number}", "twice": lambda number: f"key {number // 2}"}
-KINDS = {listset_judge.NotLinearizable: "refused", listset_judge.NotEnded: "not ended", listset_judge.TooFew: "too few", listset_judge.NoVerdict: "none"}
+KINDS = {listset_judge.NotLinearizable: "refused", listset_judge.CutShort: "cut short", listset_judge.TooFew: "too few", listset_judge.NoVerdict: "none"}
 
 
 def judged(name, how):

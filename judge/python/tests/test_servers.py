@@ -19,7 +19,7 @@ import listset_judge
 import listset_servers
 
 FEW = {"threads": 4, "calls": 250, "keys": 4, "runs": 4, "pauses": 0}
-SESSIONS = FEW["runs"] * (FEW["threads"] + 1)
+SESSIONS = 3 * FEW["runs"] * (FEW["threads"] + 1)  # (a run whose calls did not meet is made again, up to twice)
 SECONDS = 30  # until a server listens, or ends
 
 
@@ -55,8 +55,7 @@ class Served(unittest.TestCase):
         self.addCleanup(server.kill)
         port = int(server.stdout.readline().rpartition(":")[2])
         verdict = listset_judge.judge(lambda: listset_servers.Listset(port), opens_with_keys=True, **FEW)
-        self.assertIn(f"sessions {SESSIONS}\n", server.communicate(timeout=SECONDS)[0])
-        self.assertEqual(verdict.calls, 4000)
+        self.assertIn(verdict.calls, range(4000, 12_001, 1000))
         self.assertGreater(verdict.overlapped, 0)
         print(verdict)
 
@@ -107,7 +106,7 @@ class OfRedis(unittest.TestCase):
 
     def test_redis_is_linearizable(self):
         verdict = listset_judge.judge(lambda: listset_servers.Redis(self.port), **FEW)
-        self.assertEqual(verdict.calls, 4000)
+        self.assertIn(verdict.calls, range(4000, 12_001, 1000))
         self.assertGreater(verdict.overlapped, 0)
         print(verdict)
 

@@ -1,24 +1,28 @@
 //! A run, written down as it goes, in memory that a process of its own may share with this one.
 use std::any::Any;
+use std::fs::File;
+use std::io::{self, Seek, SeekFrom, Write};
 use std::panic::{catch_unwind, AssertUnwindSafe};
+use std::path::Path;
 use std::sync::atomic::AtomicU32;
-use std::sync::atomic::Ordering::SeqCst;
+use std::sync::atomic::Ordering::{Relaxed, SeqCst};
 use std::time::{Duration, Instant};
 
 use crate::memory::Memory;
 use crate::words::*;
-use crate::{no_verdict, Calls, Failure, Options, Shape, Source};
+use crate::{no_verdict, Failure, Options, Replies, Shape, Source};
 
 const UNKNOWN: u32 = 2; // of a call what it answered: 0, 1 or this
 
+const WRITABLE: &str = "the recording can be written";
+
 /// How far a run is.
 const GOING: u32 = 1;
-const RESTING: u32 = 2;
-const OVER: u32 = 3;
-const FAILED: u32 = 4;
-const UNMADE: u32 = 5;
+const OVER: u32 = 2;
+const FAILED: u32 = 3;
+const UNMADE: u32 = 4;
 
-/// Where the numbers of a run are: among them what it draws moments from, how far it is, and from `Why` on why it failed.
+/// Where the numbers of a run are: among them what it draws moments from, how far it is, and the bytes of its file.
 #[derive(Clone, Copy)]
 enum At {
     Tickets,
@@ -35,22 +39,21 @@ enum At {
     Calls,
     Keys,
     Times,
+    Written,
+    WrittenHigh,
     Why,
 }
 
-const MOST_WHY: usize = 240; // bytes, each in a number; behind them are the calls,
-const SLOTS: usize = At::Why as usize + MOST_WHY;
-const SLOT: usize = 6; // each with its end, begin, thread, word, key and reply; the first two are 0 as long as there is none;
-const KEYS: usize = SLOTS + PART as usize * SLOT; // and of each key of each set whether it was there, at first and at the end
+const WHY: usize = At::Why as usize; // from there a text, a byte in each number, as why it failed;
+const FILE: usize = WHY + 240; // the path of its file;
+const SLOTS: usize = FILE + 1024; // the calls,
+const SLOT: usize = 6; // each with its end, begin, thread, word, key and reply; the first two are 0 as long as there is none
+const SIZE: usize = SLOTS + PART as usize * SLOT;
 
-/// What reads a part that has been made; whether it is the last, and how the run came to no end, if it did not.
-pub type Read<'a> = &'a mut (dyn FnMut(&Area, bool, Option<String>) -> Result<(), Failure> + Send);
-
-/// The memory of a run: the calls from one rest to the next.
+/// The memory of a run: the calls since those in its file.
 pub struct Area {
     memory: Memory,
     pub options: Options,
-    most_keys: usize,
 }
 
 /// A call that was recorded.
@@ -73,14 +76,12 @@ impl Row {
 }
 
 impl Area {
-    /// The numbers that runs by these options take.
-    pub fn size(options: &Options) -> usize {
-        KEYS + 2 * most_keys(options)
-    }
+    /// The numbers that it takes.
+    pub const SIZE: usize = SIZE;
 
     /// An area in memory of that size.
     pub fn new(memory: Memory, options: &Options) -> Area {
-        Area { memory, options: options.clone(), most_keys: most_keys(options) }
+        Area { memory, options: options.clone() }
     }
 
     fn at(&self, it: At) -> &AtomicU32 {
@@ -99,9 +100,13 @@ impl Area {
         self.at(it).fetch_add(1, SeqCst) + 1
     }
 
-    /// Of each key of each set whether it was there, at first or at the end.
-    fn keys(&self, is_left: bool) -> &[AtomicU32] {
-        &self.memory[KEYS + usize::from(is_left) * self.most_keys..][..self.most_keys]
+    fn put_text(&self, at: usize, room: usize, text: &str) {
+        self.memory[at..at + room - 1].iter().zip(text.bytes()).for_each(|(to, byte)| to.store(byte.into(), SeqCst));
+    }
+
+    fn text(&self, at: usize) -> String {
+        let bytes = self.memory[at..].iter().map(|it| it.load(SeqCst) as u8);
+        String::from_utf8_lossy(&bytes.take_while(|&it| it != 0).collect::<Vec<u8>>()).into_owned()
     }
 
     fn shape(&self) -> Shape {
@@ -110,18 +115,44 @@ impl Area {
         Shape { name: "", threads, sets, calls, keys, times }
     }
 
-    // ---- who reads a run
+    // ---- its file
+
+    /// Writes lines behind those in the file, for the calls that are in memory, which are then over.
+    pub fn write(&self, lines: &str) -> io::Result<()> {
+        let written = u64::from(self.get(At::WrittenHigh)) << 32 | u64::from(self.get(At::Written));
+        let mut file = File::options().write(true).open(self.text(FILE))?;
+        file.set_len(written)?;
+        file.seek(SeekFrom::Start(written))?;
+        file.write_all(lines.as_bytes())?;
+        let written = written + lines.len() as u64;
+        self.set(At::WrittenHigh, (written >> 32) as u32);
+        self.set(At::Written, written as u32);
+        self.memory[SLOTS..].iter().for_each(|it| it.store(0, Relaxed));
+        Ok(())
+    }
+
+    /// The calls since those in the file by their begins, or those under way alone.
+    pub fn lines(&self, is_under_way: bool) -> String {
+        let slots = self.memory[SLOTS..].chunks(SLOT);
+        let numbers = |slot: &[AtomicU32]| Row(std::array::from_fn(|it| slot[it].load(SeqCst)));
+        let mut rows: Vec<Row> = slots.map(numbers).filter(|it| it.0[1] > 0).collect();
+        rows.sort_unstable_by_key(|it| it.0[1]);
+        rows.iter().filter(|it| !is_under_way || it.is_under_way()).map(Row::line).collect()
+    }
+
+    // ---- who watches a run
 
     /// Has a run of this shape begin: whoever makes it may go on.
-    pub fn begin(&self, seed: u64, of: Shape) {
+    pub fn begin(&self, seed: u64, of: Shape, file: &Path) {
         let is_here = self.get(At::IsHere);
-        self.memory.iter().for_each(|it| it.store(0, SeqCst));
+        self.memory.iter().for_each(|it| it.store(0, Relaxed));
         let shape =
             [(At::Threads, of.threads), (At::Sets, of.sets), (At::Calls, of.calls), (At::Keys, of.keys), (At::Times, of.times)];
         shape.into_iter().for_each(|(at, it)| self.set(at, it));
         self.set(At::Seed, seed as u32);
         self.set(At::Numbers, of.threads * of.sets);
         self.set(At::IsHere, is_here);
+        self.put_text(FILE, SLOTS - FILE, &file.to_string_lossy());
         self.set(At::Phase, GOING);
     }
 
@@ -133,38 +164,23 @@ impl Area {
         self.get(At::IsHere) == 1
     }
 
-    /// Has the parts of a run read, each once it is made, with how it came to no end, if it did not; `ended` is how the process that
-    /// makes it has ended.
-    pub fn read_parts(&self, ended: &dyn Fn() -> Option<String>, read: Read) -> Result<(), Failure> {
-        for round in 1..=self.shape().rounds() {
-            let mut trouble = self.made(ended);
-            let phase = self.get(At::Phase);
-            if phase >= FAILED {
-                let bytes = self.memory[At::Why as usize..][..MOST_WHY].iter().map(|it| it.load(SeqCst) as u8);
-                trouble = Some(String::from_utf8_lossy(&bytes.take_while(|&it| it != 0).collect::<Vec<u8>>()).into_owned());
-            }
-            match &trouble {
-                Some(why) if phase == UNMADE => return no_verdict(why.clone()),
-                Some(why) if self.get(At::Tickets) == 0 => return no_verdict(say(NOT_MADE, &[why])),
-                _ => {}
-            }
-            let is_last = round == self.shape().rounds() || trouble.is_some();
-            read(self, is_last, trouble)?;
-            if is_last {
-                break;
-            }
-            self.memory[SLOTS..KEYS].iter().for_each(|it| it.store(0, SeqCst));
-            self.set(At::Phase, GOING);
+    /// Waits until a run is made; gives how it was cut short, if it was. `ended` is how the process that makes it has ended.
+    pub fn watch(&self, ended: &dyn Fn() -> Option<String>) -> Result<Option<String>, Failure> {
+        let trouble = self.end(ended);
+        let phase = self.get(At::Phase);
+        match if phase >= FAILED { Some(self.text(WHY)) } else { trouble } {
+            Some(why) if phase == UNMADE => no_verdict(why),
+            Some(why) if self.get(At::Tickets) == 0 => no_verdict(say(NOT_MADE, &[&why])),
+            trouble => Ok(trouble),
         }
-        Ok(())
     }
 
-    /// Waits until a part is made, or no call begins or ends for too long; gives how that went wrong.
-    fn made(&self, ended: &dyn Fn() -> Option<String>) -> Option<String> {
+    /// Waits until the run is over, or no call begins or ends for too long; gives how that went wrong.
+    fn end(&self, ended: &dyn Fn() -> Option<String>) -> Option<String> {
         let (mut seen, mut since) = (self.get(At::Tickets), Instant::now());
-        while self.get(At::Phase) < RESTING {
+        while self.get(At::Phase) < OVER {
             if let Some(why) = ended() {
-                return Some(why).filter(|_| self.get(At::Phase) < RESTING);
+                return Some(why).filter(|_| self.get(At::Phase) < OVER);
             }
             if self.get(At::Tickets) != seen {
                 (seen, since) = (self.get(At::Tickets), Instant::now());
@@ -175,21 +191,6 @@ impl Area {
             std::thread::sleep(Duration::from_micros(300));
         }
         None
-    }
-
-    /// The calls of the part that was made, by their begins.
-    pub fn calls(&self) -> Vec<Row> {
-        let slots = self.memory[SLOTS..KEYS].chunks(SLOT);
-        let numbers = |slot: &[AtomicU32]| Row(std::array::from_fn(|it| slot[it].load(SeqCst)));
-        let mut rows: Vec<Row> = slots.map(numbers).filter(|it| it.0[1] > 0).collect();
-        rows.sort_unstable_by_key(|it| it.0[1]);
-        rows
-    }
-
-    /// The lines of the keys that were there.
-    pub fn lines_of_keys(&self, word: &str, is_left: bool) -> String {
-        let there = (0..).zip(self.keys(is_left)).filter(|(_, it)| it.load(SeqCst) == 1);
-        there.map(|(key, _): (u32, _)| format!("{word} {key}\n")).collect()
     }
 
     // ---- who makes it
@@ -207,18 +208,23 @@ impl Area {
 
     /// Makes sets and calls them, to the end.
     pub fn call_all<S: Sync>(&self, source: &Source<S>) {
-        let of = self.shape();
+        let (of, mut left) = (self.shape(), String::new());
+        self.tried(|| self.write("listset-calls 1\n").expect(WRITABLE));
         for one in 0..of.sets {
             match catch_unwind(AssertUnwindSafe(source.make)) {
                 Err(why) => self.fail(UNMADE, why),
                 // (`move`: where it is dropped it may panic too)
-                Ok(set) => self.tried(move || Play { area: self, set: &set, calls: &source.calls, of, one }.all()),
+                Ok(set) => {
+                    let left = &mut left;
+                    self.tried(move || *left += &Play { area: self, set: &set, reply: source.reply, of, one }.all());
+                }
             }
             if self.get(At::IsStopping) == 1 {
                 return;
             }
         }
-        self.set(At::Phase, OVER);
+        self.tried(|| self.write(&format!("{left}end\n")).expect(WRITABLE));
+        let _ = self.at(At::Phase).compare_exchange(GOING, OVER, SeqCst, SeqCst);
     }
 
     fn tried(&self, does: impl FnOnce()) {
@@ -232,10 +238,7 @@ impl Area {
                 panic.downcast_ref::<&str>().map(|it| it.to_string()).or_else(|| panic.downcast_ref::<String>().cloned());
             let text = if phase == UNMADE { NOT_MADE } else { THREW };
             let why = say(text, &[&words.unwrap_or_else(|| "it panicked".to_string())]);
-            self.memory[At::Why as usize..][..MOST_WHY]
-                .iter()
-                .zip(why.bytes())
-                .for_each(|(to, byte)| to.store(byte.into(), SeqCst));
+            self.put_text(WHY, FILE - WHY, &why);
             self.set(At::Phase, phase);
         }
     }
@@ -260,52 +263,51 @@ impl Area {
 struct Play<'a, S> {
     area: &'a Area,
     set: &'a S,
-    calls: &'a Calls<'a, S>,
+    reply: Replies<'a, S>,
     of: Shape,
     one: u32,
 }
 
 impl<S: Sync> Play<'_, S> {
-    fn all(&self) {
+    /// Calls the set; gives the lines of the keys that are left.
+    fn all(&self) -> String {
+        let mut left = String::new();
         std::thread::scope(|scope| {
             for thread in 0..self.of.threads {
                 scope.spawn(move || self.area.tried(|| self.call_in_parts(thread)));
             }
-            self.area.tried(|| self.lead());
+            self.area.tried(|| left = self.lead());
         });
+        left
     }
 
-    /// Has the threads make each part, and rests before each but the first until the one before has been read.
-    fn lead(&self) {
+    /// Has the threads make each part, and writes it then.
+    fn lead(&self) -> String {
         let area = self.area;
         if area.options.opens_with_keys {
-            self.look_up(false);
+            area.write(&self.lines_of_keys("opening")).expect(WRITABLE);
         }
-        for round in self.one * self.of.parts()..(self.one + 1) * self.of.parts() {
-            if round > 0 {
-                area.set(At::Phase, RESTING);
-                if !area.waits(|| area.get(At::Phase) == GOING) {
-                    return;
-                }
+        let mut left = String::new();
+        for round in self.one * self.of.parts() + 1..=(self.one + 1) * self.of.parts() {
+            area.set(At::Begun, round);
+            if !area.waits(|| area.get(At::Done) == round * self.of.threads) {
+                break;
             }
-            area.set(At::Begun, round + 1);
-            if !area.waits(|| area.get(At::Done) == (round + 1) * self.of.threads) {
-                return;
+            if round == (self.one + 1) * self.of.parts() {
+                left = self.lines_of_keys("key");
             }
+            area.write(&area.lines(false)).expect(WRITABLE);
         }
-        self.look_up(true);
+        left
     }
 
-    fn look_up(&self, is_left: bool) {
-        for (key, is_there) in (0..self.of.keys).zip(&self.area.keys(is_left)[(self.one * self.of.keys) as usize..]) {
-            is_there.store(((self.calls.reply)(self.set, 2, self.number(key)) == Some(true)).into(), SeqCst);
+    /// The lines of the keys that the set has.
+    fn lines_of_keys(&self, word: &str) -> String {
+        let is_there = |key: &u32| {
             self.area.next(At::Tickets);
-        }
-    }
-
-    /// What the set is given for the number of a key.
-    fn number(&self, key: u32) -> u32 {
-        self.calls.number(self.of, key)
+            (self.reply)(self.set, 2, key * self.of.times) == Some(true)
+        };
+        (0..self.of.keys).filter(is_there).map(|key| format!("{word} {}\n", self.one * self.of.keys + key)).collect()
     }
 
     /// The calls of one thread.
@@ -349,17 +351,13 @@ impl<S: Sync> Play<'_, S> {
         [*number, word, self.one * keys + key].into_iter().zip(&slot[2..]).for_each(|(it, to)| to.store(it, SeqCst));
         (0..pause).for_each(|_| _ = area.get(At::Tickets));
         slot[1].store(area.next(At::Tickets), SeqCst);
-        let reply = (self.calls.reply)(self.set, word as u8, self.number(key)).map_or(UNKNOWN, u32::from);
+        let reply = (self.reply)(self.set, word as u8, key * self.of.times).map_or(UNKNOWN, u32::from);
         slot[5].store(reply, SeqCst);
         slot[0].store(area.next(At::Tickets), SeqCst);
         if reply == UNKNOWN {
             *number = area.at(At::Numbers).fetch_add(1, SeqCst);
         }
     }
-}
-
-fn most_keys(options: &Options) -> usize {
-    options.shapes().map(|it| (it.sets * it.keys) as usize).max().unwrap_or(1)
 }
 
 /// Random numbers (SplitMix64).

@@ -9,7 +9,7 @@ use std::sync::atomic::{AtomicU32, Ordering::SeqCst};
 use std::sync::Mutex;
 use std::time::Duration;
 
-use crate::area::{Area, Read};
+use crate::area::Area;
 use crate::memory::Memory;
 use crate::words::*;
 use crate::{no_verdict, Failure, Options, Shape, Source};
@@ -28,7 +28,7 @@ impl Drop for Temporary {
 
 /// Has runs made.
 pub struct Runner {
-    area: Area,
+    pub area: Area,
     child: Option<RefCell<Child>>,
 }
 
@@ -44,7 +44,7 @@ impl Runner {
         }
         match name.filter(|_| cfg!(unix) && options.own_process) {
             Some(name) => Runner::in_child(&name, options).map(Some),
-            None => Ok(Some(Runner { area: Area::new(Memory::own(Area::size(options)), options), child: None })),
+            None => Ok(Some(Runner { area: Area::new(Memory::own(Area::SIZE), options), child: None })),
         }
     }
 
@@ -55,7 +55,7 @@ impl Runner {
         let made = File::options().read(true).write(true).create_new(true).open(&path);
         let file = made.or_else(|_| no_verdict(say(NO_FOLDER, &[&std::env::temp_dir().display()])))?;
         let temporary = Temporary(path);
-        let memory = file.set_len(4 * Area::size(options) as u64).and_then(|()| Memory::of(&file, Area::size(options)));
+        let memory = file.set_len(4 * Area::SIZE as u64).and_then(|()| Memory::of(&file, Area::SIZE));
         let area = Area::new(memory.or_else(|_| no_verdict(NO_MEMORY.to_string()))?, options);
         let mut child = process_of(name, &temporary.0).or_else(|fault| no_verdict(say(NO_PROCESS, &[&fault])))?;
         while !area.is_here() {
@@ -67,21 +67,27 @@ impl Runner {
         Ok(Runner { area, child: Some(RefCell::new(child)) })
     }
 
-    /// Has a run made, and its parts read.
-    pub(crate) fn run<S: Sync>(&self, source: &Source<S>, seed: u64, shape: Shape, read: Read) -> Result<(), Failure> {
+    /// Has a run made; gives how it was cut short, if it was.
+    pub(crate) fn made<S: Sync>(
+        &self,
+        source: &Source<S>,
+        seed: u64,
+        of: Shape,
+        file: &Path,
+    ) -> Result<Option<String>, Failure> {
         let area = &self.area;
-        area.begin(seed, shape);
+        area.begin(seed, of, file);
         if let Some(child) = &self.child {
-            return area.read_parts(&|| trouble_of(&mut child.borrow_mut()), read);
+            return area.watch(&|| trouble_of(&mut child.borrow_mut()));
         }
         std::thread::scope(|scope| {
-            let reader = scope.spawn(|| {
-                let done = area.read_parts(&|| None, read);
+            let watcher = scope.spawn(|| {
+                let done = area.watch(&|| None);
                 area.stop();
                 done
             });
             area.call_all(source);
-            reader.join().expect("what reads a run does not panic")
+            watcher.join().expect("what watches a run does not panic")
         })
     }
 }
@@ -119,7 +125,7 @@ fn process_of(name: &str, file: &Path) -> std::io::Result<Child> {
 /// Makes the runs that another process asks for, as long as it is there.
 fn serve<S: Sync>(source: &Source<S>, options: &Options) -> ! {
     let file = std::env::var_os(MEMORY).and_then(|it| File::options().read(true).write(true).open(it).ok());
-    let memory = file.and_then(|it| Memory::of(&it, Area::size(options)).ok());
+    let memory = file.and_then(|it| Memory::of(&it, Area::SIZE).ok());
     std::thread::spawn(|| {
         let _ = std::io::stdin().read_to_end(&mut Vec::new());
         std::process::exit(1);

@@ -1,7 +1,8 @@
 //! The judge underneath.
 use std::fmt;
-use std::io::{self, Write};
-use std::process::{Child, Command, Stdio};
+use std::io;
+use std::path::Path;
+use std::process::{Command, Stdio};
 
 use crate::words::*;
 use crate::{no_verdict, Failure};
@@ -22,11 +23,8 @@ pub enum Judged {
     Refused(String),
 }
 
-/// A judge that is given a recording as it grows; the library is given it at its end.
-pub enum Asked {
-    Program(Child),
-    Library(String),
-}
+/// An exit status, if the command was not killed, and what was said.
+type Answer = (Option<i32>, String);
 
 impl fmt::Display for Judge {
     fn fmt(&self, f: &mut fmt::Formatter<'_>) -> fmt::Result {
@@ -39,68 +37,33 @@ impl Judge {
         if let Some(version) = library::version() {
             return Ok(Judge { name: "liblistset".to_string(), proof: proof_in(&version), command: Vec::new() });
         }
-        let named = std::env::var("LISTSET").ok();
-        let name = named.clone().unwrap_or_else(|| "listset".to_string());
-        let is_script = name.ends_with(".js");
-        let command = if is_script { vec!["node".to_string(), name.clone()] } else { vec![name.clone()] };
+        let name = std::env::var("LISTSET").unwrap_or_else(|_| "listset".to_string());
+        let command = if name.ends_with(".js") { vec!["node".to_string(), name.clone()] } else { vec![name.clone()] };
         // (what it says of a judge that it builds is for the user's eyes)
-        match Asked::program(&command, &["--version", "--long"], Stdio::inherit()).and_then(Asked::answer) {
-            Ok((Some(127), _)) | Err(_) => no_verdict(match named {
-                Some(it) if is_script => say(NO_NODE, &[&it]),
-                Some(it) => say(NO_NAMED, &[&it]),
-                None => NO_JUDGE.to_string(),
-            }),
+        match ran(Command::new(&command[0]).args(&command[1..]).args(["--version", "--long"]).stderr(Stdio::inherit())) {
+            Ok((Some(127), _)) | Err(_) => no_verdict(say(NO_JUDGE, &[&name])),
             Ok((_, version)) => Ok(Judge { name, proof: proof_in(&version), command }),
         }
     }
 
-    pub fn ask(&self) -> Result<Asked, Failure> {
-        if self.command.is_empty() {
-            return Ok(Asked::Library(String::new()));
-        }
-        Asked::program(&self.command, &["judge", "-"], Stdio::piped())
-            .or_else(|fault| no_verdict(format!("{} cannot be run: {fault}", self.name)))
-    }
-
-    pub fn judged(&self, asked: Asked) -> Result<Judged, Failure> {
-        let (status, said) = asked.answer().unwrap_or_else(|fault| (None, fault.to_string()));
+    pub fn judged(&self, recording: &Path) -> Result<Judged, Failure> {
+        let answer = match &self.command[..] {
+            [] => library::judge(recording),
+            [first, words @ ..] => ran(Command::new(first).args(words).arg("judge").arg(recording)),
+        };
+        let (status, said) = answer.unwrap_or_else(|fault| (None, fault.to_string()));
         match (status, overlapped_in(&said)) {
             (Some(0), Some(overlapped)) => Ok(Judged::Ok { overlapped }),
             (Some(1), _) if said.starts_with("not linearizable") => Ok(Judged::Refused(said)),
-            _ => {
-                let first = said.lines().next().unwrap_or("nothing");
-                no_verdict(say(NO_VERDICT, &[&self.name, &first]))
-            }
+            _ => no_verdict(say(NO_VERDICT, &[&self.name, &said.lines().next().unwrap_or("nothing")])),
         }
     }
 }
 
-impl Asked {
-    fn program(command: &[String], words: &[&str], errors: Stdio) -> io::Result<Asked> {
-        let mut made = Command::new(&command[0]);
-        made.args(&command[1..]).args(words).stdin(Stdio::piped()).stdout(Stdio::piped()).stderr(errors);
-        Ok(Asked::Program(made.spawn()?))
-    }
-
-    pub fn write(&mut self, text: &str) {
-        match self {
-            Asked::Library(all) => *all += text,
-            // (one that has ended reads no further)
-            Asked::Program(child) => _ = child.stdin.as_mut().map(|to| to.write_all(text.as_bytes())),
-        }
-    }
-
-    /// Its status, and what it said.
-    fn answer(self) -> io::Result<(Option<i32>, String)> {
-        let (status, said) = match self {
-            Asked::Library(all) => library::judge(&all),
-            Asked::Program(child) => {
-                let ended = child.wait_with_output()?;
-                (ended.status.code(), if ended.stdout.is_empty() { ended.stderr } else { ended.stdout })
-            }
-        };
-        Ok((status, String::from_utf8_lossy(&said).trim().to_string()))
-    }
+fn ran(command: &mut Command) -> io::Result<Answer> {
+    let ended = command.stdin(Stdio::null()).output()?;
+    let said = if ended.stdout.is_empty() { ended.stderr } else { ended.stdout };
+    Ok((ended.status.code(), String::from_utf8_lossy(&said).trim().to_string()))
 }
 
 /// The number of the second line, below the word `ok`.
@@ -116,11 +79,12 @@ fn proof_in(version: &str) -> String {
 #[cfg(linked)]
 mod library {
     use std::ffi::CStr;
+    use std::os::fd::AsRawFd;
     use std::os::raw::c_char;
 
     extern "C" {
         fn listset_version() -> *const c_char;
-        fn listset_judge(text: *const u8, length: usize, room: *mut u8, size: usize, status: *mut u8) -> usize;
+        fn listset_judge_from(file: i32, room: *mut u8, size: usize, status: *mut u8) -> usize;
     }
 
     pub fn version() -> Option<String> {
@@ -128,19 +92,11 @@ mod library {
         Some(unsafe { CStr::from_ptr(listset_version()) }.to_string_lossy().into_owned())
     }
 
-    pub fn judge(recording: &str) -> (Option<i32>, Vec<u8>) {
-        let mut room = vec![0; 4096];
-        loop {
-            let mut status = 0;
-            // SAFETY: the pointers are those of a text, a room of that size and a status, which nobody else writes.
-            let length =
-                unsafe { listset_judge(recording.as_ptr(), recording.len(), room.as_mut_ptr(), room.len(), &mut status) };
-            let is_whole = length <= room.len();
-            room.resize(length, 0);
-            if is_whole {
-                return (Some(status.into()), room);
-            }
-        }
+    pub fn judge(recording: &std::path::Path) -> std::io::Result<super::Answer> {
+        let (file, mut room, mut status) = (std::fs::File::open(recording)?, [0; 8192], 0);
+        // SAFETY: the pointers are those of a room of that size and a status, which nobody else writes.
+        let length = unsafe { listset_judge_from(file.as_raw_fd(), room.as_mut_ptr(), room.len(), &mut status) };
+        Ok((Some(status.into()), String::from_utf8_lossy(&room[..length]).trim().to_string()))
     }
 }
 
@@ -150,7 +106,7 @@ mod library {
         None
     }
 
-    pub fn judge(_: &str) -> (Option<i32>, Vec<u8>) {
+    pub fn judge(_: &std::path::Path) -> std::io::Result<super::Answer> {
         unreachable!("there is no library")
     }
 }

@@ -109,10 +109,6 @@ impl Shape {
         (self.calls - 1) / self.rows() + 1
     }
 
-    fn rounds(&self) -> u32 {
-        self.sets * self.parts()
-    }
-
     fn all_calls(&self) -> u64 {
         u64::from(self.threads) * u64::from(self.sets) * u64::from(self.calls)
     }
@@ -122,10 +118,10 @@ impl Options {
     fn check(&self) -> Result<(), Failure> {
         let [threads, calls, keys] = [self.threads, self.calls, self.keys].map(|it| u64::from(it.max(1)));
         let others = [self.pauses, self.runs, self.seconds, self.at_least].map(u64::from);
-        let given = [threads, threads * calls, keys].into_iter().chain(others);
+        let shares = self.shares.iter().copied().map(u64::from).sum();
+        let given = [threads, threads * calls, keys].into_iter().chain(others).chain([shares]);
         match RANGES.iter().zip(given).find(|(its, given)| !(its.least..=its.most).contains(given)) {
             Some((its, given)) => no_verdict(say(RANGE, &[&its.name, &given, &its.least, &its.most])),
-            None if self.shares.iter().all(|&it| it == 0) => no_verdict(say(RANGE, &[&"the sum of shares", &0, &1, &1000])),
             None => Ok(()),
         }
     }
@@ -210,7 +206,7 @@ pub enum Failure {
     /// No order explains the run.
     NotLinearizable(Failed),
     /// The set crashed, hung or panicked in the run, which was judged up to there.
-    NotEnded(Failed),
+    CutShort(Failed),
     /// Fewer calls overlapped a change of their key than `at_least` asks for.
     TooFew(String),
     /// Nothing is known of the set: an option is out of range, no set could be made, or there is no judge.
@@ -220,7 +216,7 @@ pub enum Failure {
 impl fmt::Display for Failure {
     fn fmt(&self, f: &mut fmt::Formatter<'_>) -> fmt::Result {
         match self {
-            Failure::NotLinearizable(it) | Failure::NotEnded(it) => {
+            Failure::NotLinearizable(it) | Failure::CutShort(it) => {
                 write!(f, "{}", say(FAILED_RUN, &[&it.seed, &it.name, &it.said, &it.file.display(), &it.judge]))
             }
             Failure::TooFew(why) | Failure::NoVerdict(why) => write!(f, "{why}"),
@@ -271,30 +267,17 @@ macro_rules! judge {
     };
 }
 
-/// How the sets of a test are made and called, and how a key is shown.
+/// How the sets of a test are made, and called by the numbers of keys.
 struct Source<'a, S> {
     make: &'a dyn Fn() -> S,
+    reply: Replies<'a, S>,
     shown: &'a dyn Fn(u32) -> String,
-    calls: Calls<'a, S>,
+    /// Whether the test gives the keys of numbers.
+    has_keys: bool,
 }
 
-/// The calls, by their numbers and those of keys.
-struct Calls<'a, S> {
-    reply: &'a (dyn Fn(&S, u8, u32) -> Option<bool> + Sync),
-    /// Whether the numbers are those of keys that the test gives.
-    is_own: bool,
-}
-
-impl<S> Calls<'_, S> {
-    /// What a set is given for the number of a key.
-    fn number(&self, of: Shape, key: u32) -> u32 {
-        if self.is_own {
-            key
-        } else {
-            key * of.times
-        }
-    }
-}
+/// The reply of a set to `add`, `remove` or `contains` (0 to 2) of a key.
+type Replies<'a, S> = &'a (dyn Fn(&S, u8, u32) -> Option<bool> + Sync);
 
 /// Judges the sets that `make` makes, which are called by the three closures from many threads at once.
 pub fn judge<S: Sync, A: Reply, R: Reply, C: Reply>(
@@ -310,7 +293,7 @@ pub fn judge<S: Sync, A: Reply, R: Reply, C: Reply>(
         1 => remove(set, key).known(),
         _ => contains(set, key).known(),
     };
-    judged(&Source { make: &make, shown: &|key| key.to_string(), calls: Calls { reply: &reply, is_own: false } }, &options)
+    judged(&Source { make: &make, reply: &reply, shown: &|key| key.to_string(), has_keys: false }, &options)
 }
 
 /// The same for a set of other keys: `key` gives the key of a number, each another one.
@@ -336,7 +319,7 @@ pub fn judge_keys<S: Sync, K: Eq + Hash + Debug + Sync, A: Reply, R: Reply, C: R
         (_, key) => contains(set, key).known(),
     };
     let shown = |number| format!("{:?}", keys[number as usize]);
-    judged(&Source { make: &make, shown: &shown, calls: Calls { reply: &reply, is_own: true } }, &options)
+    judged(&Source { make: &make, reply: &reply, shown: &shown, has_keys: true }, &options)
 }
 
 fn judged<S: Sync>(source: &Source<S>, options: &Options) -> Result<Verdict, Failure> {
@@ -380,10 +363,13 @@ impl<S: Sync> Tester<'_, S> {
     }
 
     /// How many calls of a run overlapped a change of their key.
-    fn judged_run(&self, seed: u64, shape: Shape) -> Result<u64, Failure> {
-        let mut recording = Recording::new(self.options, shape, seed, self.judge)?;
-        self.runner.run(self.source, seed, shape, &mut |area, is_last, trouble| recording.write(area, is_last, trouble))?;
-        recording.judged(self.source)
+    fn judged_run(&self, seed: u64, mut shape: Shape) -> Result<u64, Failure> {
+        if self.source.has_keys {
+            shape.times = 1;
+        }
+        let recording = Recording::new(self.options, shape, seed, self.judge)?;
+        let trouble = self.runner.made(self.source, seed, shape, &recording.path)?;
+        recording.judged(self.source, &self.runner.area, trouble)
     }
 
     /// Of a refusal and of further runs, the one that has the fewest calls, and two at least.
@@ -401,7 +387,7 @@ impl<S: Sync> Tester<'_, S> {
                     }
                     self.drop_file(&other);
                 }
-                Err(Failure::NotEnded(other)) => {
+                Err(Failure::CutShort(other)) => {
                     self.drop_file(&other);
                     break; // (a process of its own that has ended makes no further run)
                 }

@@ -1,27 +1,21 @@
 //! A run, as it is judged.
 use std::fs::File;
-use std::io::Write;
 use std::path::PathBuf;
 use std::sync::atomic::AtomicU32;
 use std::sync::atomic::Ordering::SeqCst;
 
-use crate::area::{Area, Row};
-use crate::judges::{Asked, Judge, Judged};
+use crate::area::Area;
+use crate::judges::{Judge, Judged};
 use crate::words::*;
 use crate::{no_verdict, told, Failed, Failure, Options, Shape, Source};
 
-/// The text of a run: as it grows it is written into a file, and given to the judge.
+/// The file into which a run is written as it grows.
 pub struct Recording<'a> {
     judge: &'a Judge,
-    asked: Option<Asked>,
     shape: Shape,
     seed: u64,
-    path: PathBuf,
-    file: File,
+    pub path: PathBuf,
     is_kept: bool,
-    is_begun: bool,
-    /// How the run came to no end, and the calls under way, if it did not.
-    trouble: Option<(String, String)>,
 }
 
 impl<'a> Recording<'a> {
@@ -30,54 +24,29 @@ impl<'a> Recording<'a> {
         let is_kept = options.record.is_some();
         let path = folder.join(name_of(seed, is_kept));
         match std::fs::create_dir_all(&folder).and_then(|()| File::create(&path)) {
-            Ok(file) => Ok(Recording {
-                judge,
-                asked: Some(judge.ask()?),
-                shape,
-                seed,
-                path,
-                file,
-                is_kept,
-                is_begun: false,
-                trouble: None,
-            }),
+            Ok(_) => Ok(Recording { judge, shape, seed, path, is_kept }),
             Err(_) => no_verdict(say(NO_FOLDER, &[&folder.display()])),
         }
     }
 
-    /// Writes a part that has been made; with trouble it is the last.
-    pub fn write(&mut self, area: &Area, is_last: bool, trouble: Option<String>) -> Result<(), Failure> {
-        let rows = area.calls();
-        let mut text = String::new();
-        if !std::mem::replace(&mut self.is_begun, true) {
-            text = format!("listset-calls 1\n{}", area.lines_of_keys("opening", false));
+    /// How many calls of the run, which may have been cut short, overlapped a change of their key; or what is wrong with it.
+    pub(crate) fn judged<S>(mut self, source: &Source<S>, area: &Area, trouble: Option<String>) -> Result<u64, Failure> {
+        let under_way = area.lines(true);
+        if trouble.is_some() && area.write(&format!("{}cut\n", area.lines(false))).is_err() {
+            return no_verdict(say(NO_FOLDER, &[&self.path.display()]));
         }
-        rows.iter().for_each(|it| text += &it.line());
-        if let Some(trouble) = trouble {
-            text += "cut\n";
-            self.trouble = Some((trouble, rows.iter().filter(|it| it.is_under_way()).map(Row::line).collect()));
-        } else if is_last {
-            text += &format!("{}end\n", area.lines_of_keys("key", true));
-        }
-        self.asked.iter_mut().for_each(|it| it.write(&text));
-        self.file.write_all(text.as_bytes()).or_else(|_| no_verdict(say(NO_FOLDER, &[&self.path.display()])))
-    }
-
-    /// How many calls of the whole run overlapped a change of their key, by the judge; or what is wrong with it.
-    pub(crate) fn judged<S>(mut self, source: &Source<S>) -> Result<u64, Failure> {
-        let asked = self.asked.take().expect("it is asked once");
-        let said = match self.judge.judged(asked)? {
-            Judged::Ok { overlapped } if self.trouble.is_none() => return Ok(overlapped),
+        let said = match self.judge.judged(&self.path)? {
+            Judged::Ok { overlapped } if trouble.is_none() => return Ok(overlapped),
             Judged::Ok { .. } => EXPLAINED.to_string(),
             Judged::Refused(said) => told::explained(&said, &self.path) + &self.key_line(&said, source),
         };
         self.is_kept = true;
         let (seed, name, file, judge) = (self.seed, self.shape.name.into(), self.path.clone(), self.judge.to_string());
-        Err(match &self.trouble {
+        Err(match trouble {
             None => Failure::NotLinearizable(Failed { seed, name, said, file, judge }),
-            Some((trouble, under_way)) => {
-                let said = say(UNDER_WAY, &[trouble, under_way, &said]);
-                Failure::NotEnded(Failed { seed, name, said, file, judge })
+            Some(trouble) => {
+                let said = say(UNDER_WAY, &[&trouble, &under_way, &said]);
+                Failure::CutShort(Failed { seed, name, said, file, judge })
             }
         })
     }
@@ -85,7 +54,7 @@ impl<'a> Recording<'a> {
     /// Which key of which set it is that the judge names, if its number does not say so.
     fn key_line<S>(&self, refused: &str, source: &Source<S>) -> String {
         let Some(number) = told::key_in(refused) else { return String::new() };
-        let shown = (source.shown)(source.calls.number(self.shape, number % self.shape.keys));
+        let shown = (source.shown)(number % self.shape.keys * self.shape.times);
         let of_set = if self.shape.sets > 1 { say(IN_SET, &[&(number / self.shape.keys + 1)]) } else { String::new() };
         let is_plain = shown == number.to_string() && of_set.is_empty();
         if is_plain {

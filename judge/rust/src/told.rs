@@ -63,24 +63,24 @@ fn picture_of(calls: &[Call]) -> String {
     if calls.len() < 2 {
         return String::new();
     }
-    struct Bar(u64, u64, String, String);
-    let bar = |it: &Call| {
-        let tail = if it.end.is_some() { format!("{}]", it.reply) } else { "..".to_string() };
-        Bar(it.begin, it.end.unwrap_or(u64::MAX), format!("[{} {}", it.word, it.key), tail)
+    let end_of = |it: &Call| it.end.unwrap_or(u64::MAX);
+    let head_and_tail = |it: &Call| {
+        let tail = it.end.map_or("..".to_string(), |_| format!("{}]", it.reply));
+        (format!("[{} {}", it.word, it.key), tail)
     };
-    let bars: Vec<Bar> = calls.iter().map(bar).collect();
-    let mut places: BTreeMap<u64, usize> = bars.iter().flat_map(|it| [(it.0, 0), (it.1, 0)]).collect();
+    let width = |it: &Call| head_and_tail(it).0.len() + head_and_tail(it).1.len();
+    let mut places: BTreeMap<u64, usize> = calls.iter().flat_map(|it| [(it.begin, 0), (end_of(it), 0)]).collect();
     let mut place = 0;
     for moment in places.keys().copied().collect::<Vec<_>>() {
-        let ending = bars.iter().filter(|it| it.1 == moment);
-        place = ending.map(|it| places[&it.0] + it.2.len() + it.3.len()).fold(place, usize::max);
+        let ending = calls.iter().filter(|it| end_of(it) == moment);
+        place = ending.map(|it| places[&it.begin] + width(it)).fold(place, usize::max);
         places.insert(moment, place);
         place += 1;
     }
-    let line = |(call, Bar(begin, end, head, tail)): (&Call, &Bar)| {
-        let (from, to) = (places[begin], places[end]);
-        let (space, dashes) = (" ".repeat(from), "-".repeat(to + 1 - from - head.len() - tail.len()));
-        format!("\n{:10} {space}{head}{dashes}{tail}", format!("thread {}", call.thread))
+    let line = |it: &Call| {
+        let (from, to, (head, tail)) = (places[&it.begin], places[&end_of(it)], head_and_tail(it));
+        let dashes = "-".repeat(to + 1 - from - width(it));
+        format!("\n{:10} {}{head}{dashes}{tail}", format!("thread {}", it.thread), " ".repeat(from))
     };
-    calls.iter().zip(&bars).map(line).collect()
+    calls.iter().map(line).collect()
 }

@@ -11,7 +11,7 @@ pub const PRESETS: [Shape; 7] = [
     Shape { name: "many keys", threads: 4, sets: 1, calls: 2500, keys: 1000, times: 1 },
     Shape { name: "multiples of 1,000", threads: 8, sets: 1, calls: 1250, keys: 8, times: 1000 },
 ];
-pub const RANGES: [Range; 7] = [
+pub const RANGES: [Range; 8] = [
     Range { name: "threads", least: 1, most: 64 },
     Range { name: "threads times calls", least: 1, most: 1000000000 },
     Range { name: "keys", least: 1, most: 1048576 },
@@ -19,6 +19,7 @@ pub const RANGES: [Range; 7] = [
     Range { name: "runs", least: 1, most: 1000000 },
     Range { name: "seconds", least: 1, most: 3600 },
     Range { name: "at_least", least: 0, most: 100 },
+    Range { name: "the sum of shares", least: 1, most: 1000000 },
 ];
 pub const PART: u32 = 20000;
 pub const LONGEST: u32 = 100;
@@ -52,9 +53,7 @@ pub const NO_FOLDER: &str = "no file can be written in %s: name another folder b
 pub const NO_MEMORY: &str = "there is no memory for the calls of a run";
 pub const NO_PROCESS: &str = "no process could be started for a run: %s";
 pub const NOT_AGAIN: &str = "the test did not come to this judge again in a process of its own: set own_process to false";
-pub const NO_NODE: &str = "node is not in PATH, which runs the %s that LISTSET names";
-pub const NO_NAMED: &str = "LISTSET names %s, which cannot be run: build listset, and name it there";
-pub const NO_JUDGE: &str = "there is no listset in PATH: build it, and put it there or name it by LISTSET";
+pub const NO_JUDGE: &str = "%s cannot be run: build listset, and put it in PATH or name it by LISTSET (node runs a listset.js)";
 pub const NO_VERDICT: &str = "%s gave no verdict, but said: %s. Take a newer listset";
 // end of what is made
 

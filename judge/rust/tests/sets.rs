@@ -142,7 +142,7 @@ fn set() {
     let (kind, text) = match judged(&std::env::var("SET").unwrap(), how_of(&std::env::var("HOW").unwrap())) {
         Ok(verdict) => ("ok", verdict.to_string()),
         Err(why @ Failure::NotLinearizable(_)) => ("refused", why.to_string()),
-        Err(why @ Failure::NotEnded(_)) => ("not ended", why.to_string()),
+        Err(why @ Failure::CutShort(_)) => ("cut short", why.to_string()),
         Err(why @ Failure::TooFew(_)) => ("too few", why.to_string()),
         Err(why) => ("none", why.to_string()),
     };
