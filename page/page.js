@@ -1734,38 +1734,14 @@ return { readReport, callsOfRecording, leavesKey, readExamples, readFault, readV
 
 // run/faults.js
 const $run_faults = (() => {
-const CAUSES = {
-  Header: 'line 1 must be "listset-schedule 1", or "listset-schedule 2", which has ceilings and opening keys',
-  Kind: 'line 2 must be "list" and one of coarse, fine, optimistic, lazy, lock-free; on a broken list, the kind of that list',
-  Threads: 'line 3 must be "threads" and a number from 1 to 64',
-  Quota: 'line 4 must be "quota" and a number from 0 to 16384',
-  Event:
-    'expected "begin T CALL K" or "go T N", with one space between; ' +
-    'in version 2 "opening K" is allowed too, above all events, and the call ceiling',
-  Number: "expected a number in range, without sign or leading zero: 5, not +5 or 05",
-  TooMany: "up to this line there are more than 1,000,000 events, or more than 1,048,576 opening keys",
-  Opening: "opening keys must increase; this one is not above the one before",
-  NotEnded: "the line does not end with a newline",
-  NoThread: "there is no such thread",
-  Busy: "the thread begins a call while it has one pending",
-  Idle: "the thread makes a step while it has no call pending",
-  Waits: "the thread does not get there within the steps that are tried: it may wait for a lock that another thread holds",
-  Lost: "the broken list's step would access a word outside its table",
-};
-
-const CAUSES_OF_CALLS = {
-  Header: 'line 1 must be "listset-calls 1"',
-  Line:
-    'expected "call T CALL K BEGIN END REPLY" in at most 128 bytes, with - - in place of END REPLY of a pending call; the calls are add, ' +
-    'remove and contains; "opening K" only above all calls, and only below them "key K" and "end", or "cut"',
-  Number: "a moment is not a number from 1 to 9223372036854775807, or another number not one from 0 to 4294967295",
-  Opening: "an opening key must be above the one before, and a key that is left above the one before",
-  History:
-    "the calls do not come in the order of their begins, or one does not end after its begin, or two have one moment, " +
-    "or a thread has two at a time",
-  NotEnded: 'the text must end with the line "end", or with "cut" if the recording was cut off',
-};
-return { CAUSES, CAUSES_OF_CALLS };
+function sentenceOn(ask, cause, ...kinds) {
+  if (!cause) return null;
+  const told = ask("listset_faults").text;
+  const parts = kinds.map((kind) => told.split(`, in ${kind};`)[1]?.split("\n\n")[0] ?? "");
+  const [, said] = new RegExp(`^  ${cause} +((?:.|\n {12})+)`, "m").exec(parts.join("\n")) ?? [];
+  return said === undefined ? null : said.replace(/\n +/g, " ").replace(/\.( .*)?$/, "");
+}
+return { sentenceOn };
 })();
 
 // run/judged.js
@@ -2308,7 +2284,7 @@ return { stateAtFirst, exampleIn, reduce, entryOf };
 // page/now.js
 const $page_now = (() => {
 const { readFault } = $engine_answers;
-const { CAUSES } = $run_faults;
+const { sentenceOn } = $run_faults;
 const { LEVELS } = $run_judged;
 const { scheduleOfTrace } = $run_schedule_text;
 const { momentAt } = $run_sentences;
@@ -2407,7 +2383,8 @@ function tellFault(line, cause, said, isOld = true) {
   change("fault", { line, isOld });
   byId("stage").classList.toggle("old", isOld);
   byId("old").hidden = !isOld;
-  byId("fault").textContent = cause in CAUSES ? `${said}: ${CAUSES[cause]}` : said;
+  const why = sentenceOn(askNow, cause, "a schedule", "a draft");
+  byId("fault").textContent = why === null ? said : `${said}: ${why}`;
 }
 
 const tellTrouble = (said) => (byId("fault").textContent = said);
@@ -5327,7 +5304,7 @@ const $course_lesson = (() => {
 const { readFault } = $engine_answers;
 const { askList, TO_BREAK, verdictOnLacking } = $run_broken;
 const { scheduleOfDraft } = $run_draft;
-const { CAUSES } = $run_faults;
+const { sentenceOn } = $run_faults;
 const { Run } = $run_moments;
 const { eventsAsked, versionOf } = $run_schedule_text;
 const { HEADER_LINES, isTrace, Trace } = $run_trace;
@@ -5397,10 +5374,10 @@ function missingIn({ reason, conditions }) {
 
 function troubleOf(ask, lesson) {
   const start = scheduleOfDraft(ask, lessonText(lesson, lesson.start), lesson.lacks);
-  if (start.fault !== null) return refusedLine(lesson, "start", readFault(start.fault));
+  if (start.fault !== null) return refusedLine(ask, lesson, "start", readFault(start.fault));
   lesson.begun = start.text;
   const begin = runOfSchedule(ask, start.text, lesson.lacks);
-  if (begin.trace === null) return refusedLine(lesson, "start", begin.fault);
+  if (begin.trace === null) return refusedLine(ask, lesson, "start", begin.fault);
   if (!isBounded(ask, lesson)) {
     return { line: lesson.line, says: "there are too many ways to meet its goal: name fewer steps, or say more of each" };
   }
@@ -5409,18 +5386,19 @@ function troubleOf(ask, lesson) {
   lesson.solution = null;
   if (lesson.answer.length === 0) return null;
   const answer = scheduleOfDraft(ask, lessonText(lesson, [...lesson.start, ...lesson.answer]), lesson.lacks);
-  if (answer.fault !== null) return refusedLine(lesson, "answer", readFault(answer.fault));
+  if (answer.fault !== null) return refusedLine(ask, lesson, "answer", readFault(answer.fault));
   lesson.solution = answer.text;
   const verdict = judged(ask, lesson, answer.text);
   if (verdict.isSolved) return null;
-  if (verdict.reason !== null) return refusedLine(lesson, "answer", verdict.fault ?? { line: null, cause: null, says: verdict.reason });
+  if (verdict.reason !== null) return refusedLine(ask, lesson, "answer", verdict.fault ?? { line: null, cause: null, says: verdict.reason });
   return { line: lesson.line, says: `its answer does not solve it: ${missingIn(verdict)}` };
 }
 
-function refusedLine(lesson, part, { line, cause, says }) {
+function refusedLine(ask, lesson, part, { line, cause, says }) {
   const given = lesson.events[line - HEADER_LINES - lesson.opening.length - 1];
-  if (given === undefined || !(cause in CAUSES)) return { line: lesson.line, says: `its ${part} is refused: ${says}` };
-  return { line: given.number, says: `its ${part} is refused at "${given.line}": ${CAUSES[cause]}` };
+  const why = sentenceOn(ask, cause, "a schedule", "a draft");
+  if (given === undefined || why === null) return { line: lesson.line, says: `its ${part} is refused: ${says}` };
+  return { line: given.number, says: `its ${part} is refused at "${given.line}": ${why}` };
 }
 
 function triedCourse(ask, text) {
@@ -5689,7 +5667,7 @@ return { faultOfTrace };
 // run/recorded.js
 const $run_recorded = (() => {
 const { callsOfRecording, leavesKey, readVerdict } = $engine_answers;
-const { CAUSES_OF_CALLS } = $run_faults;
+const { sentenceOn } = $run_faults;
 const { nameOfCall } = $run_judged;
 const RECORDED_EXAMPLE = `listset-calls 1
 opening 8
@@ -5758,15 +5736,16 @@ function verdictOfRefusal(why, text) {
   };
 }
 
-function troubleInWords({ cause, says }) {
-  return Object.hasOwn(CAUSES_OF_CALLS, cause) ? `${says}: ${CAUSES_OF_CALLS[cause]}.` : says;
+function troubleInWords(ask, { cause, says }) {
+  const why = sentenceOn(ask, cause, "recorded calls");
+  return why === null ? says : `${says}: ${why}.`;
 }
 
-function verdictOnCalls(answer, text) {
+function verdictOnCalls(ask, answer, text) {
   const judged = readVerdict(answer);
   if (judged.kind === "ok") return verdictOfOk(judged, text);
   if (judged.kind === "none") return verdictOfRefusal(judged.why, text);
-  return { kind: "fault", says: troubleInWords(judged.fault), reasons: [], calls: [], from: null };
+  return { kind: "fault", says: troubleInWords(ask, judged.fault), reasons: [], calls: [], from: null };
 }
 return { RECORDED_EXAMPLE, withNewline, recordedInWords, reasonsOf, verdictOnCalls };
 })();
@@ -8836,6 +8815,7 @@ const $activities_recorded = (() => {
 const { drawRecorded } = $draw_judged;
 const { byId } = $page_dom;
 const { askLong, LONG_TEXT } = $page_long_run;
+const { askNow } = $page_now;
 const { tag } = $run_markup;
 const { RECORDED_EXAMPLE, verdictOnCalls, withNewline } = $run_recorded;
 const WIDEST = 900; // pixels of a drawing
@@ -8872,7 +8852,7 @@ async function judgeCalls() {
   if (text === "") return showVerdict({ ...nothing, kind: "fault", says: "Paste the text of recorded calls first, or open a file." });
   showVerdict({ ...nothing, says: text.length < LONG_TEXT ? "" : "The judge is at work." });
   const said = await askLong("listset_judge_record", text, false);
-  if (withNewline(recordedPart("text").value) === text) showVerdict(verdictOnCalls(said, text));
+  if (withNewline(recordedPart("text").value) === text) showVerdict(verdictOnCalls(askNow, said, text));
 }
 
 function showRecorded(text) {

@@ -1,6 +1,8 @@
 """The first error of texts of each kind: of each text in a table, and of each front of a text. The program writes one line about it,
 nothing else, and ends with status 1. (judging.py has those of recordings.)"""
 
+import re
+
 import pytest
 from harness.programs import TOP, ran
 
@@ -89,6 +91,11 @@ def test_the_first_error_of_a_text(program, kind):
     for its_kind, lines, due in rows():
         if its_kind == kind:
             refused(program, words, head + lines, due)
+
+
+def test_faults_has_a_sentence_on_each_cause(program):
+    explained = re.findall(r"^  (\w+) +\S", ran(program, "faults").stdout, re.MULTILINE)
+    assert {due.split()[-1] for _, _, due in rows()} <= set(explained)
 
 
 @pytest.mark.parametrize("title, words", [("listset-schedule 1", "replay"), ("listset-schedule 2", "replay"), ("listset-draft 2", "draft"),

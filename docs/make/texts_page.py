@@ -1,4 +1,5 @@
-"""Tables of docs/TEXTS.md, made from the sources: of errors from the comments of the variants, of limits from the constants."""
+"""Tables of docs/TEXTS.md, made from the sources: of errors from the comments of the variants and from what `listset faults` prints, of
+limits from the constants."""
 
 import re
 
@@ -19,6 +20,8 @@ LIMITS = [
     ("tool_base/src/input.rt", "LONGEST", "`too long`"),
 ]
 VERSIONS = {"One": 1, "Two": 2}
+# The files whose lines may be refused, with the words of `listset faults` for each
+FILES = {"schedule": "a schedule", "draft": "a draft", "report": "a report", "recording": "recorded calls", "keys": "the keys"}
 
 
 def in_words(comment):
@@ -42,10 +45,30 @@ def figure_of(text, name):
     return f"{int(value):,}"
 
 
+def faults_below(top, head):
+    """What `listset faults` says below this front of a line: a name and a text for each fault, or the first line of that."""
+    said = (top / "crates/tool_base/src/faults.rt").read_text().split(f"\n{head}")[1].split("\n\n")[0]
+    return dict(re.findall(r"^  (\S+) +(.*?)\.?$", said, re.M))
+
+
+def table_of_causes(top):
+    """Why a line is refused: the comment of each variant, and the files in which `listset faults` names it."""
+    text = (top / "crates/lset_text/src/causes.rt").read_text()
+    causes = re.findall(r"((?:^    /// .*\n)+)    (\w+),$", text.split("pub enum Cause {")[1].split("\n}")[0], re.M)
+    named = {file: faults_below(top, f"listset: line L: CAUSE, in {its}") for file, its in FILES.items()}
+    others = named["draft"].pop("(others)")
+    named["draft"] |= {it: "" for it in named["schedule"] if it not in others}
+    rows = []
+    for comment, name in causes:
+        files = [file for file in FILES if name in named[file]]
+        said = " ".join(re.findall(r"/// (.*)", comment)).removesuffix(".")
+        rows.append([f"`{name}`", "all" if files == [*FILES] else ", ".join(files), said])
+    return table(["Cause", "In", "When"], [row for row in rows if row[1]])
+
+
 def table_of_orders(top):
     """Why an order is refused: what `listset faults` says of it."""
-    said = (top / "crates/tool_base/src/faults.rt").read_text().split("\nrefused FAULT ID")[1].split("\n\n")[0]
-    return table(["Fault", "When"], [[f"`{name}`", when] for name, when in re.findall(r"^  (\w+) +(.*)\.$", said, re.M)])
+    return table(["Fault", "When"], [[f"`{name}`", when] for name, when in faults_below(top, "refused FAULT ID").items()])
 
 
 def table_of_limits(top):
@@ -60,4 +83,4 @@ def table_of_limits(top):
     return table(["Limit", "Value", "Constant", "Beyond it"], rows)
 
 
-MADE = {"orders": table_of_orders, "limits": table_of_limits}
+MADE = {"causes": table_of_causes, "orders": table_of_orders, "limits": table_of_limits}

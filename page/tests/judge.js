@@ -5,7 +5,6 @@
 const fs = require("fs");
 const path = require("path");
 const { inPage, startedEngine } = require("../in_node.js");
-const { causesTold, wrongCauses } = require("./causes.js");
 
 const [exerciseOf, answerOfWord, wordOfAnswer, verdictOn] = ["exerciseOf", "answerOfWord", "wordOfAnswer", "verdictOn"].map(inPage);
 const [reportOfAnswer, OwnAnswer, repliesOf, LEVELS] = ["reportOfAnswer", "OwnAnswer", "repliesOf", "LEVELS"].map(inPage);
@@ -164,7 +163,7 @@ const TITLE = "listset-calls 1\n";
 
 function saidOf(ask, lines) {
   const text = inPage("withNewline")(lines);
-  return inPage("verdictOnCalls")(ask("listset_judge_record", text), text);
+  return inPage("verdictOnCalls")(ask, ask("listset_judge_record", text), text);
 }
 
 const barsIn = (drawn) => drawn.split('<g class="bar ').length - 1;
@@ -237,8 +236,8 @@ function checkRefusals(ask) {
 }
 
 // What is said of the answers that a short text does not get.
-function checkAnswers() {
-  const said = (text) => inPage("verdictOnCalls")({ text: `${text}\n` }, TITLE);
+function checkAnswers(ask) {
+  const said = (text) => inPage("verdictOnCalls")(ask, { text: `${text}\n` }, TITLE);
   const { kind, reasons, calls } = said("verdict none\nkey 7\nsince 40 false\ncall 2 add 7 50 60 true\ncall 3 remove 7 55 - -\nhidden 12 45 79");
   check(`more calls: ${reasons}`, kind === "none" && reasons.length === 5 && calls.length === 2 && reasons[3].startsWith("12 more calls"));
   const bare = said("verdict none\nkey 7");
@@ -249,26 +248,12 @@ function checkAnswers() {
   }
 }
 
-// Of each cause of a fault: a text that has it, at which line, and words that its sentence alone has.
-const FAULTS_OF_CALLS = {
-  Header: ["listset-calls 3\n", 1, 'line 1 must be "listset-calls 1"'],
-  Line: [`${TITLE}call 0 ceiling 5 1 6 at-5\nend\n`, 2, "K BEGIN END REPLY"],
-  Number: [`${TITLE}call 0 add 5 1 9223372036854775808 true\nend\n`, 2, "a moment is not a number"],
-  Opening: [`${TITLE}key 5\nkey 5\nend\n`, 3, "a key that is left above"],
-  History: [`${TITLE}call 0 add 5 7 8 true\ncall 1 add 6 5 9 true\nend\n`, 3, "in the order of their begins"],
-  NotEnded: [`${TITLE}call 0 add 5 1 6 true\n`, 3, "the text must end with"],
-};
-
-// Each cause has its own sentence, and no other has one.
+// A fault of recorded calls is told by the program's own line and its sentence on the cause.
 function checkFaultsOfCalls(ask) {
-  const table = inPage("CAUSES_OF_CALLS");
-  const words = Object.fromEntries(Object.entries(FAULTS_OF_CALLS).map(([cause, [, , own]]) => [cause, own]));
-  const wrong = wrongCauses(table, words, causesTold(ask("listset_faults").text, "recorded calls"));
-  check(`sentences for the causes in recorded calls: ${wrong}`, wrong.length === 0);
-  for (const [cause, [text, line]] of Object.entries(FAULTS_OF_CALLS)) {
-    const { kind, says } = saidOf(ask, text);
-    check(`${cause}: ${says}`, kind === "fault" && says === `listset: line ${line}: ${cause}: ${table[cause]}.`);
-  }
+  const { kind, says } = saidOf(ask, `${TITLE}call 0 add 5 7 8 true\ncall 1 add 6 5 9 true\nend\n`);
+  const told = "The call does not end after it begins; or a line above has one of its moments, or a call of the same thread that is pending";
+  const why = `${told} when it begins; or it begins before a call above`;
+  check(`a fault: ${says}`, kind === "fault" && says === `listset: line 3: History: ${why}.`);
 }
 
 // An answer that is no verdict is shown, and counts as none.
@@ -338,7 +323,7 @@ async function main() {
   checkRecorded(ask);
   checkRecords(ask, reports);
   checkRefusals(ask);
-  checkAnswers();
+  checkAnswers(ask);
   checkFaultsOfCalls(ask);
   checkTroubles(ask);
   checkByHand(ask);

@@ -7,7 +7,6 @@ const fs = require("fs");
 const path = require("path");
 const { inPage, startedEngine } = require("../in_node.js");
 const { crossedLabels, crossedNodes } = require("./arrows.js");
-const { causesTold, wrongCauses } = require("./causes.js");
 const { contrastsOf } = require("./colours.js");
 
 const folder = path.dirname(__dirname);
@@ -145,41 +144,21 @@ function checkSeeds(engine) {
 
 const HEAD = "listset-schedule 2\nlist coarse\nthreads 2\nquota 4\n";
 
-// Of each cause of a fault: a schedule that has it, and words that its sentence alone has. No schedule is known that has Lost.
-const FAULTS = {
-  Header: ["listset-schedule 3\n", "line 1 must be"],
-  Kind: ["listset-schedule 2\nlist skip\n", "line 2 must be"],
-  Threads: ["listset-schedule 2\nlist lazy\nthreads 65\n", "from 1 to 64"],
-  Quota: [HEAD.replace("quota 4", "quota 16385"), "from 0 to 16384"],
-  Event: [`${HEAD}take 0 5\n`, 'expected "begin T CALL K"'],
-  Number: [`${HEAD}begin 0 add 05\n`, "a number in range"],
-  TooMany: [`${HEAD}begin 0 add 5\n${"go 0 10000\n".repeat(100)}`, "more than 1,000,000 events"],
-  Opening: [`${HEAD}opening 5\nopening 5\n`, "opening keys must increase"],
-  NotEnded: [`${HEAD}begin 0 add 5`, "with a newline"],
-  NoThread: [`${HEAD}begin 2 add 5\n`, "no such thread"],
-  Busy: [`${HEAD}begin 0 add 5\nbegin 0 add 6\n`, "begins a call"],
-  Idle: [`${HEAD}go 0 1\n`, "makes a step"],
-  Waits: [`${HEAD}begin 0 add 5\ngo 0 1\nbegin 1 add 6\ngo 1 out\n`, "does not get there"],
-  Lost: [null, "outside its table"],
-};
-
-// Each cause has its own sentence, and no other has one.
+// A text's own fault is told by the program's sentence on its cause.
 function checkFaults(engine) {
   const ask = (name, ...texts) => engine.ask(name, ...texts);
-  const told = ask("listset_faults").text;
-  const causes = new Set(["a schedule", "a draft"].flatMap((what) => causesTold(told, what)));
-  const words = Object.fromEntries(Object.entries(FAULTS).map(([cause, [, own]]) => [cause, own]));
-  const wrong = wrongCauses(inPage("CAUSES"), words, [...causes]);
-  check(`sentences for the causes in a schedule: ${wrong}`, wrong.length === 0);
-  for (const [cause, [text]] of Object.entries(FAULTS).filter(([, [given]]) => given !== null)) {
-    const { text: schedule, fault } = inPage("scheduleOfDraft")(ask, text);
-    const said = fault ?? ask("listset_trace", schedule).text;
-    const [, found] = /^(?:listset:|refused) line \d+:? (\w+)$/m.exec(said) ?? [];
-    check(`${cause} of ${text.slice(-40)}: ${said.slice(0, 200)}`, found === cause);
+  const saidOf = (text) => inPage("scheduleOfDraft")(ask, text).fault ?? ask("listset_trace", text).text;
+  const told = (cause) => inPage("sentenceOn")(ask, cause, "a schedule", "a draft");
+  const waits = `${HEAD}begin 0 add 5\ngo 0 1\nbegin 1 add 6\ngo 1 out\n`;
+  const faults = { Number: `${HEAD}begin 0 add 05\n`, Idle: `${HEAD}go 0 1\n`, Waits: waits };
+  for (const [cause, text] of Object.entries(faults)) {
+    const [, found] = /^(?:listset:|refused) line \d+:? (\w+)$/m.exec(saidOf(text)) ?? [];
+    check(`${cause}: ${saidOf(text).slice(0, 200)}`, found === cause && told(cause) !== null);
   }
+  check("a sentence", told("Number") === "Expected a number in range, without sign or leading zero: 5, not +5 or 05");
+  check("no sentence", ["", null, "History", "Expected"].every((cause) => told(cause) === null));
   const ofOther = ask("listset_lacking", "lock", HEAD.replace("coarse", "lazy"), "trace").text;
-  const isTold = inPage("CAUSES").Kind.includes("on a broken list, the kind of");
-  check(`a broken list is of one kind: ${ofOther}`, ofOther === "listset: line 2: Kind\n" && isTold);
+  check(`a broken list is of one kind: ${ofOther}`, ofOther === "listset: line 2: Kind\n");
 }
 
 // Each form of address in README.md is one.

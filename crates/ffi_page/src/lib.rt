@@ -15,7 +15,6 @@ mod words;
 
 ghost use Rattle.tool_replay.specs.Replaying.{ReplaysText};
 ghost use Rattle.tool_replay.specs.Checking.{ChecksText};
-ghost use Rattle.tool_base.specs.Faults.{TellsFaults};
 ghost use Rattle.tool_replay.specs.Generating.{Generates};
 ghost use Rattle.tool_base.specs.Tools.{OnText};
 ghost use Rattle.tool_judge.specs.Judging.{Judges};
@@ -244,7 +243,7 @@ pub extern "C" fn listset_gen(
 /// What `listset faults` prints: each error message, and each cause in a sentence.
 #[unsafe(no_mangle)]
 pub extern "C" fn listset_faults(alloc: Global, room: &mut [u8], status: &mut u8) -> usize
-    ensures { Hands TellsFaults room.old room.new status.new result }
+    ensures { Hands (λ _. Unit {0}) room.old room.new status.new result }
 {
     hand(list_faults(alloc), room, status)
 }

@@ -117,7 +117,7 @@ fn started_threads<R: Threads + Wait + Sync + Print>(rt: &R, alloc: Global) -> R
 }
 
 /// The report of the schedule that has this text.
-fn replayed(alloc: Global, text: &str) -> Result<Report>
+fn replay_text(alloc: Global, text: &str) -> Result<Report>
     // the text is a schedule's, and the report's order linearizes its calls and leaves its keys
     ensures { IfOk result (λ r. (p : Plan) × IsSchedule p × (text.now ≡ schedule_text p) × IsExplained (view r)) }
 {
@@ -139,7 +139,7 @@ fn main(rt: HostRuntime) -> Result<()> {
         again.replies, again.keys
     )?;
     started_threads(&rt, alloc)?;
-    let report = replayed(alloc, SCHEDULE)?;
+    let report = replay_text(alloc, SCHEDULE)?;
     println!(rt; "the schedule's run leaves the keys {:?}", report.keys)?;
     Ok(())
 }

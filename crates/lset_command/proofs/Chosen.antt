@@ -1,5 +1,5 @@
 -- The command that a parse of the program's words gives.
-use Rattle.std.proofs.Common.{◌≡◌, List, [], Option, Some, None, Result, Ok, Err, refl, true, subst, sym, ap, ◌∙◌}
+use Rattle.std.proofs.Common.{◌≡◌, List, [], Option, Some, None, Result, Ok, Err, refl, true, subst, sym}
 use Rattle.std.specs.Prelude.{option_map, Box, IsErrAnd}
 use Rattle.std.specs.Box.{box_value}
 use Rattle.clap.specs.Words.{App, HasMatchesOf, Row, Text, fault_of, is_simple, is_simple_and_free, subcommand_of}
@@ -57,14 +57,11 @@ pub chosen_command : (command : Command) (name : Text) (values : List Text) (opt
     (found : Option (Text × List Row)) → found ≡ Some (name, rows)
     → command ≡ command_named name → values ≡ values_in rows → options ≡ options_in rows
     → chosen command values options ≡ choice_of found
-chosen_command command name values options rows found is named all flags =
-    ap (λ n. chosen n values options) named ∙ ap (λ v. chosen (command_named name) v options) all
-    ∙ ap (chosen (command_named name) (values_in rows)) flags ∙ sym (ap choice_of is)
+chosen_command command name values options rows found is named all flags = rw (is, named, all, flags) refl
 
 pub chosen_replay : (values : List Text) (options : OptionValues) (found : Option (Text × List Row)) → found ≡ None → values ≡ []
     → options ≡ options_in [] → chosen Replay values options ≡ choice_of found
-chosen_replay values options found is empty none = ap (λ v. chosen Replay v options) empty ∙ ap (chosen Replay []) none
-    ∙ sym (ap choice_of is)
+chosen_replay values options found is empty none = rw (is, empty, none) refl
 
 -- the same error, handed on
 pub fails_as : (kinds : Kinds) (r : Result Words Error) (e : Error) → IsErrAnd r (λ given. given ≡ e) → HasKind kinds e →

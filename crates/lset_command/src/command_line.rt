@@ -158,14 +158,6 @@ fn value_option<'a>(alloc: Global, name: &'a str, value_name: &'a str, help: &'a
         .help(help)
 }
 
-// The option that names a broken list.
-fn lacks_option<'a>(alloc: Global, help: &'a str) -> Arg<'a>
-    ensures rule { rule_of result ≡ option_rule (codes "lacks") }
-    ensures local { result.global ≡ false }
-{
-    value_option(alloc, "lacks", "NAME", help)
-}
-
 // The command with one more argument, if it was made. Those who add by this and the next have no `?`, on whose way out
 // they would let go what they made: that is most of what their proofs would take.
 fn and_arg<'a>(
@@ -228,7 +220,7 @@ fn show_command<'a>(alloc: Global, lacks_help: &'a str) -> Result<clap::Command<
     let command = and_arg(command, value_option(alloc, "from", "M", FROM_OPTION));
     let command = and_arg(command, value_option(alloc, "to", "M", TO_OPTION));
     let command = and_arg(command, value_option(alloc, "width", "N", WIDTH_OPTION));
-    and_arg(command, lacks_option(alloc, lacks_help))
+    and_arg(command, value_option(alloc, "lacks", "NAME", lacks_help))
 }
 
 fn trace_command<'a>(alloc: Global, lacks_help: &'a str) -> Result<clap::Command<'a>, AllocError>
@@ -242,7 +234,7 @@ fn trace_command<'a>(alloc: Global, lacks_help: &'a str) -> Result<clap::Command
         "Example: listset example two-removers | listset trace --chain",
     );
     let command = and_arg(command, flag(alloc, "chain", CHAIN_FLAG));
-    and_arg(command, lacks_option(alloc, lacks_help))
+    and_arg(command, value_option(alloc, "lacks", "NAME", lacks_help))
 }
 
 fn draft_command<'a>(alloc: Global) -> Result<clap::Command<'a>, AllocError>
@@ -269,6 +261,21 @@ fn example_command<'a>(alloc: Global) -> Result<clap::Command<'a>, AllocError>
 
 // The usage is written out, since `clap` would set each value in brackets: it lets values be missing, and the
 // tool of the command names the first that is.
+fn command_with_usage<'a>(
+    alloc: Global,
+    name: &'a str,
+    about: &'a str,
+    usage: &'a str,
+    example: &'a str,
+) -> clap::Command<'a>
+    ensures { IsApp result (new_app name.entry.now) }
+{
+    clap::Command::new(alloc, name)
+        .about(about)
+        .override_usage(usage)
+        .after_help(example)
+}
+
 fn random_command<'a>(
     alloc: Global,
     name: &'a str,
@@ -279,10 +286,7 @@ fn random_command<'a>(
 ) -> Result<clap::Command<'a>, AllocError>
     ensures { Makes result (six_values name.entry.now) }
 {
-    let command = clap::Command::new(alloc, name)
-        .about(about)
-        .override_usage(usage)
-        .after_help(example);
+    let command = command_with_usage(alloc, name, about, usage, example);
     let command = and_value(alloc, Ok(command), "KIND", KIND);
     let command = and_value(alloc, command, "THREADS", "Number of threads: 1 to 64");
     let command = and_value(alloc, command, "QUOTA", QUOTA_OF_THREAD);
@@ -294,10 +298,13 @@ fn random_command<'a>(
 fn serve_command<'a>(alloc: Global) -> Result<clap::Command<'a>, AllocError>
     ensures { Makes result serve_app }
 {
-    let command = clap::Command::new(alloc, "serve")
-        .about("Serve one set to clients on 127.0.0.1, and print the remaining keys at the end")
-        .override_usage("listset serve KIND SEATS QUOTA PORT SESSIONS [FILE]")
-        .after_help("Example: listset serve lazy 2 16 4000 1");
+    let command = command_with_usage(
+        alloc,
+        "serve",
+        "Serve one set to clients on 127.0.0.1, and print the remaining keys at the end",
+        "listset serve KIND SEATS QUOTA PORT SESSIONS [FILE]",
+        "Example: listset serve lazy 2 16 4000 1",
+    );
     let command = and_value(alloc, Ok(command), "KIND", KIND);
     let command = and_value(alloc, command, "SEATS", SEATS);
     let command = and_value(alloc, command, "QUOTA", QUOTA_OF_SEAT);
@@ -343,7 +350,7 @@ fn replay_command<'a>(alloc: Global, lacks_help: &'a str) -> Result<clap::Comman
         "Schedule file; standard input if - or missing",
         "Example: listset example full | listset replay",
     );
-    and_arg(command, lacks_option(alloc, lacks_help))
+    and_arg(command, value_option(alloc, "lacks", "NAME", lacks_help))
 }
 
 fn judge_command<'a>(alloc: Global) -> Result<clap::Command<'a>, AllocError>

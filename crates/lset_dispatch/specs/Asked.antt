@@ -1,5 +1,5 @@
--- What the words of a command line ask for. Of the commands that show something (show, trace, draft, example, run, serve) nothing is
--- said, nor of lists that lack a check: they are safe, and tested.
+-- What the words of a command line ask for. Of the commands that are not named here nothing is said, nor of lists that lack a check:
+-- they are safe, and tested.
 use Rattle.std.specs.Prelude.{List, Option, Some, None, Result, Ok, Err}
 use Rattle.clap.specs.Words.{Text}
 use Rattle.lset_command.specs.CommandLine.{Choice, OptionValues}
@@ -10,7 +10,7 @@ use Rattle.tool_base.specs.declared.arguments.RandomRequest.{RandomRequest}
 use Rattle.tool_base.specs.declared.trouble.ValueName.{ValueName}
 use Rattle.tool_base.specs.Arguments.{random_request_of}
 use Rattle.lset_dispatch.specs.declared.request.Request.{Request}
-use Rattle.lset_dispatch.specs.declared.request.Request.TheVariants.{Replay, Judge, Check, Gen, Faults}
+use Rattle.lset_dispatch.specs.declared.request.Request.TheVariants.{Replay, Judge, Check, Gen}
 
 -- a request, or the first value or option that is wrong
 abbrev pub Asked : Type 0
@@ -30,7 +30,6 @@ asked_by command.Replay values options = asked_replay options.lacks
 asked_by command.Judge values options = Some (Ok Judge)
 asked_by command.Check values options = Some (Ok Check)
 asked_by command.Gen values options = Some (asked_gen (random_request_of values))
-asked_by command.Faults values options = Some (Ok Faults)
 asked_by other values options = None
 
 -- what is asked for, if anything is said of the command

@@ -12,11 +12,10 @@ use Rattle.tool_base.specs.Tools.{Made, Ends, AppendsFront}
 use Rattle.tool_replay.specs.Replaying.{Replays}
 use Rattle.tool_replay.specs.Checking.{Checks}
 use Rattle.tool_replay.specs.Generating.{Answers}
-use Rattle.tool_base.specs.Faults.{TellsFaults}
 use Rattle.tool_judge.specs.Judging.{Judges}
 use Rattle.lset_dispatch.specs.Asked.{Asked, asked}
 use Rattle.lset_dispatch.specs.declared.request.Request.{Request}
-use Rattle.lset_dispatch.specs.declared.request.Request.TheVariants.{Replay, Judge, Check, Gen, Faults}
+use Rattle.lset_dispatch.specs.declared.request.Request.TheVariants.{Replay, Judge, Check, Gen}
 
 -- How a command ends: the two outputs before and after it, and its status.
 abbrev pub Ending : Type 1
@@ -39,8 +38,6 @@ RequestEnds Check input output_old output_new stderr_old stderr_new status =
     EndsOnBytes Checks input output_old output_new stderr_old stderr_new status
 RequestEnds (Gen random) input output_old output_new stderr_old stderr_new status =
     Ends (Answers (Ok random)) output_old output_new stderr_old stderr_new status
-RequestEnds Faults input output_old output_new stderr_old stderr_new status =
-    Ends TellsFaults output_old output_new stderr_old stderr_new status
 RequestEnds request input output_old output_new stderr_old stderr_new status = Unit {0}
 
 -- if the path of no file is named, it does so on the standard input; else on what some file holds (that it is the one of this path, or

@@ -38,10 +38,7 @@ fn text_of(option: &Option<String>) -> Option<&str> {
 fn find_broken(lacks: &Option<String>) -> Result<Option<BrokenList>, ValueName> {
     match lacks {
         None => Ok(None),
-        Some(name) => match named(name.as_bytes()) {
-            Some(broken) => Ok(Some(broken)),
-            None => Err(ValueName::Lacks),
-        },
+        Some(name) => Ok(Some(named(name.as_bytes()).ok_or(ValueName::Lacks)?)),
     }
 }
 

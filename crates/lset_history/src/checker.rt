@@ -139,7 +139,7 @@ fn first_too_early(calls: &[CallRecord], order: &[Placed]) -> Option<u32>
 /// Checks that `order` explains the calls of `history` and leaves `keys`, in strictly increasing order.
 ///
 /// `Ok` means that the order linearizes the history (Herlihy and Wing, with completion of pending calls) for the sequential
-/// set with the history's threads, quota and opening keys. `tool_base` has a use of it, in `src/checking.rt`.
+/// set with the history's threads, quota and opening keys. `tool_replay` has a use of it, in `src/checking.rt`.
 ///
 /// # Errors
 ///

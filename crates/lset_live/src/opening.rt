@@ -1,5 +1,5 @@
 //! Opening a set.
-ghost use Rattle.std.specs.Prelude.{◌≡◌, ◌↔◌, IsTrue, length, All, IfOk, IfErr};
+ghost use Rattle.std.specs.Prelude.{◌≡◌, length, All, IfOk, IfErr};
 ghost use Rattle.std.specs.List.Sorted.{IsStrictlyIncreasing};
 ghost use Rattle.lset_words.specs.Words.{empty, Opens};
 ghost use Rattle.lset_steps.specs.Steps.{opening_of};
@@ -11,7 +11,7 @@ use crate::set::LiveSet;
 use atomic_table::Table;
 use lset_rule::{Opened, OwnSlots};
 use lset_steps::{Machine, opening_words};
-use lset_words::{Layout, LayoutFault, layout, layout_opening};
+use lset_words::{Layout, LayoutFault, layout, layout_opening, rises};
 use std::alloc::{AllocError, Global};
 use std::marker::PhantomData;
 
@@ -82,18 +82,6 @@ pub fn open<M: Machine>(
         Err(LayoutFault::Quota) => Err(OpenFault::Quota),
         Err(LayoutFault::Opening) => unreachable!(),
     }
-}
-
-/// Whether the keys rise strictly.
-fn rises(keys: &[u32]) -> bool
-    ensures { IsTrue result ↔ IsStrictlyIncreasing keys.now }
-{
-    for i in 1..keys.len() {
-        if keys[i - 1] >= keys[i] {
-            return false;
-        }
-    }
-    true
 }
 
 /// Opens a set that has these keys, 0 to `MOST_OPENING` of them, rising strictly, and else as `open` does: with 1 to

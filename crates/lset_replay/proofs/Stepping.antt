@@ -156,9 +156,6 @@ module _ (op : Opening) (last : ℕ) (log : Log) (contents : Contents) (counts :
   step_bounded = subst IsBounded (sym kept_changes) (changed_bounded contents k s.changes f.upto f.keys ch en.content
       (λ j m l c. low m j (omega arith) c) f.bounded)
 
-  in_seats : (u : ℕ) → u < op.threads → u < length s.under_way
-  in_seats u l = let b : length s.under_way ≡ op.threads = f.seats in omega arith
-
   idle_by : (a : Option Reply) (u : ℕ) → u < op.threads → open_after (stepped t ch a) u (is_open log u k) ≡ false
       → open_call_at (ended_on (suc k) t a changed).under_way u ≡ None
   idle_by None u l e = changed_open (suc k) t ch s u None (f.idle u l e)

@@ -93,7 +93,7 @@ abbrev pub plan_in : Version → List (List ℕ) → Result Plan LineFault
 plan_in version parts = text_from (schedules version) parts >>= λ told. Ok (planned version told.header told.keys told.lines)
 
 -- The first line alone decides the version: it is the second if that line is the title of the second, else the first.
--- A text that is that title without a newline is of the second, and is refused as NotEnded as it would be by either.
+-- A text that is that title without a newline is of the second, and its line is refused as it would be by either.
 abbrev pub version_told : List (List ℕ) → Version
 version_told parts = version_in (title Two) parts
 

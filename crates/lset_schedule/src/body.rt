@@ -159,7 +159,7 @@ fn read_body<L: EventLine>(
     let mut rest = text;
     while !rest.is_empty() {
         let Some((line, after)) = cut(rest, b'\n') else {
-            return Err(LineFault::at(number, Cause::NotEnded));
+            return Err(LineFault::unended(number));
         };
         if let Err(cause) = body.read_line(version, line) {
             return Err(LineFault::at(number, cause));

@@ -6,9 +6,9 @@ use Rattle.std.proofs.Math.Seq.{get_or-append_seam}
 use Rattle.std.proofs.lemmas.Bool.{eqb-true, ne_eqb}
 use Rattle.std.proofs.lemmas.List.{append-nil, nil_from_length}
 use Rattle.lset_text.specs.declared.causes.Cause.{Cause}
-use Rattle.lset_text.specs.declared.causes.Cause.TheVariants.{NotEnded, Memory}
+use Rattle.lset_text.specs.declared.causes.Cause.TheVariants.{Memory}
 use Rattle.lset_text.specs.declared.causes.LineFault.{LineFault}
-use Rattle.lset_text.specs.Causes.{fault}
+use Rattle.lset_text.specs.Causes.{fault, unended}
 use Rattle.lset_text.specs.Parts.{cut_at}
 use Rattle.lset_text.specs.Results.{◌>>=◌, map_fault}
 use Rattle.lset_text.specs.Lines.{Grammar, lines_from, Leads, IsFaultlessTo, IsGoodLine, Stands}
@@ -44,7 +44,7 @@ faults_below : {S : Type 0} (g : Grammar S) (line : ℕ) (s : S) (parts : List (
     → lines_from g line s parts ≡ Err e → line ≤ e.line
 unfolding lines_from
 faults_below g line s [] e bad = omega (arith, fault_line line (g.ends s) e bad)
-faults_below g line s (x ∷ []) e bad = omega (arith, fault_line line (cond (eqb (length x) 0) (g.ends s) (Err NotEnded)) e bad)
+faults_below g line s (x ∷ []) e bad = let same : e.line ≡ line = fault_line line _ e bad in omega arith
 faults_below {S} g line s (x ∷ y ∷ more) e bad =
     elim (bind_err (map_fault (fault line) (g.step s x)) (λ (t : S). lines_from g (line + 1) t (y ∷ more)) e bad) [
       | inl here ↦ omega (arith, fault_line line (g.step s x) e here)
@@ -90,7 +90,7 @@ stops g first text read line s d rest x after parts is stands =
 -- a line that has bytes and no newline
 pub not_ended : {S : Type 0} (g : Grammar S) (first : ℕ) (text : List ℕ) (read : Result S LineFault) (line : ℕ) (s : S)
     (rest : List ℕ) → cut_at 10 rest ≡ rest ∷ [] → (length rest ≡ 0 → ⊥)
-    → Stands g first text read line s rest → read ≡ Err (fault line NotEnded)
+    → Stands g first text read line s rest → read ≡ Err (unended line)
 unfolding lines_from
 not_ended g first text read line s rest parts some stands =
     sym stands.so_far ∙ rw (parts, ne_eqb (length rest) 0 some) refl
@@ -142,10 +142,10 @@ line_at g first text read line s rest x after parts stands =
 
 -- ---- BOTH WAYS
 
-ended : {S : Type 0} (g : Grammar S) (line : ℕ) (b : Bool) (s t : S)
-    → map_fault (fault line) (cond b (g.ends s) (Err NotEnded)) ≡ Ok t → (b ≡ true) × (g.ends s ≡ Ok t)
-ended g line true s t e = (refl, map_fault_ok (fault line) (g.ends s) t e)
-ended g line false s t e = absurd cc
+ended : {S : Type 0} (g : Grammar S) (line : ℕ) (other : Cause) (b : Bool) (s t : S)
+    → map_fault (fault line) (cond b (g.ends s) (Err other)) ≡ Ok t → (b ≡ true) × (g.ends s ≡ Ok t)
+ended g line other true s t e = (refl, map_fault_ok (fault line) (g.ends s) t e)
+ended g line other false s t e = absurd cc
 
 -- WHAT IS READ STANDS THERE: where each line that is taken stands behind those of the state, so do all, and there the text may end.
 -- Of the states on the way it may be known that each line that is taken keeps `P`.
@@ -157,7 +157,7 @@ pub lines_hold : {S : Type 0} (g : Grammar S) (P : S → Type 0) (text : S → L
 unfolding lines_from
 lines_hold g P text one same line s t [] some holds is = absurd (omega arith)
 lines_hold {S} g P text one same line s t (x ∷ []) some holds is =
-    let last = ended g line (eqb (length x) 0) s t is in
+    let last = ended g line _ (eqb (length x) 0) s t is in
     let none : x ≡ [] = nil_from_length x (eqb-true _ _ last.0) in
     let at_end = same s t last.1 in (
       ap (λ (y : List ℕ). text s ++ y ∷ []) none ∙ ap (λ (u : S). text u ++ [] ∷ []) at_end,

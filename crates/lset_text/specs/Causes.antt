@@ -7,6 +7,10 @@ use Rattle.lset_text.specs.declared.causes.LineFault.{LineFault}
 abbrev pub fault : ℕ → Cause → LineFault
 fault line cause = record { line = line; cause = cause }
 
+-- of a line that has bytes and no newline
+abbrev pub unended : ℕ → LineFault
+unended line = fault line cause.NotEnded
+
 abbrev pub name_of : Cause → List ℕ
 name_of cause.Header = codes "Header"
 name_of cause.Kind = codes "Kind"

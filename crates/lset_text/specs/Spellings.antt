@@ -1,5 +1,5 @@
 -- The words for kinds of lists, calls and replies.
-use Rattle.std.specs.Prelude.{◌≡◌, ℕ, ◌<◌, ◌^◌, ◌++◌, ◌==◌, ◌||◌, Bool, true, false, List, [], ◌∷◌, take, drop, codes}
+use Rattle.std.specs.Prelude.{◌≡◌, ℕ, ◌<◌, ◌^◌, ◌++◌, ◌||◌, Bool, true, false, List, [], ◌∷◌, take, drop, codes}
 use Rattle.std.specs.Prelude.{Option, Some, None, is_some, option_map, if◌then◌else◌}
 use Rattle.std.specs.Fmt.{decimal}
 use Rattle.std.specs.List.{find}
@@ -83,15 +83,6 @@ reply_text reply.False = codes "false"
 reply_text reply.Full = codes "full"
 reply_text (reply.At k) = codes "at-" ++ decimal k.0
 reply_text reply.Nothing = codes "nothing"
-
--- whether two replies are the same
-abbrev pub same_reply : Reply → Reply → Bool
-same_reply reply.True reply.True = true
-same_reply reply.False reply.False = true
-same_reply reply.Full reply.Full = true
-same_reply (reply.At x) (reply.At y) = x.0 == y.0
-same_reply reply.Nothing reply.Nothing = true
-same_reply x y = false
 
 -- the replies of a version that have no number
 abbrev pub plain_in : Version → List Reply

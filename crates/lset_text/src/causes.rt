@@ -1,54 +1,60 @@
-ghost use Rattle.std.specs.Prelude.{◌≡◌};
-ghost use Rattle.lset_text.specs.Causes.{fault, name_of};
+ghost use Rattle.std.specs.Prelude.{◌≡◌, ◌≤◌, length};
+ghost use Rattle.lset_text.specs.Causes.{fault, name_of, unended};
 ghost use Rattle.lset_text.specs.declared.causes.Cause.TheVariants.{Memory};
 
 use std::alloc::{AllocError, AllocFailed};
 use thiserror::Error;
 
-/// Why a line of a text is refused. Of the causes that a line has, the first in this order is told; `NotEnded` comes before
-/// all others.
+/// Why a line of a text is refused, with examples. Of the causes that a line has, the first in this order is told; `NotEnded`
+/// comes before all others.
 #[derive(Clone, Copy, Debug, PartialEq, Eq)]
 pub enum Cause {
-    /// The first line is not the title of the text that is read.
+    /// The first line is not the title of the text that is read: an empty input; a schedule given to `check`;
+    /// `listset-calls 2`.
     Header,
-    /// The second line is not `list` and the word for a kind.
+    /// The second line is not `list` and the word for a kind: `list skip`, `list Coarse`.
     Kind,
-    /// The third line is not `threads` and a number from 1 to 64.
+    /// The third line is not `threads` and a number from 1 to 64: `threads 65`, `threads 01`.
     Threads,
-    /// The fourth line is not `quota` and a number from 0 to 16384.
+    /// The fourth line is not `quota` and a number from 0 to 16384: `quota 16385`.
     Quota,
-    /// The line of a schedule or a draft has not the pieces and the words of a line that may come there.
+    /// The line has not the fields and the words of a line that may come there: `take 0 5`; `go  0 1` (two spaces);
+    /// `opening 5` below an event; an empty line.
     Event,
-    /// The line of a report, of recorded calls or of keys has not the pieces and the words of a line that may come there.
+    /// As `Event`, in the other texts: `place 0 maybe`; `place 0 true` below a `key` line; in version 1 `place 0 at-5`; in a
+    /// recording `call 0 add 5 1 8 full`.
     Line,
-    /// A field that is to be a number is none, or one outside its limits.
+    /// A field that is to be a number is none, or one outside its limits: `begin 0 add 05`, `go 0 10001`, `place 01 true`.
     Number,
-    /// With this line there are more events, opening keys, calls, places or keys than the text may have.
+    /// With this line there are more events, opening keys, calls, places or keys than the text may have: the hundredth line
+    /// `go 0 10000`.
     TooMany,
-    /// The key is not above the key before.
+    /// The key is not above the key before: `opening 9` twice.
     Opening,
-    /// The call does not go on with the history of the calls above.
+    /// The call does not go on with the history of the calls above: `call 1 0 add 7 8 9 true` below
+    /// `call 0 0 add 5 1 8 true`, since moment 8 is taken.
     History,
-    /// The line has bytes and no newline, or the text has no byte left before its last line.
+    /// The line has bytes and no newline, or the text ends before its last line: a report or a recording without `end`.
     NotEnded,
-    /// An event of the line names no thread.
+    /// An event of the line names no thread: `go 1 1` with `threads 1`.
     NoThread,
-    /// A thread begins a call on the line and has one open.
+    /// A thread begins a call on the line and has one open: `begin 0 add 5`, then `begin 0 add 6`.
     Busy,
-    /// A thread makes a step on the line and has no call open.
+    /// A thread makes a step on the line and has no call open: `go 0 8` of a call with seven steps.
     Idle,
-    /// A broken list cannot make the event of the line.
+    /// A broken list cannot make the event of the line: its step would access a word outside its table.
     Lost,
-    /// A thread does not get to where the line of a draft sends it.
+    /// A thread does not get to where the line sends it: `go 1 out` of a thread that waits for a lock of another.
     Waits,
-    /// There was no memory for the line, or for one above.
+    /// There was no memory for the line, or for one above. Such a line is not named: the program says `out of memory`.
     Memory,
 }
 
 impl Cause {
     /// Returns the cause's name, as the line on standard error has it.
     pub fn name(self) -> &'static str
-        ensures { result.now ≡ name_of self }
+        ensures name { result.now ≡ name_of self }
+        ensures short { length result.now ≤ 8 }
     {
         match self {
             Cause::Header => "Header",
@@ -102,5 +108,12 @@ impl LineFault {
         ensures { result ≡ fault line cause }
     {
         LineFault { line, cause }
+    }
+
+    /// Returns the error of a line that has bytes and no newline.
+    pub fn unended(line: u64) -> LineFault
+        ensures { result ≡ unended line }
+    {
+        LineFault::at(line, Cause::NotEnded)
     }
 }

@@ -63,12 +63,10 @@ fn due(text: &[u8], line: u64, cause: Cause) -> Result<(&[u8], &[u8]), LineFault
     if let Some((first, rest)) = cut(text, b'\n') {
         return Ok((first, rest));
     }
-    let cause = if text.is_empty() {
-        cause
-    } else {
-        Cause::NotEnded
-    };
-    Err(LineFault::at(line, cause))
+    if text.is_empty() {
+        return Err(LineFault::at(line, cause));
+    }
+    Err(LineFault::unended(line))
 }
 
 /// Returns the version of a file: the second if the file begins with a line that is `title`, the title of its second
@@ -92,7 +90,7 @@ pub fn version_of(text: &[u8], title: &[u8]) -> Version
 /// # Errors
 ///
 /// The first error, with its line from 1 to 4. If a header line is due and no byte is left, it is the error of that line:
-/// `Header`, `Kind`, `Threads` or `Quota`. A line that has bytes and no newline is `NotEnded`, before anything else of it is
+/// `Header`, `Kind`, `Threads` or `Quota`. A line that has bytes and no newline is refused before anything else of it is
 /// looked at.
 pub fn read_header<'a>(title: &[u8], text: &'a [u8]) -> Result<(Header, &'a [u8]), LineFault>
     // What is read is in the text.

@@ -1,4 +1,4 @@
-ghost use Rattle.std.specs.Prelude.{◌≡◌, ◌<◌, ◌≤◌, ◌^◌, IfSome};
+ghost use Rattle.std.specs.Prelude.{◌≡◌, ◌≤◌, IfSome};
 ghost use Rattle.lset_text.specs.Numbers.{number_in, NumbersReadBack};
 
 /// Returns the number from `low` to `high` that a field spells: `0`, or digits of which the first is not `0`. `None` for any
@@ -29,7 +29,6 @@ pub fn number(piece: &[u8], low: u32, high: u32) -> Option<u32>
 /// Returns what `number` does of a range that may go past 32 bits; it takes a test more for each digit.
 #[tactic(auto, unfolding(crate::specs::Numbers::number_in))]
 pub fn long_number(piece: &[u8], low: u64, high: u64) -> Option<u64>
-    requires { high < 2 ^ 63 }
     ensures value { result ≡ number_in low high piece.now }
     ensures within { IfSome result (λ n. n ≤ high) }
 {
@@ -45,11 +44,11 @@ pub fn long_number(piece: &[u8], low: u64, high: u64) -> Option<u64>
         if value > last {
             return None;
         }
-        let more = value * 10 + u64::from(*b - b'0');
-        if more > high {
+        let digit = u64::from(*b - b'0');
+        if digit > high - value * 10 {
             return None;
         }
-        value = more;
+        value = value * 10 + digit;
     }
     if value < low {
         return None;

@@ -4,5 +4,4 @@ pub mod History
 pub mod Log
 pub mod Account
 pub mod Placement
-pub mod Points
 pub mod Records

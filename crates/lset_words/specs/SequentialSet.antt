@@ -15,10 +15,6 @@ pub record SetState : Type 0 where
 abbrev pub opening_set : Opening → SetState
 opening_set o = record { keys = o.keys; counts = replicate o.threads 0 }
 
--- the empty set of that many threads
-abbrev pub empty_set : ℕ → SetState
-empty_set threads = record { keys = []; counts = replicate threads 0 }
-
 abbrev pub has_key : ℕ → List ℕ → Bool
 has_key k [] = false
 has_key k (x ∷ xs) = x == k || has_key k xs

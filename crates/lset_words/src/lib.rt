@@ -11,6 +11,7 @@
 #![tactic(auto)]
 
 ghost use Rattle.std.specs.Prelude.{◌≡◌, ℕ, ◌+◌, ◌/◌, ◌%◌, ◌<◌, ◌^◌, IsTrue, ◌↔◌, Bool, IfOk, IfErr};
+ghost use Rattle.std.specs.List.Sorted.{IsStrictlyIncreasing};
 ghost use Rattle.lset_words.specs.Words.{key_word_of, key_of, packed, RefusesSizes};
 
 mod fault;
@@ -138,6 +139,18 @@ pub fn layout_opening(threads: u32, quota: u32, opening: u32) -> Result<Layout, 
         return Err(LayoutFault::Opening);
     }
     Ok(Layout::of(threads, quota, opening))
+}
+
+/// Whether each key is above the one before.
+pub fn rises(keys: &[u32]) -> bool
+    ensures { IsTrue result ↔ IsStrictlyIncreasing keys.now }
+{
+    for i in 1..keys.len() {
+        if keys[i - 1] >= keys[i] {
+            return false;
+        }
+    }
+    true
 }
 
 /// Returns the link word of a node whose next node has the number `next`, below `2^63`, and whose mark is `mark`. Mark and

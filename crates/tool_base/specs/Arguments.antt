@@ -1,5 +1,5 @@
 -- What the values of `gen` ask for.
-use Rattle.std.specs.Prelude.{◌≡◌, ◌≢◌, ℕ, ◌<◌, List, length, slice_index, Option, option_and_then, slice_get, Result, Ok}
+use Rattle.std.specs.Prelude.{ℕ, List, Option, option_and_then, slice_get, Result, Ok}
 use Rattle.lset_words.specs.declared.Kind.{Kind}
 use Rattle.lset_words.specs.declared.TheConstants.{MOST_THREADS, MOST_QUOTA}
 use Rattle.lset_text.specs.Numbers.{number_in}
@@ -28,7 +28,3 @@ random_request_of values = do
   keys ← or_fail name.Keys (number_at values 4 1 MOST_KEYS_ASKED)
   seed ← or_fail name.Seed (number_at values 5 0 MOST_SEED)
   Ok (record { kind = kind; threads = threads; quota = quota; calls = calls; keys = keys; seed = seed })
-
--- with no plus sign, and no leading zero: so a text of digits is the one spelling of its number
-abbrev pub IsPlain : List ℕ → Type 0
-IsPlain text = (0 < length text) × (slice_index text 0 ≢ 43) × (slice_index text 0 ≡ 48 → length text ≡ 1)

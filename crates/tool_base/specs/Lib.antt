@@ -1,4 +1,3 @@
 pub mod Trouble
 pub mod Tools
 pub mod Arguments
-pub mod Faults

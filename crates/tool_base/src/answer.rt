@@ -1,5 +1,4 @@
-ghost use Rattle.std.specs.Prelude.{◌≡◌, ◌+◌, ◌<◌, ◌≤◌, ◌++◌, codes, length, Result};
-ghost use Rattle.lset_text.specs.Causes.{name_of};
+ghost use Rattle.std.specs.Prelude.{◌≡◌, ◌+◌, ◌<◌, ◌++◌, codes, length, Result};
 ghost use Rattle.tool_base.specs.Tools.{Delivers, IsDelivered, view};
 ghost use Rattle.tool_base.specs.Trouble.{trouble_text};
 ghost use Rattle.tool_base.specs.declared.answer.TheConstants.{LONGEST_LINE};
@@ -8,7 +7,6 @@ use crate::input::put;
 use crate::trouble::Trouble;
 use arrayvec::ArrayString;
 use itoa::Buffer;
-use lset_text::Cause;
 use std::io::Write;
 
 /// The most bytes of a line about an error.
@@ -32,14 +30,6 @@ impl Answer {
             Err(Trouble::CannotWrite)
         }
     }
-}
-
-/// The cause's name, which is short.
-fn short_name(cause: Cause) -> &'static str
-    ensures name { result.now ≡ name_of cause }
-    ensures short { length result.now ≤ 8 }
-{
-    cause.name()
 }
 
 /// A line of a few words.
@@ -68,12 +58,7 @@ pub fn line_of(trouble: Trouble) -> ArrayString<LONGEST_LINE>
         Trouble::CannotListen => line_with("listset: cannot listen", "", "", ""),
         Trouble::Memory => line_with("listset: out of memory", "", "", ""),
         Trouble::Line(line, cause) => {
-            line_with(
-                "listset: line ",
-                buffer.format(line),
-                ": ",
-                short_name(cause),
-            )
+            line_with("listset: line ", buffer.format(line), ": ", cause.name())
         }
         Trouble::Bad(name) => line_with("listset: bad ", "", "", name.word()),
         Trouble::Work(cause) => line_with("listset: work: ", "", "", cause.name()),

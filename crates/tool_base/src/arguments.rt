@@ -1,10 +1,9 @@
-ghost use Rattle.std.specs.Prelude.{◌≡◌, ◌≤◌, ◌↔◌, IsTrue, IfOk, IfSome, map, string_bytes};
-ghost use Rattle.lset_text.specs.Numbers.{number_in};
+ghost use Rattle.std.specs.Prelude.{◌≡◌, ◌≤◌, IfOk, IfSome, map, string_bytes};
 ghost use Rattle.lset_schedule.specs.Generating.{IsAccepted};
-ghost use Rattle.tool_base.specs.Arguments.{IsPlain, kind_at, number_at, random_request_of};
+ghost use Rattle.tool_base.specs.Arguments.{kind_at, number_at, random_request_of};
 
 use crate::trouble::ValueName;
-use lset_text::{number, read_kind};
+use lset_text::{long_number, number, read_kind};
 use lset_words::{Kind, MOST_QUOTA, MOST_THREADS};
 
 /// The maximum number of calls that an argument may ask for.
@@ -83,28 +82,10 @@ fn number_at(values: &[String], index: usize, low: u32, high: u32) -> Option<u32
     number(values.get(index)?.as_bytes(), low, high)
 }
 
-/// Whether the text begins with no sign and with no zero before another byte.
-fn is_plain(text: &[u8]) -> bool
-    ensures { IsTrue result ↔ IsPlain text.now }
-{
-    !text.is_empty() && text[0] != b'+' && (text.len() == 1 || text[0] != b'0')
-}
-
-/// The number that the text spells: `0`, or digits of which the first is not `0`. `None` for any other text,
-/// and for a number that is no `u64`.
-fn long_number(text: &str) -> Option<u64>
-    ensures { result ≡ number_in 0 MOST_SEED text.now }
-{
-    if !is_plain(text.as_bytes()) {
-        return None;
-    }
-    text.parse().ok()
-}
-
 fn seed_at(values: &[String], index: usize) -> Option<u64>
     ensures { result ≡ number_at (map string_bytes values.now) index 0 MOST_SEED }
 {
-    long_number(values.get(index)?.as_str())
+    long_number(values.get(index)?.as_bytes(), 0, MOST_SEED)
 }
 
 /// Reads the arguments KIND, THREADS, QUOTA, CALLS, KEYS and SEED, in this order, with the ranges of `RandomRequest`;

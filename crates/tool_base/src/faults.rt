@@ -1,6 +1,3 @@
-ghost use Rattle.tool_base.specs.Faults.{TellsFaults};
-ghost use Rattle.tool_base.specs.Tools.{view};
-
 use crate::answer::Answer;
 use crate::trouble::Trouble;
 use std::alloc::Global;
@@ -11,7 +8,7 @@ Error messages of listset. docs/TEXTS.md has examples.
 
 listset: line L: CAUSE, in a schedule; exit status 1
   Header    Line 1 must be 'listset-schedule 1' or 'listset-schedule 2'. To turn a draft into a schedule, use the command draft.
-  Kind      Line 2 must be 'list' and one of coarse, fine, optimistic, lazy, lock-free; with --lacks NAME, the list of NAME.
+  Kind      Line 2 must be 'list' and one of coarse, fine, optimistic, lazy, lock-free; on a broken list, the kind of that list.
   Threads   Line 3 must be 'threads' and a number from 1 to 64.
   Quota     Line 4 must be 'quota' and a number from 0 to 16384.
   Event     Expected 'begin T CALL K' or 'go T N'. In version 2 'opening K' lines, one key each, may come before the first event.
@@ -22,12 +19,12 @@ listset: line L: CAUSE, in a schedule; exit status 1
   NoThread  There is no such thread. Threads are numbered from 0 to the number of threads less 1.
   Busy      The thread begins a call while it has one pending.
   Idle      The thread makes a step while it has no call pending.
-  Lost      Only with --lacks: the broken list's step would access a word outside its table.
+  Lost      The broken list's step would access a word outside its table.
 
 listset: line L: CAUSE, in a draft; exit status 1
   Header    Line 1 must be 'listset-draft 2'.
   Waits     The thread does not get there within 10000 steps or the events left. It may be waiting for a lock.
-  (others)  As in a schedule.
+  (others)  As in a schedule, but for Lost.
 
 listset: line L: CAUSE, in a report; exit status 1
   Header    Line 1 must be 'listset-report 1' or 'listset-report 2'. To make a report of a schedule, use the command replay.
@@ -69,7 +66,7 @@ listset: line 1: Header, from a command that does not read this kind of file; ex
   listset-report 1 or 2    A report: check and show read it.
   listset-calls 1          Recorded calls: judge reads them.
   listset-trace 1          A trace: no command reads it.
-  listset-course 1         A course: paste it into page/index.html, under Learn.
+  listset-course 1         A course: paste it into page/index.html, under Solve.
   key K                    Keys: serve opens with them.
   (no line)                The input is empty: the file has no bytes, or the command before a pipe failed.
   (one of these)           The line ends with CR LF, has a space at its end, or has a byte order mark before it. A line ends with LF.
@@ -115,10 +112,7 @@ Other messages
 ";
 
 /// Returns the answer of the command `faults`: the text `FAULTS`. Allocates; `Trouble::Memory` if that fails.
-#[tactic(auto, unfolding(crate::specs::Faults::faults_text))]
-pub fn list_faults(alloc: Global) -> Result<Answer, Trouble>
-    ensures { TellsFaults (view result) }
-{
+pub fn list_faults(alloc: Global) -> Result<Answer, Trouble> {
     let text = Vec::from_slice(alloc, FAULTS.as_bytes())?;
     Ok(Answer { text, status: 0 })
 }

@@ -6,7 +6,6 @@ mod answer;
 mod arguments;
 mod faults;
 mod input;
-mod number_lines;
 mod tool;
 mod trouble;
 
@@ -18,6 +17,5 @@ pub use arguments::{
 };
 pub use faults::{FAULTS, list_faults};
 pub use input::{Input, LONGEST, READ_SIZE, put, read_all};
-pub use number_lines::{put_keys, put_number};
 pub use tool::{Tool, answer_text, run_tool};
 pub use trouble::{SystemCause, Trouble, ValueName};

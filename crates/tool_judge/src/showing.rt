@@ -1,8 +1,6 @@
-ghost use Rattle.std.specs.Prelude.{IsTrue};
-ghost use Rattle.std.specs.List.Sorted.{IsStrictlyIncreasing};
-
 use crate::texts::refused_text;
 use lset_judge::{Judged, Refusal, Window, is_judged, judge};
+use lset_words::rises;
 use std::alloc::{AllocError, Global};
 use tool_base::{Answer, Input, Tool, Trouble};
 use tool_show::{Form, Picture, Show};
@@ -24,18 +22,6 @@ pub enum Claim {
     Explained,
     /// The judge, which knows no `ceiling` and no quota, cannot say.
     Unknown,
-}
-
-/// Whether each key is above the one before.
-fn rises(keys: &[u32]) -> bool
-    ensures { IsTrue result → IsStrictlyIncreasing keys.now }
-{
-    for i in 1..keys.len() {
-        if keys[i - 1] >= keys[i] {
-            return false;
-        }
-    }
-    true
 }
 
 /// Returns what is known of all orders of the calls of a picture that leave its keys. Allocates; `AllocError` if that fails.

@@ -107,7 +107,7 @@ pub fn read_draft(alloc: Global, bytes: &[u8]) -> Result<Draft, LineFault> {
     let mut rest = text;
     while !rest.is_empty() {
         let fault = |cause| LineFault::at(number, cause);
-        let (line, after) = cut(rest, b'\n').ok_or(fault(Cause::NotEnded))?;
+        let (line, after) = cut(rest, b'\n').ok_or(LineFault::unended(number))?;
         left = draft.add_line(line, left).map_err(fault)?;
         number = number.saturating_add(1);
         rest = after;

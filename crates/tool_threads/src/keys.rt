@@ -1,8 +1,16 @@
-//! The keys with which a set opens, as the lines of a text.
+//! The keys of a set, as the lines of a text.
 
 use lset_text::{Cause, LineFault, cut, is_above, number};
 use lset_words::MOST_OPENING;
-use std::alloc::Global;
+use std::alloc::{AllocError, Global};
+
+/// Appends a line `key K` for each key. `AllocError` if an allocation fails.
+pub fn put_keys(out: &mut String, keys: &[u32]) -> Result<(), AllocError> {
+    for key in keys {
+        writeln!(out, "key {key}")?;
+    }
+    Ok(())
+}
 
 /// What is left of a text, and the number of its first line.
 #[derive(Clone, Copy)]
@@ -71,7 +79,7 @@ fn keys_of_lines(alloc: Global, left: Remaining<'_>) -> Result<Vec<u32>, LineFau
     let mut rest = left.text;
     while !rest.is_empty() {
         let fault = |cause| LineFault::at(line, cause);
-        let (first, after) = cut(rest, b'\n').ok_or(fault(Cause::NotEnded))?;
+        let (first, after) = cut(rest, b'\n').ok_or(LineFault::unended(line))?;
         add_key(&mut keys, first).map_err(fault)?;
         line = line.saturating_add(1);
         rest = after;
@@ -87,7 +95,7 @@ fn keys_of_lines(alloc: Global, left: Remaining<'_>) -> Result<Vec<u32>, LineFau
 /// # Errors
 ///
 /// The first line that is refused, with the first check that it fails:
-/// - `NotEnded`: it has bytes and no newline;
+/// - it has bytes and no newline;
 /// - `Line`: it is not `key` and one further field;
 /// - `Number`: the key is not a decimal from 0 to 4,294,967,295 without leading zeros;
 /// - `TooMany`: there are `MOST_OPENING` keys above it;

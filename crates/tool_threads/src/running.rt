@@ -1,3 +1,4 @@
+use crate::keys::put_keys;
 use crate::troubles::{opening_trouble, work_trouble};
 use lset_coarse::CoarseList;
 use lset_fine::FineList;
@@ -12,9 +13,7 @@ use std::alloc::{AllocError, Global};
 use std::io::Write;
 use std::sync::Wait;
 use std::thread::Threads;
-use tool_base::{
-    Answer, LivesRequest, RandomRequest, Trouble, deliver, put_keys, put_number, read_lives_request,
-};
+use tool_base::{Answer, LivesRequest, RandomRequest, Trouble, deliver, read_lives_request};
 
 /// How many calls were made, and how many of them returned true, false and full.
 #[derive(Clone, Copy)]
@@ -65,11 +64,17 @@ fn run_round<M: Running + Send + Sync, R: Threads + Wait + Sync>(
 /// The counts, the number of keys, and each key.
 fn summary_text(alloc: Global, counts: Counts, keys: &[u32]) -> Result<Vec<u8>, AllocError> {
     let mut out = String::new(alloc);
-    put_number(&mut out, "calls", counts.calls)?;
-    put_number(&mut out, "true", counts.trues)?;
-    put_number(&mut out, "false", counts.falses)?;
-    put_number(&mut out, "full", counts.fulls)?;
-    put_number(&mut out, "keys", keys.len() as u64)?;
+    let Counts {
+        calls,
+        trues,
+        falses,
+        fulls,
+    } = counts;
+    let left = keys.len();
+    write!(
+        out,
+        "calls {calls}\ntrue {trues}\nfalse {falses}\nfull {fulls}\nkeys {left}\n"
+    )?;
     put_keys(&mut out, keys)?;
     Ok(out.into_bytes())
 }

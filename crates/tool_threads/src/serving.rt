@@ -1,4 +1,4 @@
-use crate::keys::read_keys;
+use crate::keys::{put_keys, read_keys};
 use crate::troubles::{opening_trouble, serve_trouble};
 use lset_coarse::CoarseList;
 use lset_fine::FineList;
@@ -14,13 +14,13 @@ use std::net::{Ipv4Addr, Net, TcpListener, TcpStream};
 use std::sync::Wait;
 use std::thread::Threads;
 use std::time::Clock;
-use tool_base::{Answer, Input, ServeRequest, Trouble, put, put_keys, put_number, read_all};
+use tool_base::{Answer, Input, ServeRequest, Trouble, put, read_all};
 
 /// The lines that a server prints at its end: how many sessions it served and how many calls it made, and each remaining key.
 fn served_text(alloc: Global, served: &Served) -> Result<Vec<u8>, AllocError> {
     let mut out = String::new(alloc);
-    put_number(&mut out, "sessions", served.sessions)?;
-    put_number(&mut out, "calls", served.calls)?;
+    let (sessions, calls) = (served.sessions, served.calls);
+    writeln!(out, "sessions {sessions}\ncalls {calls}")?;
     put_keys(&mut out, &served.keys)?;
     Ok(out.into_bytes())
 }

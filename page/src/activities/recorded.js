@@ -2,6 +2,7 @@
 import { drawRecorded } from "../draw/judged.js";
 import { byId } from "../page/dom.js";
 import { askLong, LONG_TEXT } from "../page/long_run.js";
+import { askNow } from "../page/now.js";
 import { tag } from "../run/markup.js";
 import { RECORDED_EXAMPLE, verdictOnCalls, withNewline } from "../run/recorded.js";
 
@@ -39,7 +40,7 @@ async function judgeCalls() {
   if (text === "") return showVerdict({ ...nothing, kind: "fault", says: "Paste the text of recorded calls first, or open a file." });
   showVerdict({ ...nothing, says: text.length < LONG_TEXT ? "" : "The judge is at work." });
   const said = await askLong("listset_judge_record", text, false);
-  if (withNewline(recordedPart("text").value) === text) showVerdict(verdictOnCalls(said, text));
+  if (withNewline(recordedPart("text").value) === text) showVerdict(verdictOnCalls(askNow, said, text));
 }
 
 // Shows a text in the box, and what the judge says of it.

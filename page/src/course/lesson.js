@@ -3,7 +3,7 @@
 import { readFault } from "../engine/answers.js";
 import { askList, TO_BREAK, verdictOnLacking } from "../run/broken.js";
 import { scheduleOfDraft } from "../run/draft.js";
-import { CAUSES } from "../run/faults.js";
+import { sentenceOn } from "../run/faults.js";
 import { Run } from "../run/moments.js";
 import { eventsAsked, versionOf } from "../run/schedule_text.js";
 import { HEADER_LINES, isTrace, Trace } from "../run/trace.js";
@@ -83,10 +83,10 @@ export function missingIn({ reason, conditions }) {
 // Tries a lesson, which then has the schedules of its start and of its answer: what is wrong with it and at which line, or null.
 function troubleOf(ask, lesson) {
   const start = scheduleOfDraft(ask, lessonText(lesson, lesson.start), lesson.lacks);
-  if (start.fault !== null) return refusedLine(lesson, "start", readFault(start.fault));
+  if (start.fault !== null) return refusedLine(ask, lesson, "start", readFault(start.fault));
   lesson.begun = start.text;
   const begin = runOfSchedule(ask, start.text, lesson.lacks);
-  if (begin.trace === null) return refusedLine(lesson, "start", begin.fault);
+  if (begin.trace === null) return refusedLine(ask, lesson, "start", begin.fault);
   if (!isBounded(ask, lesson)) {
     return { line: lesson.line, says: "there are too many ways to meet its goal: name fewer steps, or say more of each" };
   }
@@ -95,19 +95,20 @@ function troubleOf(ask, lesson) {
   lesson.solution = null;
   if (lesson.answer.length === 0) return null;
   const answer = scheduleOfDraft(ask, lessonText(lesson, [...lesson.start, ...lesson.answer]), lesson.lacks);
-  if (answer.fault !== null) return refusedLine(lesson, "answer", readFault(answer.fault));
+  if (answer.fault !== null) return refusedLine(ask, lesson, "answer", readFault(answer.fault));
   lesson.solution = answer.text;
   const verdict = judged(ask, lesson, answer.text);
   if (verdict.isSolved) return null;
-  if (verdict.reason !== null) return refusedLine(lesson, "answer", verdict.fault ?? { line: null, cause: null, says: verdict.reason });
+  if (verdict.reason !== null) return refusedLine(ask, lesson, "answer", verdict.fault ?? { line: null, cause: null, says: verdict.reason });
   return { line: lesson.line, says: `its answer does not solve it: ${missingIn(verdict)}` };
 }
 
 // A fault of the schedule of a start or an answer, told by the line of the course and in words.
-function refusedLine(lesson, part, { line, cause, says }) {
+function refusedLine(ask, lesson, part, { line, cause, says }) {
   const given = lesson.events[line - HEADER_LINES - lesson.opening.length - 1];
-  if (given === undefined || !(cause in CAUSES)) return { line: lesson.line, says: `its ${part} is refused: ${says}` };
-  return { line: given.number, says: `its ${part} is refused at "${given.line}": ${CAUSES[cause]}` };
+  const why = sentenceOn(ask, cause, "a schedule", "a draft");
+  if (given === undefined || why === null) return { line: lesson.line, says: `its ${part} is refused: ${says}` };
+  return { line: given.number, says: `its ${part} is refused at "${given.line}": ${why}` };
 }
 
 // A course that is read and, where its text has no fault, tried: its name, its lessons, and all faults by their lines.

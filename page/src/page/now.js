@@ -1,7 +1,7 @@
 // The state of the page as it is now, and what changes it. Each change is an action of state.js; then all is drawn anew by one render.
 // No other module of the page but dom.js and state.js is imported here, and so none has to be imported in a circle.
 import { readFault } from "../engine/answers.js";
-import { CAUSES } from "../run/faults.js";
+import { sentenceOn } from "../run/faults.js";
 import { LEVELS } from "../run/judged.js";
 import { scheduleOfTrace } from "../run/schedule_text.js";
 import { momentAt } from "../run/sentences.js";
@@ -110,7 +110,8 @@ export function tellFault(line, cause, said, isOld = true) {
   change("fault", { line, isOld });
   byId("stage").classList.toggle("old", isOld);
   byId("old").hidden = !isOld;
-  byId("fault").textContent = cause in CAUSES ? `${said}: ${CAUSES[cause]}` : said;
+  const why = sentenceOn(askNow, cause, "a schedule", "a draft");
+  byId("fault").textContent = why === null ? said : `${said}: ${why}`;
 }
 
 // A fault that is of no run: that which is shown is as it was.

@@ -1,6 +1,6 @@
 // Calls that were recorded from a set of the reader's own: what the proved judge says of them, in words, and the calls that are drawn.
 import { callsOfRecording, leavesKey, readVerdict } from "../engine/answers.js";
-import { CAUSES_OF_CALLS } from "./faults.js";
+import { sentenceOn } from "./faults.js";
 import { nameOfCall } from "./judged.js";
 
 // Two threads looked for a key, did not find it, and put it in.
@@ -76,15 +76,16 @@ function verdictOfRefusal(why, text) {
 }
 
 // The program's own line about an error, and in words what it is that the text has wrong.
-function troubleInWords({ cause, says }) {
-  return Object.hasOwn(CAUSES_OF_CALLS, cause) ? `${says}: ${CAUSES_OF_CALLS[cause]}.` : says;
+function troubleInWords(ask, { cause, says }) {
+  const why = sentenceOn(ask, cause, "recorded calls");
+  return why === null ? says : `${says}: ${why}.`;
 }
 
 // The judge's record on the text (listset_judge_record): of which kind it is, a sentence, its reasons, and the calls to draw; those of a
 // refusal with the moment from which they have no order, and what the key is there.
-export function verdictOnCalls(answer, text) {
+export function verdictOnCalls(ask, answer, text) {
   const judged = readVerdict(answer);
   if (judged.kind === "ok") return verdictOfOk(judged, text);
   if (judged.kind === "none") return verdictOfRefusal(judged.why, text);
-  return { kind: "fault", says: troubleInWords(judged.fault), reasons: [], calls: [], from: null };
+  return { kind: "fault", says: troubleInWords(ask, judged.fault), reasons: [], calls: [], from: null };
 }

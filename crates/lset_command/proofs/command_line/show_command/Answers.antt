@@ -6,4 +6,4 @@ returns c =
     let from = c.and_arg-command-2.ensures _ _ svg c.value_option.ensures.rule c.value_option.ensures.local in
     let to = c.and_arg-command-3.ensures _ _ from c.value_option-2.ensures.rule c.value_option-2.ensures.local in
     let width = c.and_arg-command-4.ensures _ _ to c.value_option-3.ensures.rule c.value_option-3.ensures.local in
-    c.and_arg.ensures _ _ width c.lacks_option.ensures.rule c.lacks_option.ensures.local
+    c.and_arg.ensures _ _ width c.value_option-4.ensures.rule c.value_option-4.ensures.local

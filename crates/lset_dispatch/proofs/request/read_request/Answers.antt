@@ -25,4 +25,4 @@ pub returns-in-Serve-clause-asked : goal.returns-in-Serve-clause-asked
 returns-in-Serve-clause-asked c = at_command _ command.Serve _ _ _ c.in-Serve.is tt
 
 pub returns-in-Faults-clause-asked : goal.returns-in-Faults-clause-asked
-returns-in-Faults-clause-asked c = at_command _ command.Faults _ _ _ c.in-Faults.is refl
+returns-in-Faults-clause-asked c = at_command _ command.Faults _ _ _ c.in-Faults.is tt

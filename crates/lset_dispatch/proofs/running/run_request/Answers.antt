@@ -12,6 +12,3 @@ returns-in-Check g c = at_request _ _ _ _ _ _ _ _ c.in-Check.is c.tool_check.ens
 
 pub returns-in-Gen : goal.returns-in-Gen
 returns-in-Gen g c = at_request _ _ _ _ _ _ _ _ c.in-Gen.is (_, c.generate_text.ensures, c.deliver-in-Gen.ensures)
-
-pub returns-in-Faults : goal.returns-in-Faults
-returns-in-Faults g c = at_request _ _ _ _ _ _ _ _ c.in-Faults.is (_, c.list_faults.ensures, c.deliver-in-Faults.ensures)

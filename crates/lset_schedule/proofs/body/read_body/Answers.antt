@@ -8,21 +8,21 @@ use Rattle.lset_schedule.proofs.body.read_body.Goals as goal
 
 pub returns-in_default-clause-exact : goal.returns-in_default-clause-exact
 returns-in_default-clause-exact g c = λ other.
-    rw c.at.ensures
+    rw c.unended.ensures
     (not_ended (grammar g.L.EventLine.lines c.args.version) first_line c.args.text.now _ c.loop-rest.number (told c.loop-rest.body)
     c.loop-rest.rest.now c.in_default.ensures.parts (eqb-false _ _ (sym c.is_empty.ensures ∙ c.loop-rest-test.true))
     c.loop-rest.invariant.stands)
 
 pub returns-in-Err-clause-exact : goal.returns-in-Err-clause-exact
 returns-in-Err-clause-exact g c =
-    rw c.at-in-Err.ensures
+    rw c.at.ensures
     (refused (grammar g.L.EventLine.lines c.args.version) first_line c.args.text.now _ c.loop-rest.number (told c.loop-rest.body)
     c.loop-rest.rest.now c.in-Some.line.now c.in-Some.after.now c.in-Some.ensures.parts c.loop-rest.invariant.stands c.in-Err.cause
     c.in-Err.ensures.takes)
 
 pub returns-in-Err-clause-memory : goal.returns-in-Err-clause-memory
 returns-in-Err-clause-memory g c =
-    rw c.at-in-Err.ensures
+    rw c.at.ensures
     (ran_out (grammar g.L.EventLine.lines c.args.version) first_line c.args.text.now _ c.loop-rest.number (told c.loop-rest.body)
     c.loop-rest.rest.now c.in-Some.line.now c.in-Some.after.now c.in-Some.ensures.parts c.loop-rest.invariant.stands c.in-Err.cause
     (never_memory g.L.EventLine.lines c.args.version (told c.loop-rest.body) c.in-Some.line.now)

@@ -16,21 +16,21 @@ returns-then-value-last-clause-value c =
     let more = value_more c.args.piece.now c.loop-b.b-index c.loop-b.value c.loop-b-test.true digit c.loop-b.invariant.value in
     too_high c.args.low c.args.high c.args.piece.now (c.loop-b.b-index + 1) (omega (arith, more, c.if-value-last.true))
 
-pub returns-then-more-high-clause-value : goal.returns-then-more-high-clause-value
-returns-then-more-high-clause-value c =
+pub returns-then-digit-high-clause-value : goal.returns-then-digit-high-clause-value
+returns-then-digit-high-clause-value c =
     let digit = sym c.is_ascii_digit.ensures.value ∙ c.if-not-is_ascii_digit.false in
     let more = value_more c.args.piece.now c.loop-b.b-index c.loop-b.value c.loop-b-test.true digit c.loop-b.invariant.value in
     too_high c.args.low c.args.high c.args.piece.now (c.loop-b.b-index + 1)
-    (omega (arith, more, c.if-more-high.true, c.from.ensures))
+    (omega (arith, more, c.if-digit-high.true, c.from-digit.ensures))
 
 pub loop-b-preserved : goal.loop-b-preserved
 loop-b-preserved c =
     let digit = sym c.is_ascii_digit.ensures.value ∙ c.if-not-is_ascii_digit.false in
     let more = value_more c.args.piece.now c.loop-b.b-index c.loop-b.value c.loop-b-test.true digit c.loop-b.invariant.value in
     record {
-      value = omega (arith, more, c.from.ensures);
+      value = omega (arith, more, c.from-digit.ensures);
       digits = digit_more c.args.piece.now c.loop-b.b-index c.loop-b-test.true digit c.loop-b.invariant.digits;
-      small = omega (arith, c.if-more-high.false);
+      small = omega (arith, c.if-digit-high.false);
     }
 
 pub returns-clause-value : goal.returns-clause-value

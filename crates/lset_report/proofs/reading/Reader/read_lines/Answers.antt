@@ -22,7 +22,7 @@ loop-rest-init c = record {
 pub returns-in_default-clause-told : goal.returns-in_default-clause-told
 returns-in_default-clause-told c =
     let some = eqb-false _ _ (sym c.is_empty.ensures ∙ c.loop-rest-test.true) in
-    inl (rw c.at.ensures
+    inl (rw c.unended.ensures
     (not_ended grammar first_line c.args.text.now (AllOf c.args.text.now (state c.args.self.now)) c.loop-rest.number
     (state c.loop-rest.self) c.loop-rest.rest.now c.in_default.ensures.parts some c.loop-rest.invariant.stands))
 
@@ -57,7 +57,7 @@ pub returns-in_default-section-clause-told : goal.returns-in_default-section-cla
 returns-in_default-section-clause-told c =
     let unended : ends (state c.loop-rest.self) ≡ Err NotEnded = search rules in
     let none = eqb-true _ _ (sym c.is_empty.ensures ∙ c.loop-rest-test.false) in
-    inl (rw c.at-in_default-section.ensures
+    inl (rw c.unended-in_default-section.ensures
     (is_done grammar first_line c.args.text.now (AllOf c.args.text.now (state c.args.self.now)) c.loop-rest.number
     (state c.loop-rest.self) c.loop-rest.rest.now none c.loop-rest.invariant.stands
     ∙ ap (map_fault (fault c.loop-rest.number)) unended))

@@ -1,7 +1,7 @@
 use Rattle.std.proofs.Common.{◌<◌, ◌≡◌, ◌+◌, ◌-◌, inl, inr, refl, subst, sym, arith}
 use Rattle.std.specs.Prelude.{slice_index}
 use Rattle.lset_words.proofs.Numbers.{same_or_not}
-use Rattle.lset_live.proofs.opening.rises.Goals as goal
+use Rattle.lset_words.proofs.rises.Goals as goal
 
 pub loop-i-preserved : goal.loop-i-preserved
 loop-i-preserved c = λ k l. elim (same_or_not (k + 1) c.loop-i.i) [

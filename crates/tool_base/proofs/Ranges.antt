@@ -1,9 +1,0 @@
--- The range of a number that was read.
-use Rattle.std.proofs.Common.{◌≡◌, ℕ, ◌<◌, ◌≤◌, ◌^◌, List, Option, Some, None, IfSome, sym}
-use Rattle.lset_text.specs.Numbers.{number_in}
-use Rattle.lset_text.proofs.NumberLaws.{number_ok}
-
-pub range_of : (low high : ℕ) (piece : List ℕ) (found : Option ℕ) → high < 2 ^ 64 → found ≡ number_in low high piece
-    → IfSome found (λ n. (low ≤ n) × (n ≤ high))
-range_of low high piece None wide is = tt
-range_of low high piece (Some n) wide is = let known = number_ok low high piece n wide (sym is) in (known.1, known.2)
