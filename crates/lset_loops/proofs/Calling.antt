@@ -1,5 +1,5 @@
 -- From step to step of a call under way.
-use Rattle.std.proofs.Common.{◌≡◌, ◌≢◌, ℕ, ◌+◌, ◌<◌, ◌≤◌, List, ◌∷◌, Option, Some, None, IfSome, MatchOption, refl, sym, ap, ◌∙◌, subst, arith}
+use Rattle.std.proofs.Common.{◌≡◌, ◌≢◌, ℕ, ◌+◌, ◌<◌, ◌≤◌, List, ◌∷◌, Option, None, refl, sym, ap, ◌∙◌, subst, arith}
 use Rattle.atomic_table.specs.Seated.{TableId}
 use Rattle.lset_words.specs.declared.Call.{Call}
 use Rattle.lset_words.specs.declared.Reply.{Reply}
@@ -17,11 +17,11 @@ use Rattle.lset_rule.specs.Seats.{TableSeat, IsOf, IsSeat, MayCall, HasCalled}
 use Rattle.lset_rule.specs.declared.slots.OwnSlots.{OwnSlots}
 use Rattle.lset_rule.specs.OwnSlots.{slots_of, resting}
 use Rattle.lset_rule.specs.Views.{IsOpen, Stands}
-use Rattle.lset_rule.specs.Calls.{Goes, Starts, IsMid, Makes}
+use Rattle.lset_rule.specs.Calls.{Goes, Starts}
 use Rattle.lset_rule.proofs.Calls.{comes_first, comes_next, is_mid, mid_open}
 use Rattle.lset_rule.proofs.Keeps.{stands_at, in_words}
 use Rattle.lset_loops.specs.Begun.{Begun, begun_at, IsCall}
-use Rattle.lset_loops.specs.Calling.{Holds, MayStep, HasStepped, MayLock, MayAnswer, Answered, HasTold, MayBegin, first, Rest, row}
+use Rattle.lset_loops.specs.Calling.{Holds, MayStep, HasStepped, MayLock, MayAnswer, MayBegin, first, Rest, row}
 use Rattle.lset_loops.specs.Calling.{HasAnswered, MayStore, Stores}
 
 module _ (m : Table) (b : Begun) where
@@ -138,29 +138,6 @@ module _ (m : Table) (b : Begun) where
   leads_had word thread s0 n s' lk zero seat g =
       leads_then word thread s0 s0 n s' lk zero (itself lk.held s0 lk.holds) seat g
 
-  -- A STEP THAT MAY ANSWER
-  pub tells : (s : TableSeat) (n : ℕ) (s' : TableSeat) → IsSeat s s' → Goes m s.me.0 n s'.me.0 → HasTold m b s n s'
-  tells s n s' seat g l h f is =
-      let come = comes_next m b.call b.me.0 s.me.0 (continued l) n s'.me.0 f (h.local, (h.mid, h.stands)) refl g (sym is) in
-      by_answer f.local f.answer come.0 come.1
-    where
-      by_answer : (l' : Local) (a : Option Reply) → s'.me.0.local ≡ l'
-          → MatchOption a (IsMid b.call b.me.0 s'.me.0 × Stands m s'.me.0) (λ r. Makes m b.call b.me.0 r s'.me.0)
-          → MatchOption a (Holds m b l' s') (λ r. Answered m b r l' s')
-      by_answer l' None local now = record {
-        words = h.words;
-        used = h.used;
-        seat = (seat.0 ∙ h.seat.0, seat.1 ∙ h.seat.1, seat.2 ∙ h.seat.2);
-        mid = now.0;
-        stands = now.1;
-        local = local;
-      }
-      by_answer l' (Some r) local now = record {
-        seat = (seat.0 ∙ h.seat.0, seat.1 ∙ h.seat.1, seat.2 ∙ h.seat.2);
-        makes = now;
-        local = local;
-      }
-
 -- THE FIRST STEP
 begun_is : (m : Table) → Lawful m → (b : Begun) (own : OwnSlots) (l : Local) → own ≡ slots_of l → m.begin b.call l ≡ first m b own
 begun_is m law b own l same = (law.begins b.call l).alike ∙ ap (λ s. m.begin b.call (resting s)) (sym same)
@@ -260,9 +237,6 @@ module _ (c : Call) (b : Begun) (s : TableSeat) (began : b ≡ begun_at c s) whe
       slots = may.slots;
     };
   }
-
-  pub is_call : {m : Table} {z : TableId} {k : Opening} {own : OwnSlots} → MayCall m z k own s → IsCall b c z k
-  is_call may = rw began (refl, may.place.0, may.place.1)
 
   pub called : {m : Table} {s' : TableSeat} {answer : OwnSlots × Reply} → HasAnswered m b answer s' → HasCalled m c s answer s'
   called {m = m} {s' = s'} {answer = answer} answered =

@@ -1,4 +1,3 @@
-use Rattle.std.proofs.Common.{◌≤◌}
 use Rattle.lset_loops.specs.Coarse.{AtKey}
 use Rattle.lset_loops.proofs.coarse.walk.Given as goal
 

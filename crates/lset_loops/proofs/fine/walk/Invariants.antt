@@ -1,4 +1,3 @@
-use Rattle.std.proofs.Common.{◌≤◌}
 use Rattle.lset_loops.specs.Fine.{AtLock}
 use Rattle.lset_loops.proofs.fine.walk.Given as goal
 

@@ -1,8 +1,5 @@
-use Rattle.std.proofs.Common.{refl, ap}
-use Rattle.lset_words.specs.Words.{key_index}
-use Rattle.lset_steps.specs.declared.Action.TheVariants.{Store}
+use Rattle.std.proofs.Common.{refl}
 use Rattle.lset_lazy.specs.Lazy.{targets}
-use Rattle.lset_loops.specs.Calling.{slot}
 use Rattle.lset_loops.proofs.Calling.{moved, step, stores, to_slots}
 use Rattle.lset_loops.proofs.lazy.act.Goals as goal
 

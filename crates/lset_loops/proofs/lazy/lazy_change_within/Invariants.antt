@@ -1,4 +1,4 @@
-use Rattle.std.proofs.Common.{◌/◌, ◌≤◌}
+use Rattle.std.proofs.Common.{◌/◌}
 use Rattle.lset_loops.specs.Lazy.{AtKey}
 use Rattle.lset_loops.proofs.lazy.lazy_change_within.Given as goal
 

@@ -1,4 +1,4 @@
-use Rattle.std.proofs.Common.{◌*◌, ◌%◌, None, refl, ap, sym, arith}
+use Rattle.std.proofs.Common.{◌*◌, ◌%◌, None, refl, ap, sym}
 use Rattle.lset_words.proofs.Numbers.{if_same, if_other}
 use Rattle.lset_steps.specs.Rows.{decided_on}
 use Rattle.lset_lazy.specs.Lazy.{targets}

@@ -1,4 +1,3 @@
-use Rattle.std.proofs.Common.{◌≤◌}
 use Rattle.lset_loops.specs.Lazy.{AtKey}
 use Rattle.lset_loops.proofs.lazy.walk.Given as goal
 

@@ -1,9 +1,8 @@
-use Rattle.std.proofs.Common.{◌*◌, refl, ap, arith}
-use Rattle.lset_words.specs.Words.{key_index, link_index}
+use Rattle.std.proofs.Common.{◌*◌, refl, ap}
+use Rattle.lset_words.specs.Words.{link_index}
 use Rattle.lset_words.proofs.Numbers.{if_same, if_other}
-use Rattle.lset_steps.specs.declared.Action.TheVariants.{Store, Exchange}
+use Rattle.lset_steps.specs.declared.Action.TheVariants.{Exchange}
 use Rattle.lset_lock_free.specs.LockFree.{targets, decision_of}
-use Rattle.lset_loops.specs.Calling.{slot}
 use Rattle.lset_loops.proofs.Calling.{asks, step, stores, to_succ}
 use Rattle.lset_loops.proofs.lock_free.attempt.Goals as goal
 

@@ -1,4 +1,3 @@
-use Rattle.std.proofs.Common.{◌≤◌}
 use Rattle.lset_loops.specs.LockFree.{AtLink}
 use Rattle.lset_loops.proofs.lock_free.find.Given as goal
 

@@ -1,4 +1,4 @@
-use Rattle.std.proofs.Common.{◌/◌, ◌≤◌}
+use Rattle.std.proofs.Common.{◌/◌}
 use Rattle.lset_loops.specs.LockFree.{AtLink}
 use Rattle.lset_loops.proofs.lock_free.lock_free_change_within.Given as goal
 

@@ -1,4 +1,4 @@
-use Rattle.std.proofs.Common.{refl, ap, arith}
+use Rattle.std.proofs.Common.{refl, ap}
 use Rattle.lset_words.specs.Words.{link_index}
 use Rattle.lset_words.proofs.Numbers.{if_other}
 use Rattle.lset_steps.specs.declared.Action.TheVariants.{Load}

@@ -1,4 +1,4 @@
-use Rattle.std.proofs.Common.{◌/◌, ◌≤◌}
+use Rattle.std.proofs.Common.{◌/◌}
 use Rattle.lset_loops.specs.Optimistic.{AtKey}
 use Rattle.lset_loops.proofs.optimistic.optimistic_within.Given as goal
 

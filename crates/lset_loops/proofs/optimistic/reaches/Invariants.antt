@@ -1,4 +1,3 @@
-use Rattle.std.proofs.Common.{◌≤◌}
 use Rattle.lset_loops.specs.Optimistic.{AtNode}
 use Rattle.lset_loops.proofs.optimistic.reaches.Given as goal
 

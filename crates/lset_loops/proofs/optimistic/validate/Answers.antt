@@ -1,4 +1,4 @@
-use Rattle.std.proofs.Common.{◌/◌, arith}
+use Rattle.std.proofs.Common.{◌/◌}
 use Rattle.lset_words.proofs.Numbers.{if_same, if_other}
 use Rattle.lset_loops.proofs.Calling.{moved}
 use Rattle.lset_loops.proofs.optimistic.validate.Goals as goal

@@ -1,4 +1,3 @@
-use Rattle.std.proofs.Common.{◌≤◌}
 use Rattle.lset_loops.specs.Optimistic.{AtKey}
 use Rattle.lset_loops.proofs.optimistic.walk.Given as goal
 

@@ -1,4 +1,4 @@
-use Rattle.std.proofs.Common.{◌*◌, ap, ◌∙◌, subst, arith}
+use Rattle.std.proofs.Common.{◌*◌, ap, ◌∙◌, subst}
 use Rattle.lset_words.specs.Words.{link_index}
 use Rattle.lset_steps.specs.declared.Action.TheVariants.{Store}
 use Rattle.lset_loops.specs.Calling.{Holds, feeds, slot_stores}

@@ -1,4 +1,3 @@
-use Rattle.std.proofs.Common.{arith}
 use Rattle.lset_loops.proofs.Calling.{itself, of_table, leads_then, tried}
 use Rattle.lset_loops.proofs.caller.Caller.wait_for.Goals as goal
 

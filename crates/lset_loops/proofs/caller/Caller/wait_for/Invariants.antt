@@ -1,4 +1,3 @@
-use Rattle.std.proofs.Common.{◌≤◌}
 use Rattle.lset_loops.specs.Calling.{Holds}
 use Rattle.lset_loops.proofs.caller.Caller.wait_for.Given as goal
 
