@@ -6,6 +6,7 @@ use Rattle.std.specs.List.Sorted.{IsPermutation}
 use Rattle.std.proofs.lemmas.List.{get_or_default, get_or_append_left, get_or_push}
 use Rattle.std.proofs.lemmas.List.Elements.{recursion_from_All, All-push, All-cons}
 use Rattle.std.proofs.lemmas.List.Sorted.{All-permutation, Contains-permutation, IsPermutation-sym}
+use Rattle.std.proofs.lemmas.List.Kept.{AllPairs-cons}
 use Rattle.lset_words.specs.declared.Reply.{Reply}
 use Rattle.lset_words.specs.declared.history.CallRecord.{CallRecord}
 use Rattle.lset_words.specs.SequentialSet.{has_key}
@@ -13,7 +14,6 @@ use Rattle.lset_words.specs.Words.{key_of}
 use Rattle.lset_words.specs.History.{call_numbered, no_call}
 use Rattle.lset_words.proofs.Numbers.{below_or_not}
 use Rattle.lset_history.proofs.Histories.{Follows, history_begun}
-use Rattle.lset_history.proofs.Pairs.{pairs_cons}
 use Rattle.lset_judge.specs.declared.stream.Failed.{Failed}
 use Rattle.lset_judge.specs.declared.stream.Pending.{Pending}
 use Rattle.lset_judge.specs.declared.stream.Stream.{Stream}
@@ -190,7 +190,7 @@ module _ (threads : ℕ) (opening : List ℕ) (calls : List CallRecord) (s : Str
             (subst (Contains now) (ap pending_of (sym new_call))
             (Contains-permutation (pending_of x ∷ s.pending) now (pending_of x) moved (0, omega arith, refl))))
       ];
-      apart = ends_moved (pending_of x ∷ s.pending) now moved (pairs_cons (λ (p q : Pending). p.end ≢ q.end) (pending_of x) s.pending
+      apart = ends_moved (pending_of x ∷ s.pending) now moved (AllPairs-cons (λ (p q : Pending). p.end ≢ q.end) (pending_of x) s.pending
           (λ k d low z. ends_apart k d low (sym z)) is.pending.apart);
       later = All-permutation (λ (p : Pending). x.begun < p.end) (pending_of x ∷ s.pending) now moved
           (All-cons (λ (p : Pending). x.begun < p.end) (pending_of x) s.pending own_later far);

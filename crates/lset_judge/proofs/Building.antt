@@ -2,7 +2,8 @@
 use Rattle.std.proofs.Common.{◌≡◌, ◌≢◌, ℕ, zero, suc, ◌<◌, ◌≤◌, ◌⊎◌, List, [], ◌∷◌, ◌++◌, Bool, true, false, inl, inr, refl, sym, ap, ◌∙◌, arith}
 use Rattle.std.proofs.Common.{subst, length, get_or, map}
 use Rattle.std.specs.Prelude.{◌==◌, not, nat_lt, Option, Some, None, is_some, All, AllPairs, Contains, IfSome, IsSomeAnd}
-use Rattle.std.proofs.lemmas.Bool.{cases_Bool, true≢false}
+use Rattle.std.proofs.lemmas.Bool.{cases_Bool, both_ways, true≢false, false_from_ne_true, true_from_ne_false}
+use Rattle.std.proofs.lemmas.List.{map_push}
 use Rattle.std.proofs.lemmas.List.Elements.{All-push}
 use Rattle.std.proofs.lemmas.List.Quantifiers.{all_pairs_push}
 use Rattle.lset_words.specs.declared.Reply.{Reply}
@@ -20,12 +21,10 @@ use Rattle.lset_judge.specs.Events.{Kind, changes, sees, nothing, kind_of, kind_
 use Rattle.lset_judge.specs.Verdict.{is_plain}
 use Rattle.lset_judge.proofs.EventLemmas.{kind, until, Begins, told, begins_at, ends_there, end_below, none_or_some}
 use Rattle.lset_history.proofs.Histories.{pairs_of}
-use Rattle.lset_judge.proofs.Leading.{at, at_once, later}
-use Rattle.lset_judge.proofs.Counts.{nearest_stands}
-use Rattle.lset_judge.proofs.Ruled.{no_state, settled_none, some_or_none}
+use Rattle.lset_judge.proofs.Leading.{nearest_stands, at, at_once, later, no_state, settled_none, some_or_none}
 use Rattle.lset_judge.proofs.Orders.{does_own, other_stays, untils_differ, begins_told, is_call}
-use Rattle.lset_judge.proofs.Placing.{becomes, NoTwice, not_both, left_in, others_stay, gone, no_twice_left, has_head, has_tail, has_split, has_put, no_twice_put, until_of}
-use Rattle.lset_judge.proofs.Placed.{legal_push, left_push, map_push, IsPlaced, placed_or_not, placed_at, placed_still}
+use Rattle.lset_judge.proofs.Placing.{becomes, NoTwice, left_in, others_stay, gone, no_twice_left, has_head, has_tail, has_split, has_put, no_twice_put, until_of}
+use Rattle.lset_judge.proofs.Placed.{legal_push, left_push, IsPlaced, placed_or_not, placed_at, placed_still}
 use Rattle.lset_judge.proofs.Placed.{placed_new, placed_split, change_replies, look_replies, open_sees_not, same_flips}
 use Rattle.lset_judge.proofs.Placed.{same_is, kinds_apart, late_ones, begun_when_placed, plain_kind, not_both_or, below_test}
 
@@ -243,7 +242,7 @@ module _ (threads : ℕ) (calls : List CallRecord) (history : IsHistory threads 
       λ q. elim (placed_split c.0 o (put n r) q) [
         | inl p ↦ c.6 p
         | inr e ↦ (let same_end : u ≡ y = sym at_end ∙ ap (λ i. until last (x_ i)) e ∙ c.4 in
-            not_both (has_key y (take_out u xs)) h (subst (λ z. has_key z (take_out u xs) ≡ false) same_end (gone u xs l.once)))
+            both_ways (has_key y (take_out u xs)) (subst (λ z. has_key z (take_out u xs) ≡ false) same_end (gone u xs l.once)) h)
       ],
     );
     all = λ i known own is begun new.
@@ -415,10 +414,7 @@ module _ (threads : ℕ) (calls : List CallRecord) (history : IsHistory threads 
     -- a key that no call has finds what it asks, too
     calm_at_all : (k : ℕ) (o : List Placed) (s : State) → Link k m s o → Lives k s → ((n : ℕ) → n < length calls → key n ≡ k → Calm k o s)
         → fits (suc m) (v k) s ≡ true
-    calm_at_all k o s l lives calm = elim (cases_Bool (fits (suc m) (v k) s)) [
-      | inl f ↦ f
-      | inr f ↦ absurd (by (options s) refl f)
-    ]
+    calm_at_all k o s l lives calm = true_from_ne_false (fits (suc m) (v k) s) (λ f. by (options s) refl f)
       where
         stuck : (n : ℕ) (t : State) → fits (suc m) (v k) s ≡ false → turned_if m s (options s) ≡ None → settled n m (v k) (Some s) ≡ Some t → ⊥
         stuck zero t f no_turn e = no_state t (sym (none_at_zero m (v k) s f) ∙ e) ⊥
@@ -428,7 +424,7 @@ module _ (threads : ℕ) (calls : List CallRecord) (history : IsHistory threads 
         by : (us : List ℕ) → options s ≡ us → fits (suc m) (v k) s ≡ false → ⊥
         by [] e f = let t = found_there k s lives in stuck (open_changes s) t.0 f (ap (turned_if m s) e) t.1
         by (u ∷ us) e f =
-            let c = (l.lists (not s.there)).open_call u (ap (has_key u) e ∙ has_head u us) in not_both _ (calm c.0 c.1 c.2).finds f
+            let c = (l.lists (not s.there)).open_call u (ap (has_key u) e ∙ has_head u us) in both_ways _ f (calm c.0 c.1 c.2).finds
 
     pub record Met (o : List Placed) : Type 0 where
       pub order : List Placed
@@ -484,14 +480,11 @@ module _ (threads : ℕ) (calls : List CallRecord) (history : IsHistory threads 
           rw (equal_test u (until last (x_ n)) same_end) refl)
     ];
     once = no_twice_put u xs (
-      elim (cases_Bool (has_key u xs)) [
-        | inr f ↦ f
-        | inl h ↦ (let c = l.open_call u h in elim (same_or_not c.0 b.0.number) [
-          | inl q ↦ (let low = c.5 in let here = b.0.begun in let also : (x_ c.0).begun ≡ (x_ b.0.number).begun = ap (λ i. (x_ i).begun) q in
-              absurd (omega (arith, low, here, also)))
-          | inr q ↦ absurd (untils_differ threads calls history last upto c.0 b.0.number c.1 b.0.known q (c.4 ∙ sym b.2))
-        ])
-      ],
+      false_from_ne_true (has_key u xs) (λ h. let c = l.open_call u h in elim (same_or_not c.0 b.0.number) [
+        | inl q ↦ (let low = c.5 in let here = b.0.begun in let also : (x_ c.0).begun ≡ (x_ b.0.number).begun = ap (λ i. (x_ i).begun) q in
+            omega (arith, low, here, also))
+        | inr q ↦ untils_differ threads calls history last upto c.0 b.0.number c.1 b.0.known q (c.4 ∙ sym b.2)
+      ]),
       l.once,
     );
   }
@@ -567,7 +560,7 @@ module _ (threads : ℕ) (calls : List CallRecord) (history : IsHistory threads 
       by (sees w) is =
           let f = swept n w low low own is begun_low new in
           elim (l.looks n w low own is begun_low new) [
-            | inl t ↦ not_both _ t f
+            | inl t ↦ both_ways _ f t
             | inr t ↦ not_both_or (same w s.there) (nat_lt s.turned (x_ n).begun) f (below_test s.turned (x_ n).begun t) (finds_it (sees w) is)
           ]
       by nothing is = plain_kind (x_ n).call e.1 (plain n e low ended) (subst (λ q. kind_if (x_ n).call q ≡ nothing) ended is)

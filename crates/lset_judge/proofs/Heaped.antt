@@ -12,9 +12,8 @@ use Rattle.std.proofs.lemmas.List.Sums.{sum_by-cons}
 use Rattle.lset_words.proofs.Numbers.{equal_test, unequal_test, below_or_not, lower_number, not_lower_number}
 use Rattle.lset_judge.specs.Heaped.{rising_of, later_first}
 use Rattle.lset_judge.specs.Rule.{Event, State, not_before, put_in, nearest, turned_if, turned_by, options, settled, open_changes, fits}
-use Rattle.lset_judge.proofs.Leading.{at, later}
-use Rattle.lset_judge.proofs.Ruled.{no_state}
-use Rattle.lset_judge.proofs.Counts.{counts, counts_one, counts_not, at_most_all, all_from_zero, counted_in, length_in, taken_length, nearest_stands}
+use Rattle.lset_judge.proofs.Leading.{at, later, no_state}
+use Rattle.lset_judge.proofs.Leading.{counts, counts_one, counts_not, at_most_all, all_from_zero, counted_in, length_in, taken_length, nearest_stands}
 
 -- ---- moments in their order
 
@@ -141,10 +140,9 @@ take_turned m t end true ps ks rest e is near = rw is (rw near (rw (equal_test e
 
 -- where none can turn the key
 pub none_turned : (m t : ℕ) (b w : Bool) (ps ks : List ℕ) → b ≡ w → (if w then ks else ps) ≡ [] → turned_if m (at b t ps ks) (options (at b t ps ks)) ≡ None
-none_turned m t true true ps ks e is = rw is refl
-none_turned m t false false ps ks e is = rw is refl
 none_turned m t true false ps ks e is = absurd (true≢false e)
 none_turned m t false true ps ks e is = absurd (true≢false (sym e))
+none_turned m t b w ps ks e is = rw is refl
 
 abbrev state_or : State → Option State → State
 state_or d None = d
@@ -152,8 +150,6 @@ state_or d (Some s) = s
 
 pub one_fewer : (m : ℕ) (b : Bool) (t : ℕ) (ps ks : List ℕ) (g : State)
     → turned_if m (at b t ps ks) (options (at b t ps ks)) ≡ Some g → open_changes (at b t ps ks) ≡ suc (open_changes g)
-one_fewer m false t [] ks g e = no_state g e _
-one_fewer m true t ps [] g e = no_state g e _
 one_fewer m false t (x ∷ xs) ks g e =
     let l = taken_length (nearest x xs) (x ∷ xs) (nearest_stands x xs) in
     let n : open_changes (turned_by m (nearest x xs) (at false t (x ∷ xs) ks)) ≡ open_changes g = ap (λ o. open_changes (state_or g o)) e in
@@ -162,6 +158,7 @@ one_fewer m true t ps (x ∷ xs) g e =
     let l = taken_length (nearest x xs) (x ∷ xs) (nearest_stands x xs) in
     let n : open_changes (turned_by m (nearest x xs) (at true t ps (x ∷ xs))) ≡ open_changes g = ap (λ o. open_changes (state_or g o)) e in
     omega (arith, l, n)
+one_fewer m b t ps ks g e = no_state g e _
 
 -- an event that does not find what it asks, after one turn
 pub settles_on : (m : ℕ) (v : Event) (s g : State) → fits (suc m) v s ≡ false → turned_if m s (options s) ≡ Some g

@@ -1,13 +1,100 @@
 -- The rule falls behind no right timeline: what it has left to turn is never less, nor ends earlier, than what a timeline has left.
-use Rattle.std.proofs.Common.{◌≡◌, ℕ, zero, suc, ◌+◌, ◌<◌, ◌≤◌, List, [], ◌∷◌, Bool, true, false, inl, inr, refl, sym, ap, ◌∙◌, arith, length}
-use Rattle.std.proofs.Common.{subst}
-use Rattle.std.specs.Prelude.{not, nat_lt, if◌then◌else◌, Some}
+use Rattle.std.proofs.Common.{◌≡◌, ℕ, suc, ◌+◌, ◌<◌, ◌≤◌, List, [], ◌∷◌, true, inl, inr, refl, arith, length, zero, sym, ap, ◌⊎◌, Bool, false, ◌∙◌, subst}
+use Rattle.std.specs.Prelude.{◌==◌, nat_lt, if◌then◌else◌, Option, Some, None, is_some, not}
 use Rattle.std.proofs.lemmas.Bool.{cases_Bool, true≢false, not-true, not-false, or_cases, or_parts}
+use Rattle.std.proofs.lemmas.Bool.Decides.{nat_tests}
 use Rattle.lset_words.specs.SequentialSet.{has_key}
-use Rattle.lset_words.proofs.Numbers.{same_number, other_number, lower_number, not_lower_number}
-use Rattle.lset_judge.specs.Rule.{Event, begins, ends, looks, leaves, idle, State, same, changes_to, options, not_before, fits, entering, enters}
-use Rattle.lset_judge.specs.Rule.{take_out, turned_by, nearest, turned_if, settled, open_changes, opened}
-use Rattle.lset_judge.proofs.Counts.{counted_in, length_in, all_from_zero, at_most_all, taken, taken_length, nearest_stands, still_no_fewer}
+use Rattle.lset_words.proofs.Numbers.{same_number, below_or_not, if_below, if_not_below, other_number, lower_number, not_lower_number}
+use Rattle.lset_judge.specs.Rule.{not_before, put_in, take_out, nearest, Event, State, settled, begins, ends, looks, leaves, idle, same, changes_to, options, fits}
+use Rattle.lset_judge.specs.Rule.{entering, enters, turned_by, turned_if, open_changes, opened}
+
+-- ---- how many moments of a list are not before one, where one of them is taken out
+
+-- one number, counted or not
+abbrev pub counts : ℕ → ℕ → ℕ
+counts d x = if nat_lt x d then 0 else 1
+
+pub counts_not : (d x : ℕ) → x < d → counts d x ≡ 0
+counts_not d x l = if_below x d l 0 1
+
+pub counts_one : (d x : ℕ) → d ≤ x → counts d x ≡ 1
+counts_one d x l = if_not_below x d l 0 1
+
+pub counts_most : (d x : ℕ) → counts d x ≤ 1
+counts_most d x = elim (below_or_not x d) [
+  | inl l ↦ (let e = counts_not d x l in omega (arith, e))
+  | inr l ↦ (let e = counts_one d x l in omega (arith, e))
+]
+
+pub all_from_zero : (xs : List ℕ) → not_before 0 xs ≡ length xs
+all_from_zero [] = refl
+all_from_zero (x ∷ xs) = let e = counts_one 0 x (omega arith) in let rest = all_from_zero xs in omega (arith, e, rest)
+
+pub at_most_all : (d : ℕ) (xs : List ℕ) → not_before d xs ≤ length xs
+at_most_all d [] = omega arith
+at_most_all d (x ∷ xs) = let e = counts_most d x in let rest = at_most_all d xs in omega (arith, e, rest)
+
+-- one more
+pub counted_in : (d e : ℕ) (xs : List ℕ) → not_before d (put_in e xs) ≡ counts d e + not_before d xs
+counted_in d e [] = refl
+counted_in d e (x ∷ xs) = elim (cases_Bool (nat_lt e x)) [
+  | inl t ↦ rw t refl
+  | inr f ↦ (let rest = counted_in d e xs in rw f (omega (arith, rest)))
+]
+
+pub length_in : (e : ℕ) (xs : List ℕ) → length (put_in e xs) ≡ suc (length xs)
+length_in e xs =
+    let a = counted_in 0 e xs in let b = all_from_zero (put_in e xs) in let c = all_from_zero xs in let o = counts_one 0 e (omega arith) in
+    omega (arith, a, b, c, o)
+
+-- one is taken out
+pub taken : (d e : ℕ) (xs : List ℕ) → has_key e xs ≡ true → not_before d xs ≡ not_before d (take_out e xs) + counts d e
+taken d e [] h = grind arith
+taken d e (x ∷ xs) h = elim (cases_Bool (x == e)) [
+  | inl t ↦ (let s : x ≡ e = same_number x e t in rw (t, s) (omega arith))
+  | inr f ↦ (let h' : has_key e xs ≡ true = rw f at h in let rest = taken d e xs h' in rw f (omega (arith, rest)))
+]
+
+pub taken_length : (e : ℕ) (xs : List ℕ) → has_key e xs ≡ true → length xs ≡ length (take_out e xs) + 1
+taken_length e xs h =
+    let a = taken 0 e xs h in let b = all_from_zero xs in let c = all_from_zero (take_out e xs) in
+    let o = counts_one 0 e (omega arith) in omega (arith, a, b, c, o)
+
+-- the nearest
+pub nearest_stands : (x : ℕ) (xs : List ℕ) → has_key (nearest x xs) (x ∷ xs) ≡ true
+nearest_stands x [] = grind (arith, nat_tests)
+nearest_stands x (y ∷ ys) = let rest = nearest_stands y ys in grind (arith, nat_tests)
+
+pub none_nearer : (d x : ℕ) (xs : List ℕ) → d ≤ nearest x xs → not_before d (x ∷ xs) ≡ length (x ∷ xs)
+none_nearer d x [] l = let o = counts_one d x l in omega (arith, o)
+none_nearer d x (y ∷ ys) l =
+    let o = counts_one d x (omega (arith, l)) in
+    let rest = none_nearer d y ys (omega (arith, l)) in omega (arith, o, rest)
+
+-- A list that has no fewer late moments than another, and is longer, still has no fewer where it loses its nearest.
+pub still_no_fewer : (ss : List ℕ) (x : ℕ) (xs : List ℕ) → ((d : ℕ) → not_before d ss ≤ not_before d (x ∷ xs))
+    → length ss < length (x ∷ xs) → (d : ℕ) → not_before d ss ≤ not_before d (take_out (nearest x xs) (x ∷ xs))
+still_no_fewer ss x xs less longer d =
+    let e : ℕ = nearest x xs in
+    let t = taken d e (x ∷ xs) (nearest_stands x xs) in
+    elim (below_or_not e d) [
+      | inl l ↦ (let o = counts_not d e l in let h = less d in omega (arith, t, o, h))
+      | inr l ↦ (let o = counts_one d e l in let all = none_nearer d x xs l in let most = at_most_all d ss in
+          omega (arith, t, o, all, most, longer))
+    ]
+
+-- ---- where the rule has failed, it stays so
+
+pub settled_none : (n m : ℕ) (v : Event) → settled n m v None ≡ None
+settled_none zero m v = refl
+settled_none (suc n) m v = refl
+
+pub no_state : (s : State) → None ≡ Some s → (A : Type 0) → A
+no_state s e A = absurd (true≢false (sym (ap is_some e)))
+
+pub some_or_none : (o : Option State) → (o ≡ None) ⊎ ((s : State) × (o ≡ Some s))
+some_or_none None = inl refl
+some_or_none (Some s) = inr (s, refl)
 
 abbrev pub once : Bool → ℕ
 once b = if b then 1 else 0
@@ -77,8 +164,6 @@ pub record Turns (m : ℕ) (g s : State) : Type 0 where
   pub fewer : open_changes g ≡ suc (open_changes state)
 
 rule_turns : (b : Bool) (m t : ℕ) (gp gk : List ℕ) (s : State) → Leads m (at b t gp gk) s → IsFurther (at b t gp gk) s → Turns m (at b t gp gk) s
-rule_turns true m t gp [] s l f = absurd (omega (arith, f))
-rule_turns false m t [] gk s l f = absurd (omega (arith, f))
 rule_turns true m t gp (x ∷ xs) s l f =
     let less = taken_length (nearest x xs) (x ∷ xs) (nearest_stands x xs) in let y = l.balance in let n = l.now in record {
       state = turned_by m (nearest x xs) (at true t gp (x ∷ xs));
@@ -101,30 +186,27 @@ rule_turns false m t (x ∷ xs) gk s l f =
     lists : (w : Bool) → NoFewer (changes_to w s) (changes_to w (turned_by m (nearest x xs) (at false t (x ∷ xs) gk)))
     lists true = still_no_fewer s.puts x xs (l.lists true) f
     lists false = l.lists false
+rule_turns b m t gp gk s l f = absurd (omega (arith, f))
 
 -- WHERE THE EVENT FINDS IN THE TIMELINE'S STATE WHAT IT ASKS, and not in the rule's, the timeline is further.
 apart : (b c : Bool) (m gt st : ℕ) (gp gk sp sk : List ℕ) → Leads m (at b gt gp gk) (at c st sp sk) → (b ≡ c → ⊥)
     → IsFurther (at b gt gp gk) (at c st sp sk)
-apart true true m gt st gp gk sp sk l n = absurd (n refl)
-apart false false m gt st gp gk sp sk l n = absurd (n refl)
 apart true false m gt st gp gk sp sk l n = let y = l.balance in let f = fewer sp gp (l.lists true) in omega (arith, y, f)
 apart false true m gt st gp gk sp sk l n = let y = l.balance in let f = fewer sk gk (l.lists false) in omega (arith, y, f)
+apart b c m gt st gp gk sp sk l n = absurd (n refl)
 
 due : (w b c : Bool) (m gt st : ℕ) (gp gk sp sk : List ℕ) → Leads m (at b gt gp gk) (at c st sp sk)
     → length (changes_to w (at c st sp sk)) < length (changes_to w (at b gt gp gk)) → IsFurther (at b gt gp gk) (at c st sp sk)
-due true false c m gt st gp gk sp sk l f = f
-due false true c m gt st gp gk sp sk l f = f
 due true true true m gt st gp gk sp sk l f = let y = l.balance in omega (arith, y, f)
 due true true false m gt st gp gk sp sk l f = let y = l.balance in omega (arith, y, f)
 due false false true m gt st gp gk sp sk l f = let y = l.balance in omega (arith, y, f)
 due false false false m gt st gp gk sp sk l f = let y = l.balance in omega (arith, y, f)
+due w b c m gt st gp gk sp sk l f = f
 
 same_not : (w b c : Bool) → same w c ≡ true → same w b ≡ false → b ≡ c → ⊥
 same_not w b c t f e = true≢false (sym t ∙ sym (subst (λ x. same w b ≡ same w x) e refl) ∙ f)
 
 asked : (m : ℕ) (v : Event) (g s : State) → Leads m g s → fits (suc m) v s ≡ true → fits (suc m) v g ≡ false → IsFurther g s
-asked m (begins w end) g s l t f = absurd (true≢false f)
-asked m idle g s l t f = absurd (true≢false f)
 asked m (leaves w) g s l t f =
     apart g.there s.there m g.turned s.turned g.puts g.takes s.puts s.takes l (same_not w g.there s.there t f)
 asked m (ends w) g s l t f =
@@ -142,6 +224,7 @@ asked m (looks w since) g s l t f =
           let high : since ≤ s.turned = not_lower_number s.turned since (not-true _ e) in
           l.further (omega (arith, low, high)))
     ]
+asked m v g s l t f = absurd (true≢false f)
 
 -- THE RULE SETTLES
 pub record Settles (n m : ℕ) (v : Event) (g s : State) : Type 0 where
@@ -175,10 +258,7 @@ more w (begins u end) ss gs h = elim (cases_Bool (same w u)) [
   | inl t ↦ rw t (λ d. let a = h d in let b = counted_in d end ss in let c = counted_in d end gs in omega (arith, a, b, c))
   | inr f ↦ rw f h
 ]
-more w (ends u) ss gs h = h
-more w (looks u since) ss gs h = h
-more w (leaves u) ss gs h = h
-more w idle ss gs h = h
+more w v ss gs h = h
 
 -- what begins is one more in both
 alike : (w : Bool) (v : Event) (ss gs : List ℕ) → length (entering w v gs) + length ss ≡ length (entering w v ss) + length gs
@@ -186,10 +266,7 @@ alike w (begins u end) ss gs = elim (cases_Bool (same w u)) [
   | inl t ↦ rw t (let a = length_in end ss in let b = length_in end gs in omega (arith, a, b))
   | inr f ↦ rw f (omega arith)
 ]
-alike w (ends u) ss gs = omega arith
-alike w (looks u since) ss gs = omega arith
-alike w (leaves u) ss gs = omega arith
-alike w idle ss gs = omega arith
+alike w v ss gs = omega arith
 
 pub leads_past : (m : ℕ) (v : Event) (g s : State) → Leads m g s → Leads (suc m) (enters v g) (enters v s)
 leads_past m v g s l =

@@ -1,5 +1,3 @@
-pub mod Counts
-pub mod Ruled
 pub mod Leading
 pub mod Placing
 pub mod EventLemmas
@@ -7,15 +5,9 @@ pub mod KeyTests
 pub mod Orders
 pub mod Placed
 pub mod Building
-pub mod Room
 pub mod Deciding
 pub mod Heaped
-pub mod Found
-pub mod Adding
-pub mod Scanned
-pub mod InMoments
 pub mod KeyParts
-pub mod Refused
 pub mod After
 pub mod Streamed
 pub mod Begun
@@ -23,12 +15,7 @@ pub mod Pendings
 pub mod Closed
 pub mod States
 pub mod Resting
-pub mod Coming
-pub mod Fewer
-pub mod Keeping
 pub mod Logging
-pub mod ReadHistory
-pub mod Readings
 pub mod Reread
 pub mod Logs
 pub mod Windows

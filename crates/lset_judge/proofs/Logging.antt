@@ -1,73 +1,53 @@
 -- What is kept of the calls of a key: what it tells of rest, and how it goes on.
-use Rattle.std.proofs.Common.{inl, inr, ◌≡◌, ◌⊎◌, ℕ, zero, suc, ◌+◌, ◌<◌, ◌≤◌, Bool, true, false, List, [], ◌∷◌, ◌++◌, refl, sym, ap, ◌∙◌, arith, subst, length, get_or, take, append_assoc, append-nil, length-append}
-use Rattle.std.specs.Prelude.{◌==◌, ◌||◌, not, nat_lt, nat_le, All, Option, Some, None, IfSome, filter, Contains, map}
+use Rattle.std.proofs.Common.{inl, inr, ◌≡◌, ℕ, ◌<◌, ◌≤◌, Bool, true, false, List, [], ◌∷◌, ◌++◌, refl, sym, ◌∙◌, arith, subst, length, append-nil, length-append}
+use Rattle.std.proofs.Common.{◌⊎◌, zero, suc, ◌+◌, ap, get_or, take, drop, append_assoc, take-append-drop}
+use Rattle.std.specs.Prelude.{◌==◌, ◌&&◌, nat_le, Option, Some, None, IfSome, Contains, ◌||◌, not, nat_lt, All, filter, map}
 use Rattle.std.proofs.lemmas.Bool.{cases_Bool, true≢false}
 use Rattle.std.proofs.lemmas.Bool.Decides.{nat_tests}
-use Rattle.std.proofs.lemmas.List.{get_or_default, get_or_append_left, get_or_push, map-append, take_more}
-use Rattle.std.proofs.lemmas.List.Elements.{All-filter, All-map, All-contains, All-weaker, All-append, All-push, Contains-append_left, Contains-append_right, Contains-push, Contains-get_or, filter_passes, filter-append}
+use Rattle.std.proofs.lemmas.List.{get_or_append_left, get_or_default, get_or_push, map-append, take_more, drop_more, length-map}
+use Rattle.std.proofs.lemmas.List.Elements.{All-push, filter-append, All-filter, All-map, All-contains, All-contains_itself, All-weaker, All-append}
+use Rattle.std.proofs.lemmas.List.Elements.{Contains-append_left, Contains-append_right, Contains-push, Contains-get_or, filter_passes}
+use Rattle.std.proofs.Math.ListN.{get_or-map}
 use Rattle.lset_words.specs.declared.Reply.{Reply}
 use Rattle.lset_words.specs.declared.history.CallRecord.{CallRecord}
+use Rattle.lset_words.specs.declared.history.Placed.{Placed}
+use Rattle.lset_words.specs.SequentialSet.{has_key}
 use Rattle.lset_words.specs.Words.{key_of}
 use Rattle.lset_words.specs.History.{call_numbered, no_call}
 use Rattle.lset_words.proofs.Numbers.{equal_test, same_number, below_or_not}
+use Rattle.lset_history.specs.Faults.{Explains}
 use Rattle.lset_judge.specs.declared.stream.StreamCall.{StreamCall}
+use Rattle.lset_judge.specs.Rest.{may_turn, has_ended, ended_by, key_if, alone, IsAtRest}
+use Rattle.lset_judge.specs.Stream.{record_of, call_of, pending_of, key_in, ArePending}
+use Rattle.lset_judge.specs.Verdict.{IsExplained}
 use Rattle.lset_judge.specs.declared.stream.Pending.{Pending}
 use Rattle.lset_judge.specs.declared.log.Ended.{Ended}
 use Rattle.lset_judge.specs.declared.log.Rest.{Rest}
-use Rattle.lset_judge.specs.Rest.{has_ended, may_turn, IsAtRest}
-use Rattle.lset_judge.specs.Stream.{record_of, call_of, pending_of, key_in, ArePending}
 use Rattle.lset_judge.specs.Window.{makes_so}
-use Rattle.lset_judge.specs.Log.{Logged, pushed, unquiet, with_pending, stays_after, cut_to, calls_in, waiting_of, is_over}
-use Rattle.lset_judge.specs.Log.{IsOverBy, Rests, IsEntry, IsHeld, IsLog, IsRestIn, IsMadeBy, StaysLog}
-use Rattle.lset_judge.proofs.Keeping.{rest_more, known_more, before_more}
+use Rattle.lset_judge.specs.Log.{Logged, pushed, unquiet, with_pending, stays_after, cut_to, calls_in, waiting_of, is_over, IsOverBy, Rests, IsEntry, IsHeld, IsLog}
+use Rattle.lset_judge.specs.Log.{IsRestIn, IsMadeBy, StaysLog}
 
 -- ---- elements of lists
 
 module _ {X Y : Type 0} (f : X → Y) where
   pub contains_map : (xs : List X) (x : X) → Contains xs x → Contains (map f xs) (f x)
-  contains_map [] x c = absurd (let low = c.1 in omega (arith, low))
-  contains_map (y ∷ ys) x c = at (contains_map ys x) c.0 c.1 c.2
-    where
-      at : (Contains ys x → Contains (map f ys) (f x)) → (k : ℕ) → k < length (y ∷ ys) → get_or (y ∷ ys) k x ≡ x → Contains (map f (y ∷ ys)) (f x)
-      at on zero low e = (0, omega arith, ap f e)
-      at on (suc k) low e = let r = on (k, omega (arith, low), e) in (suc r.0, (let l = r.1 in omega (arith, l)), r.2)
+  contains_map xs x (k, low, is) = (k, omega (arith, length-map xs f, low), get_or-map f xs k x ∙ ap f is)
 
   pub contains_from_map : (xs : List X) (y : Y) → Contains (map f xs) y → (x : X) × Contains xs x × (f x ≡ y)
-  contains_from_map [] y c = absurd (let low = c.1 in omega (arith, low))
-  contains_from_map (x ∷ xs) y c = at (contains_from_map xs y) c.0 c.1 c.2
-    where
-      at : (Contains (map f xs) y → (z : X) × Contains xs z × (f z ≡ y)) → (k : ℕ) → k < length (map f (x ∷ xs)) → get_or (map f (x ∷ xs)) k y ≡ y → (z : X) × Contains (x ∷ xs) z × (f z ≡ y)
-      at on zero low e = (x, (0, omega arith, refl), e)
-      at on (suc k) low e = let r = on (k, omega (arith, low), e) in
-          (r.0, (suc r.1.0, (let l = r.1.1 in omega (arith, l)), r.1.2), r.2)
+  contains_from_map xs y c = All-contains (λ z. (x : X) × Contains xs x × (f x ≡ z)) (map f xs) y
+      (All-map (λ z. (x : X) × Contains xs x × (f x ≡ z)) f xs (λ k d low. (get_or xs k d, Contains-get_or xs k d low, refl))) c
 
 module _ {X : Type 0} (test : X → Bool) where
   pub contains_filter : (xs : List X) (x : X) → test x ≡ true → Contains xs x → Contains (filter test xs) x
-  contains_filter [] x t c = absurd (let low = c.1 in omega (arith, low))
-  contains_filter (y ∷ ys) x t c = at (contains_filter ys x t) c.0 c.1 c.2
-    where
-      at : (Contains ys x → Contains (filter test ys) x) → (k : ℕ) → k < length (y ∷ ys) → get_or (y ∷ ys) k x ≡ x → Contains (filter test (y ∷ ys)) x
-      at on zero low e = rw (ap test e ∙ t) (0, omega arith, e)
-      at on (suc k) low e =
-          let r = on (k, omega (arith, low), e) in
-          elim (cases_Bool (test y)) [
-            | inl u ↦ rw u (suc r.0, (let l = r.1 in omega (arith, l)), r.2)
-            | inr u ↦ rw u r
-          ]
+  contains_filter xs x t (k, low, is) =
+      let more = drop (k + 1) xs in
+      let split : take k xs ++ x ∷ more ≡ xs = ap (λ y. take k xs ++ y ∷ more) (sym is)
+      ∙ ap (λ ys. take k xs ++ ys) (sym (drop_more xs k x low)) ∙ take-append-drop k xs in
+      subst (λ ys. Contains (filter test ys) x) split (rw (filter-append test (take k xs) (x ∷ more), t)
+      (Contains-append_right (filter test (take k xs)) (x ∷ filter test more) x (0, omega arith, refl)))
 
   pub contains_from_filter : (xs : List X) (x : X) → Contains (filter test xs) x → Contains xs x
-  contains_from_filter [] x c = absurd (let low = c.1 in omega (arith, low))
-  contains_from_filter (y ∷ ys) x c = elim (cases_Bool (test y)) [
-    | inl u ↦ (let d : Contains (y ∷ filter test ys) x = rw u at c in at (contains_from_filter ys x) d.0 d.1 d.2)
-    | inr u ↦ (let d : Contains (filter test ys) x = rw u at c in later (contains_from_filter ys x d))
-  ]
-    where
-      later : Contains ys x → Contains (y ∷ ys) x
-      later r = (suc r.0, (let l = r.1 in omega (arith, l)), r.2)
-
-      at : (Contains (filter test ys) x → Contains ys x) → (k : ℕ) → k < length (y ∷ filter test ys) → get_or (y ∷ filter test ys) k x ≡ x → Contains (y ∷ ys) x
-      at on zero low e = (0, omega arith, e)
-      at on (suc k) low e = later (on (k, omega (arith, low), e))
+  contains_from_filter xs x c = All-contains (Contains xs) (filter test xs) x (All-filter test (Contains xs) xs (All-contains_itself xs)) c
 
 pub some_of : {X : Type 0} (P : X → Type 0) (o : Option X) (x : X) → o ≡ Some x → IfSome o P → P x
 some_of P o x e h = subst (λ q. IfSome q P) e h
@@ -140,14 +120,12 @@ module _ (threads : ℕ) (opening : List ℕ) (calls : List CallRecord) (key upt
           let x = call_numbered calls n in
           elim (is.all n low own (let u = rest_quiet.0 in omega (arith, u, begun))) [
             | inl e ↦ ended_later l.since r.since x.ended rest.after e
-            | inr h ↦ elim h [
-              | inl c ↦ is_ended r.since (call_of x)
-                  (All-contains (λ (y : StreamCall). is_over r.since y ≡ true) (calls_in l.ended) (call_of x)
-                  (All-map (λ (y : StreamCall). is_over r.since y ≡ true) (λ (y : Ended). y.call) l.ended rest.over) c) turn begun
-              | inr c ↦ is_ended r.since (call_of x)
-                  (All-contains (λ (y : StreamCall). is_over r.since y ≡ true) (waiting_of key waiting) (call_of x) rest.apart
-                  (is_waiting key waiting (pending_of x) own c)) turn begun
-            ]
+            | inr (inl c) ↦ is_ended r.since (call_of x)
+                (All-contains (λ (y : StreamCall). is_over r.since y ≡ true) (calls_in l.ended) (call_of x)
+                (All-map (λ (y : StreamCall). is_over r.since y ≡ true) (λ (y : Ended). y.call) l.ended rest.over) c) turn begun
+            | inr (inr c) ↦ is_ended r.since (call_of x)
+                (All-contains (λ (y : StreamCall). is_over r.since y ≡ true) (waiting_of key waiting) (call_of x) rest.apart
+                (is_waiting key waiting (pending_of x) own c)) turn begun
           ])
 
       pub rest_so : (r.since ≤ upto) × IsAtRest threads opening calls key r.since r.there
@@ -257,12 +235,10 @@ module _ (threads : ℕ) (opening : List ℕ) (calls : List CallRecord) (key m n
           (All-weaker (IsEntry threads opening calls key m) (IsEntry threads opening calls key n) entry_later l.ended is.entries) entry;
       all = λ i low own upto. elim (is.all i low own (begun i no_call low)) [
         | inl e ↦ inl e
-        | inr h ↦ elim h [
-          | inl c ↦ inr (inl (on (call_of (call_numbered calls i)) c))
-          | inr c ↦ elim (still (call_numbered calls i) own c) [
-            | inl e ↦ inr (inl (subst (Contains (calls_in (l.ended ++ x ∷ []))) e (contains_map (λ (y : Ended). y.call) (l.ended ++ x ∷ []) x (Contains-push l.ended x))))
-            | inr d ↦ inr (inr d)
-          ]
+        | inr (inl c) ↦ inr (inl (on (call_of (call_numbered calls i)) c))
+        | inr (inr c) ↦ elim (still (call_numbered calls i) own c) [
+          | inl e ↦ inr (inl (subst (Contains (calls_in (l.ended ++ x ∷ []))) e (contains_map (λ (y : Ended). y.call) (l.ended ++ x ∷ []) x (Contains-push l.ended x))))
+          | inr d ↦ inr (inr d)
         ]
       ];
     }
@@ -312,10 +288,52 @@ log_frozen threads opening calls key m pending l are is = record {
     joined c has = subst (λ cs. Contains cs c)
         (sym (map-append (λ (y : Ended). y.call) l.ended (map unquiet (waiting_of key pending)) ∙ ap (λ cs. calls_in l.ended ++ cs) (calls_of_all (waiting_of key pending)))) has
 
--- one more call comes
+-- ---- one more call comes: a key at rest stays so, and a call of the recording stays one
+
+not_yet : (S begun : ℕ) (o : Option (ℕ × Reply)) → S < begun → IfSome o (λ (e : ℕ × Reply). begun < e.0) → has_ended S o ≡ false
+not_yet S begun None l h = refl
+not_yet S begun (Some e) l h = (let later : S < e.0 = omega (arith, l, h) in let f : nat_le e.0 S ≡ false = grind (arith, nat_tests) in f)
+
 module _ (threads : ℕ) (opening : List ℕ) (calls : List CallRecord) (x : CallRecord) (ends : IfSome x.ended (λ (e : ℕ × Reply). x.begun < e.0)) where
   abbrev more : List CallRecord
   more = calls ++ x ∷ []
+
+  -- ---- a key at rest stays so
+
+  ended_same : (k S : ℕ) → S < x.begun → ended_by k S more ≡ ended_by k S calls
+  ended_same k S l =
+      let f : has_ended S x.ended ≡ false = not_yet S x.begun x.ended l ends in
+      filter-append (λ (y : CallRecord). (key_of y.call).0 == k && has_ended S y.ended) calls (x ∷ [])
+      ∙ elim (cases_Bool ((key_of x.call).0 == k)) [
+        | inl t ↦ rw (t, f) (append-nil (ended_by k S calls))
+        | inr t ↦ rw t (append-nil (ended_by k S calls))
+      ]
+
+  pub rest_more : (k S : ℕ) (there : Bool) → S < x.begun → IsAtRest threads opening calls k S there → IsAtRest threads opening more k S there
+  rest_more k S there l r =
+      let Explained : List CallRecord → Type 0 = λ cs. IsExplained (alone threads (length cs) (has_key k opening) k cs) (key_if there k) in
+      let Forced : List CallRecord → Type 0 = λ cs. (quota : ℕ) (order : List Placed) (keys : List ℕ)
+      → Explains (alone threads quota (has_key k opening) k cs) order keys → has_key k keys ≡ there in
+      let same = ended_same k S l in record {
+        ended = All-push (λ (y : CallRecord). (key_of y.call).0 ≡ k → may_turn y ≡ true → y.begun ≤ S → has_ended S y.ended ≡ true) calls x r.ended
+            (λ own turn low. absurd (omega (arith, l, low)));
+        explained = subst Explained (sym same) r.explained;
+        forced = subst Forced (sym same) r.forced;
+      }
+
+  -- ---- a call of the recording stays one
+
+  abbrev Known : Option StreamCall → Type 0
+  Known o = IfSome o (λ (b : StreamCall). Contains calls (record_of b))
+
+  pub known_more : (b : StreamCall) → Contains calls (record_of b) → Contains more (record_of b)
+  known_more b has = Contains-append_left calls (x ∷ []) (record_of b) has
+
+  pub before_more : (o : Option StreamCall) → Known o → IfSome o (λ (b : StreamCall). Contains more (record_of b))
+  before_more None h = tt
+  before_more (Some b) h = known_more b h
+
+  -- ---- and the log goes on
 
   module _ (key upto n : ℕ) (waiting pending : List Pending) (l : Logged) (is : IsLog threads opening calls key upto waiting l)
       (early : upto < x.begun) (later : upto ≤ n) (still : (y : CallRecord) → Contains waiting (pending_of y) → Contains pending (pending_of y))
@@ -327,7 +345,7 @@ module _ (threads : ℕ) (opening : List ℕ) (calls : List CallRecord) (x : Cal
 
     entry_more : (y : Ended) → IsEntry threads opening calls key upto y → IsEntry threads opening more key n y
     entry_more y e = record {
-      known = known_more threads opening calls x ends y.call e.known;
+      known = known_more y.call e.known;
       own = e.own;
       quiet = quiet y.quiet y.call.ended e.quiet;
     }
@@ -337,7 +355,7 @@ module _ (threads : ℕ) (opening : List ℕ) (calls : List CallRecord) (x : Cal
         quiet (Some there) None h = tt
         quiet (Some there) (Some d) h = (
           (let low = h.0 in omega (arith, low, later)),
-          (λ over. rest_more threads opening calls x ends key d.0 there (let low = h.0 in omega (arith, low, early)) (h.1 (fewer_over d.0 over))),
+          (λ over. rest_more key d.0 there (let low = h.0 in omega (arith, low, early)) (h.1 (fewer_over d.0 over))),
         )
 
     base_more : (o : Option Bool) → IfSome o (λ (there : Bool). (l.since ≤ upto) × IsAtRest threads opening calls key l.since there)
@@ -345,13 +363,13 @@ module _ (threads : ℕ) (opening : List ℕ) (calls : List CallRecord) (x : Cal
     base_more None h = tt
     base_more (Some there) h = (
       (let low = h.0 in omega (arith, low, later)),
-      rest_more threads opening calls x ends key l.since there (let low = h.0 in omega (arith, low, early)) h.1,
+      rest_more key l.since there (let low = h.0 in omega (arith, low, early)) h.1,
     )
 
     pub log_more : IsLog threads opening more key n pending l
     log_more = record {
       base = base_more l.there is.base;
-      made = before_more threads opening calls x ends l.before is.made;
+      made = before_more l.before is.made;
       entries = All-weaker (IsEntry threads opening calls key upto) (IsEntry threads opening more key n) entry_more l.ended is.entries;
       all = λ i low own upto. elim (below_or_not i (length calls)) [
         | inl old ↦ (let same : call_numbered more i ≡ call_numbered calls i = get_or_append_left calls (x ∷ []) no_call i old in

@@ -20,6 +20,7 @@ use Rattle.lset_judge.specs.Rest.{IsAtRest}
 use Rattle.lset_judge.specs.Stream.{behind_all, record_of, pending_of, key_in, event_of, state_for, IsMetBy, IsJudgedTo, IsStreamOf, MayCome}
 use Rattle.lset_judge.specs.Log.{log_for, log_opened, pushed, unquiet, IsEntry, IsOverBy, IsLog, Rests, LoggedBy, IsQuiet, LogsEnd}
 use Rattle.lset_judge.specs.Pending.{IsNext}
+use Rattle.lset_judge.proofs.Leading.{at_once}
 use Rattle.lset_judge.proofs.Resting.{at_rest}
 use Rattle.lset_judge.proofs.Streamed.{first_or_later, later_too}
 use Rattle.lset_judge.proofs.Logging.{log_same, log_pushed, log_frozen, log_more}
@@ -117,17 +118,12 @@ module _ (threads : ℕ) (opening : List ℕ) (calls : List CallRecord) (s t : S
 
 -- ---- where a call begins
 
-goes_on : (n m : ℕ) (v : Event) (s : State) → fits (suc m) v s ≡ true → settled n m v (Some s) ≡ Some s
-goes_on zero m v s e = rw e refl
-goes_on (suc n) m v s e = rw e refl
-
 never_fails : (kind : Kind) (u m : ℕ) (s : State) → entered (begin_event kind u) (found m (begin_event kind u) s) ≡ None → ⊥
-never_fails kind u m s e = true≢false (ap is_some (sym (ap (entered (begin_event kind u)) (goes_on (open_changes s) m (begin_event kind u) s (fit kind))) ∙ e))
+never_fails kind u m s e = true≢false (ap is_some (sym (ap (entered (begin_event kind u)) (at_once (open_changes s) m (begin_event kind u) s (fit kind))) ∙ e))
   where
     fit : (k : Kind) → fits (suc m) (begin_event k u) s ≡ true
     fit (changes w) = refl
-    fit (sees w) = refl
-    fit nothing = refl
+    fit k = refl
 
 module _ (threads : ℕ) (opening : List ℕ) (calls : List CallRecord) (s t : Stream) (is : IsStreamOf threads opening calls s) (x : CallRecord)
     (may : MayCome s.pending s.moment x) (moved : IsPermutation (pending_of x ∷ s.pending) t.pending) (moment : t.moment ≡ x.begun)

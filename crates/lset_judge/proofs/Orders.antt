@@ -2,8 +2,10 @@
 use Rattle.std.proofs.Common.{◌≡◌, ◌≢◌, ℕ, zero, suc, ◌+◌, ◌<◌, ◌≤◌, List, [], ◌∷◌, Bool, true, false, inl, inr, refl, sym, ap, ◌∙◌, arith}
 use Rattle.std.proofs.Common.{subst, length, get_or, map}
 use Rattle.std.specs.Prelude.{◌==◌, if◌then◌else◌, Option, Some, None, All, AllPairs, Contains, IfSome, IsSomeAnd}
+use Rattle.std.specs.List.{AllByRecursion}
 use Rattle.std.proofs.lemmas.Bool.{cases_Bool, cases_order, true≢false}
 use Rattle.std.proofs.lemmas.List.{get_or_default}
+use Rattle.std.proofs.lemmas.List.Elements.{All-map, recursion_from_All}
 use Rattle.lset_words.specs.declared.Call.{Call}
 use Rattle.lset_words.specs.declared.Call.TheVariants.{Add, Remove, Contains as IsIn}
 use Rattle.lset_words.specs.declared.Reply.{Reply}
@@ -16,6 +18,7 @@ use Rattle.lset_words.specs.History.{IsHistory, call_numbered, no_call, answered
 use Rattle.lset_words.proofs.Numbers.{same_number, equal_test, below_or_not, same_or_not}
 use Rattle.lset_history.specs.History.{HistoryValue, latest_moment}
 use Rattle.lset_history.specs.Faults.{Explains, set_left_by}
+use Rattle.lset_history.proofs.Lists.{Pairs}
 use Rattle.lset_history.proofs.Pairs.{pairs_head, pairs_tail}
 use Rattle.lset_history.proofs.Histories.{Follows, IsCall, calls_of, pairs_of}
 use Rattle.lset_judge.specs.Rule.{Event, begins, looks, leaves, idle, opened, changes_to}
@@ -23,7 +26,7 @@ use Rattle.lset_judge.specs.Events.{Kind, changes, sees, nothing, kind_of, open_
 use Rattle.lset_judge.specs.Events.{RulePasses}
 use Rattle.lset_judge.proofs.EventLemmas.{kind, until, begun_below, end_below, Begins, Ends, Told, of_nothing, of_begin, of_end, told, begins_at, if_some, none_or_some}
 use Rattle.lset_judge.proofs.KeyTests.{has_with, has_with_other, has_without, has_without_other}
-use Rattle.lset_judge.proofs.Placing.{In, AllOf, Pairs, Act, act, suits, becomes, TakeTurns, Apart, IsAct, AreEvents, Lists, Ready, succeeds, one_of}
+use Rattle.lset_judge.proofs.Placing.{In, Act, act, suits, becomes, TakeTurns, Apart, IsAct, AreEvents, Lists, Ready, succeeds, one_of}
 
 -- ---- what an answered call does to a key
 
@@ -176,14 +179,12 @@ module _ (threads : ℕ) (calls : List CallRecord) (history : IsHistory threads 
       where
         by : (d : Kind) (y : ℕ) → begins w u ≡ begin_event d y → (d ≡ changes w) × (y ≡ u)
         by (changes v) y h = (cc, cc)
-        by (sees v) y h = absurd (cc)
-        by nothing y h = absurd (cc)
+        by d y h = absurd cc
     begins_told v m w u e (of_end b) = absurd (by (kind (x_ b.number)) (x_ b.number).begun (sym e ∙ b.is))
       where
         by : (d : Kind) (y : ℕ) → begins w u ≡ end_event d y → ⊥
         by (changes v) y h = cc
-        by (sees v) y h = cc
-        by nothing y h = cc
+        by d y h = cc
 
     looks_told : (v : Event) (m : ℕ) (w : Bool) (i : ℕ) → v ≡ looks w i → Told last k m calls v
         → (b : Ends last k m calls v) × (kind (x_ b.number) ≡ sees w) × ((x_ b.number).begun ≡ i)
@@ -192,14 +193,12 @@ module _ (threads : ℕ) (calls : List CallRecord) (history : IsHistory threads 
       where
         by : (d : Kind) (y : ℕ) → looks w i ≡ end_event d y → (d ≡ sees w) × (y ≡ i)
         by (sees v) y h = (cc, cc)
-        by (changes v) y h = absurd (cc)
-        by nothing y h = absurd (cc)
+        by d y h = absurd cc
     looks_told v m w i e (of_begin b) = absurd (by (kind (x_ b.number)) (until last (x_ b.number)) (sym e ∙ b.is))
       where
         by : (d : Kind) (y : ℕ) → looks w i ≡ begin_event d y → ⊥
         by (changes v) y h = cc
-        by (sees v) y h = cc
-        by nothing y h = cc
+        by d y h = cc
 
     pub never_left : (v : Event) (m : ℕ) (w : Bool) → v ≡ leaves w → Told last k m calls v → ⊥
     never_left v m w e (of_nothing f) = (let g : leaves w ≡ idle = sym e ∙ f in cc)
@@ -207,14 +206,12 @@ module _ (threads : ℕ) (calls : List CallRecord) (history : IsHistory threads 
       where
         by : (d : Kind) (y : ℕ) → leaves w ≡ begin_event d y → ⊥
         by (changes v) y h = cc
-        by (sees v) y h = cc
-        by nothing y h = cc
+        by d y h = cc
     never_left v m w e (of_end b) = by (kind (x_ b.number)) (x_ b.number).begun (sym e ∙ b.is)
       where
         by : (d : Kind) (y : ℕ) → leaves w ≡ end_event d y → ⊥
         by (changes v) y h = cc
-        by (sees v) y h = cc
-        by nothing y h = cc
+        by d y h = cc
 
     pub are_events : AreEvents ev
     are_events = record {
@@ -229,9 +226,8 @@ module _ (threads : ℕ) (calls : List CallRecord) (history : IsHistory threads 
     }
 
     -- the acts of an order
-    all_map : (Q : Act → Type 0) (ps : List Placed) → All (λ p. Q (act_of p)) ps → AllOf Q (map act_of ps)
-    all_map Q [] h = tt
-    all_map Q (p ∷ ps) h = (h 0 p (omega arith), all_map Q ps (λ n d l. h (suc n) d (omega arith)))
+    all_map : (Q : Act → Type 0) (ps : List Placed) → All (λ p. Q (act_of p)) ps → AllByRecursion Q (map act_of ps)
+    all_map Q ps h = recursion_from_All Q (map act_of ps) (All-map Q act_of ps h)
 
     in_map : (ps : List Placed) (n : ℕ) (p : Placed) → n < length ps → get_or ps n p ≡ p → In (act_of p) (map act_of ps)
     in_map [] n p l e = absurd (omega arith)
@@ -296,7 +292,7 @@ module _ (threads : ℕ) (calls : List CallRecord) (history : IsHistory threads 
             | inr s ↦ subst (λ o. kind_if x.call o ≡ changes w) (sym s.1) (subst (λ r. kind_of x.call r ≡ changes w) (same_reply i d s.0 low s.1) e)
           ]
 
-      acts_are : AllOf (IsAct ev last) (map act_of order)
+      acts_are : AllByRecursion (IsAct ev last) (map act_of order)
       acts_are = all_map (IsAct ev last) order (λ i d low.
           let p : Placed = get_or order i d in
           let known : p.call < length calls = l.known i d low in

@@ -13,9 +13,9 @@ use Rattle.std.specs.List.Sorted.{IsPermutation}
 use Rattle.std.specs.Map.{lookup, values_of}
 use Rattle.std.specs.Ordering.{nat_cmp, is_eq}
 use Rattle.std.specs.declared.cmp.Ordering.TheVariants.{Less, Equal, Greater}
-use Rattle.std.proofs.lemmas.Bool.{cases_Bool, true≢false}
-use Rattle.std.proofs.lemmas.List.{map-append, length-map, get_or-map, get_or_append_left, get_or-append_right}
-use Rattle.std.proofs.lemmas.List.Elements.{All-from_recursion, recursion_from_All, All-map, All-contains, All-append, All-nil, All-rest, filter-append}
+use Rattle.std.proofs.lemmas.Bool.{cases_Bool, true≢false, false_from_ne_true}
+use Rattle.std.proofs.lemmas.List.{map-append, length-map, get_or-map, get_or_append_left, get_or-append_right, take_at, drop_at}
+use Rattle.std.proofs.lemmas.List.Elements.{All-from_recursion, recursion_from_All, All-map, All-contains, All-append, All-nil, All-rest, All-take, All-drop, filter-append}
 use Rattle.std.proofs.lemmas.List.Sorted.{IsPermutation-refl, IsPermutation-sym, IsPermutation-cons, IsPermutation-trans, IsPermutation-map, IsPermutation-middle}
 use Rattle.std.proofs.lemmas.List.Sorted.{IsPermutation-append_left, IsPermutation-append_right, IsPermutation-swap_remove}
 use Rattle.std.proofs.lemmas.Option.{slice_get-get_or}
@@ -60,22 +60,16 @@ some_ends b es e a = some_found b es e (recursion_from_All (λ (p : Pending). p.
 
 -- none is found before the first
 pub none_earlier : (b first : ℕ) (es : List (ℕ × StreamCall)) → b < first → All (λ (p : Pending). first ≤ p.end) (map pending_at es) → found b es ≡ false
-none_earlier b first es low all = elim (cases_Bool (found b es)) [
-  | inl t ↦ absurd (some_ends b es t (λ i d inside e. let h = all i d inside in omega (arith, e, h, low)))
-  | inr f ↦ f
-]
+none_earlier b first es low all = false_from_ne_true (found b es) (λ t.
+    some_ends b es t (λ i d inside e. let h = all i d inside in omega (arith, e, h, low)))
 
 -- ---- a few of them, and the others
 
 pub all_left : {X : Type 0} (P : X → Type 0) (xs ys : List X) → All P (xs ++ ys) → All P xs
-all_left P xs ys all i d low = subst P (get_or_append_left xs ys d i low) (all i d (let l = length-append xs ys in omega (arith, l, low)))
+all_left P xs ys all = subst (All P) (take_at xs ys (length xs) refl) (All-take P (length xs) (xs ++ ys) all)
 
 pub all_right : {X : Type 0} (P : X → Type 0) (xs ys : List X) → All P (xs ++ ys) → All P ys
-all_right P xs ys all i d low =
-    let l = length-append xs ys in
-    let back : length xs + i - length xs ≡ i = omega arith in
-    subst P (get_or-append_right xs ys (length xs) (length xs + i) d refl (omega arith) ∙ ap (λ (j : ℕ). get_or ys j d) back)
-    (all (length xs + i) d (omega (arith, l, low)))
+all_right P xs ys all = subst (All P) (drop_at xs ys (length xs) refl) (All-drop P (length xs) (xs ++ ys) all)
 
 -- ---- none of them ends at a moment of a call
 

@@ -15,7 +15,7 @@ use Rattle.lset_words.proofs.Numbers.{unequal_test, same_or_not}
 use Rattle.lset_judge.specs.Rule.{same, not_before}
 use Rattle.lset_judge.specs.Events.{changes, sees, nothing, kind_of, open_kind, kind_if}
 use Rattle.lset_judge.specs.Verdict.{is_plain}
-use Rattle.lset_judge.proofs.Counts.{counts_not, counts_most, at_most_all}
+use Rattle.lset_judge.proofs.Leading.{counts_not, counts_most, at_most_all}
 use Rattle.lset_judge.proofs.Placing.{has_split}
 
 -- ---- lists of answered calls
@@ -29,10 +29,6 @@ pub left_push : (s : SetState) (xs : List Answered) (a : Answered)
     → set_left s (xs ++ a ∷ []) ≡ after_call (set_left s xs) a.thread a.call a.reply
 left_push s [] a = refl
 left_push s (x ∷ xs) a = left_push (after_call s x.thread x.call x.reply) xs a
-
-pub map_push : (f : Placed → Answered) (ps : List Placed) (p : Placed) → map f (ps ++ p ∷ []) ≡ map f ps ++ f p ∷ []
-map_push f [] p = refl
-map_push f (q ∷ ps) p = ap (λ xs. f q ∷ xs) (map_push f ps p)
 
 -- a call has its place
 abbrev pub IsPlaced : ℕ → List Placed → Type 0
@@ -77,11 +73,7 @@ change_replies quota thread s (Add k) None true d h room = (
   refl,
   tt,
 )
-change_replies quota thread s (Add k) None false d h room = absurd (cc)
 change_replies quota thread s (Remove k) None false d h room = (rw h refl, refl, tt)
-change_replies quota thread s (Remove k) None true d h room = absurd (cc)
-change_replies quota thread s (IsIn k) None w d h room = absurd (cc)
-change_replies quota thread s (Ceiling k) None w d h room = absurd (cc)
 change_replies quota thread s c (Some e) w d h room = by c e.1 w room d h refl
   where
     by : (c : Call) (r : Reply) (w : Bool) → (w ≡ true → count_of s thread < quota) → kind_of c r ≡ changes w → has_key (key_of c).0 s.keys ≡ not w → e.1 ≡ r
@@ -94,6 +86,7 @@ change_replies quota thread s c (Some e) w d h room = by c e.1 w room d h refl
     by (Remove k) True false room d h q = (rw h refl, refl, q)
     by (IsIn k) True w room d h q = absurd (cc)
     by c r w room d h q = absurd (cc)
+change_replies quota thread s c o w d h room = absurd cc
 
 pub look_replies : (quota thread : ℕ) (s : SetState) (c : Call) (r : Reply) (w : Bool) → is_plain c r ≡ true → kind_of c r ≡ sees w
     → has_key (key_of c).0 s.keys ≡ w → reply_to quota s thread c ≡ r
@@ -110,10 +103,9 @@ open_sees_not (Add k) w e = cc
 open_sees_not c w e = cc
 
 pub same_flips : (w b : Bool) → same w b ≡ false → same w (not b) ≡ true
-same_flips true true e = absurd (true≢false e)
 same_flips true false e = refl
 same_flips false true e = refl
-same_flips false false e = absurd (true≢false e)
+same_flips w b e = absurd (true≢false e)
 
 pub same_is : (w b : Bool) → same w b ≡ true → b ≡ w
 same_is true b e = e

@@ -2,15 +2,16 @@
 use Rattle.std.proofs.Common.{◌≡◌, ◌≢◌, ℕ, zero, suc, ◌<◌, ◌≤◌, ◌⊎◌, List, [], ◌∷◌, Bool, true, false, inl, inr, refl, sym, ap, ◌∙◌, arith}
 use Rattle.std.proofs.Common.{subst, length}
 use Rattle.std.specs.Prelude.{◌==◌, ◌||◌, not, nat_lt, Some, is_some}
-use Rattle.std.proofs.lemmas.Bool.{cases_Bool, true≢false, or_right}
+use Rattle.std.specs.List.{AllByRecursion}
+use Rattle.std.proofs.lemmas.Bool.{cases_Bool, both_ways, false_from_ne_true, true≢false, or_right}
 use Rattle.std.proofs.lemmas.Bool.Decides.{nat_tests}
 use Rattle.lset_words.specs.SequentialSet.{has_key}
 use Rattle.lset_words.proofs.Numbers.{same_number, equal_test, below_or_not}
+use Rattle.lset_history.proofs.Lists.{Pairs}
 use Rattle.lset_judge.specs.Rule.{Event, begins, ends, looks, leaves, idle, State, same, changes_to, options, not_before, fits, entering, enters, entered}
 use Rattle.lset_judge.specs.Rule.{put_in, take_out, turned_by, open_changes, opened, stepped, state_after, may_leave}
 use Rattle.lset_judge.specs.Events.{Kind, changes, sees, nothing}
-use Rattle.lset_judge.proofs.Counts.{counts_one}
-use Rattle.lset_judge.proofs.Leading.{at, Leads, leads_at_first, leads_past, settles, timeline_turns}
+use Rattle.lset_judge.proofs.Leading.{counts_one, at, Leads, leads_at_first, leads_past, settles, timeline_turns}
 
 -- ---- lists
 
@@ -18,15 +19,7 @@ abbrev pub In : {A : Type 0} → A → List A → Type 0
 In a [] = ⊥
 In a (x ∷ xs) = (x ≡ a) ⊎ In a xs
 
-abbrev pub AllOf : {A : Type 0} → (A → Type 0) → List A → Type 0
-AllOf P [] = Unit {0}
-AllOf P (x ∷ xs) = P x × AllOf P xs
-
-abbrev pub Pairs : {A : Type 0} → (A → A → Type 0) → List A → Type 0
-Pairs R [] = Unit {0}
-Pairs R (x ∷ xs) = AllOf (R x) xs × Pairs R xs
-
-pub one_of : {A : Type 0} (P : A → Type 0) (a : A) (xs : List A) → AllOf P xs → In a xs → P a
+pub one_of : {A : Type 0} (P : A → Type 0) (a : A) (xs : List A) → AllByRecursion P xs → In a xs → P a
 one_of P a [] h i = absurd i
 one_of P a (x ∷ xs) h (inl e) = subst P e h.0
 one_of P a (x ∷ xs) h (inr i) = one_of P a xs h.1 i
@@ -34,9 +27,6 @@ one_of P a (x ∷ xs) h (inr i) = one_of P a xs h.1 i
 abbrev pub NoTwice : List ℕ → Type 0
 NoTwice [] = Unit {0}
 NoTwice (x ∷ xs) = (has_key x xs ≡ false) × NoTwice xs
-
-pub not_both : (b : Bool) → b ≡ true → b ≡ false → ⊥
-not_both b t f = true≢false (sym t ∙ f)
 
 pub has_head : (u : ℕ) (xs : List ℕ) → has_key u (u ∷ xs) ≡ true
 has_head u xs = rw (equal_test u u refl) refl
@@ -65,10 +55,10 @@ no_twice_put u [] h = h
 no_twice_put u (x ∷ xs) h = elim (cases_Bool (nat_lt u x)) [
   | inl t ↦ rw t h
   | inr f ↦ rw f (elim (cases_Bool (has_key x (put_in u xs))) [
-    | inr n ↦ (n, no_twice_put u xs (elim (cases_Bool (has_key u xs)) [ inl i ↦ absurd (not_both _ (has_tail u x xs i) h.0) | inr n ↦ n ], h.1.1))
+    | inr n ↦ (n, no_twice_put u xs (elim (cases_Bool (has_key u xs)) [ inl i ↦ absurd (both_ways _ h.0 (has_tail u x xs i)) | inr n ↦ n ], h.1.1))
     | inl i ↦ absurd (elim (has_split x u xs (sym (has_put x u xs) ∙ i)) [
-      | inl s ↦ not_both (has_key u (x ∷ xs)) (subst (λ y. has_key u (y ∷ xs) ≡ true) s (has_head u xs)) h.0
-      | inr r ↦ not_both _ r h.1.0
+      | inl s ↦ both_ways (has_key u (x ∷ xs)) h.0 (subst (λ y. has_key u (y ∷ xs) ≡ true) s (has_head u xs))
+      | inr r ↦ both_ways _ h.1.0 r
     ])
   ])
 ]
@@ -97,10 +87,7 @@ others_stay u e (x ∷ xs) n h = elim (cases_Bool (x == e)) [
 ]
 
 not_in : (u e : ℕ) (xs : List ℕ) → has_key u xs ≡ false → has_key u (take_out e xs) ≡ false
-not_in u e xs f = elim (cases_Bool (has_key u (take_out e xs))) [
-  | inl t ↦ absurd (not_both _ (left_in u e xs t) f)
-  | inr n ↦ n
-]
+not_in u e xs f = false_from_ne_true (has_key u (take_out e xs)) (λ t. both_ways _ f (left_in u e xs t))
 
 pub gone : (e : ℕ) (xs : List ℕ) → NoTwice xs → has_key e (take_out e xs) ≡ false
 gone e [] h = refl
@@ -187,7 +174,7 @@ module _ (ev : ℕ → Event) (last : ℕ) (left : Bool) (are : AreEvents ev) wh
 
   pub record Ready (m : ℕ) (s : State) (ys : List Act) : Type 0 where
     pub take_turns : TakeTurns left s.there ys
-    pub acts : AllOf (IsAct ev last) ys
+    pub acts : AllByRecursion (IsAct ev last) ys
     pub pairs : Pairs Apart ys
     pub lists : (w : Bool) → Lists w m (changes_to w s) ys
     pub begins_to_come : (i : ℕ) (w : Bool) (u : ℕ) → ev i ≡ begins w u → m < i → u ≤ last → In (act i u (changes w)) ys
@@ -209,7 +196,7 @@ module _ (ev : ℕ → Event) (last : ℕ) (left : Bool) (are : AreEvents ev) wh
     once = l.once;
   }
 
-  lists_taken : (w : Bool) (m : ℕ) (xs : List ℕ) (p : Act) (ys : List Act) → AllOf (Apart p) ys → Lists w m xs (p ∷ ys)
+  lists_taken : (w : Bool) (m : ℕ) (xs : List ℕ) (p : Act) (ys : List Act) → AllByRecursion (Apart p) ys → Lists w m xs (p ∷ ys)
       → Lists w m (take_out p.until xs) ys
   lists_taken w m xs p ys apart l = record {
     from_event = λ u h. l.from_event u (left_in u p.until xs h);
@@ -217,7 +204,7 @@ module _ (ev : ℕ → Event) (last : ℕ) (left : Bool) (are : AreEvents ev) wh
       i.0,
       not_first p (act i.0 u (changes w)) ys i.1 (λ e.
           let same : p.until ≡ u = ap (λ (a : Act). a.until) e in
-          not_both (has_key u (take_out p.until xs)) h (subst (λ y. has_key y (take_out p.until xs) ≡ false) same (gone p.until xs l.once))),
+          both_ways (has_key u (take_out p.until xs)) (subst (λ y. has_key y (take_out p.until xs) ≡ false) same (gone p.until xs l.once)) h),
     );
     holds = λ a i d b. others_stay a.until p.until xs (λ e. (one_of (Apart p) a ys apart i).other (sym e)) (l.holds a (inr i) d b);
     once = no_twice_left p.until xs l.once;
@@ -251,8 +238,7 @@ module _ (ev : ℕ → Event) (last : ℕ) (left : Bool) (are : AreEvents ev) wh
       goes : (k : Kind) → ((w : Bool) → k ≡ changes w → ⊥) → suits s.there k → TakeTurns left (becomes s.there k) ys
           → TakeTurns left s.there ys
       goes (changes w) n t h = absurd (n w refl)
-      goes (sees w) n t h = h
-      goes nothing n t h = h
+      goes k n t h = h
 
   looks_kept : (m : ℕ) (s : State) (b : Bool) (p : Act) (ys : List Act) (v : Bool) → p.does ≡ changes v
       → Ready m s (p ∷ ys) → (j : ℕ) (w : Bool) (i : ℕ) → ev j ≡ looks w i → m < j → j ≤ last
@@ -294,14 +280,14 @@ module _ (ev : ℕ → Event) (last : ℕ) (left : Bool) (are : AreEvents ev) wh
   Waits m [] = Unit {0}
   Waits m (p ∷ ys) = m < p.begun
 
-  none_early : (m : ℕ) (a : Act) (ys : List Act) → Waits m ys → AllOf (IsAct ev last) ys → Pairs Apart ys → In a ys
+  none_early : (m : ℕ) (a : Act) (ys : List Act) → Waits m ys → AllByRecursion (IsAct ev last) ys → Pairs Apart ys → In a ys
       → suc m < a.until
   none_early m a [] w acts pairs i = absurd i
   none_early m a (p ∷ ys) w acts pairs (inl e) = let l = acts.0.ends_later in subst (λ (x : Act). suc m < x.until) e (omega (arith, l, w))
   none_early m a (p ∷ ys) w acts pairs (inr i) = let l = (one_of (Apart p) a ys pairs.0 i).in_time in omega (arith, l, w)
 
   lists_later : (w : Bool) (m : ℕ) (xs : List ℕ) (ys : List Act) → ((u : ℕ) → ev (suc m) ≡ begins w u → ⊥)
-      → AllOf (IsAct ev last) ys → Lists w m xs ys → Lists w (suc m) xs ys
+      → AllByRecursion (IsAct ev last) ys → Lists w m xs ys → Lists w (suc m) xs ys
   lists_later w m xs ys n acts l = record {
     from_event = λ u h. let i = l.from_event u h in let low = i.1 in (i.0, omega (arith, low), i.2);
     needed = l.needed;
@@ -314,7 +300,7 @@ module _ (ev : ℕ → Event) (last : ℕ) (left : Bool) (are : AreEvents ev) wh
   }
 
   lists_begun : (w : Bool) (m u : ℕ) (xs : List ℕ) (ys : List Act) → ev (suc m) ≡ begins w u
-      → AllOf (IsAct ev last) ys → (u ≤ last → In (act (suc m) u (changes w)) ys) → Lists w m xs ys → Lists w (suc m) (put_in u xs) ys
+      → AllByRecursion (IsAct ev last) ys → (u ≤ last → In (act (suc m) u (changes w)) ys) → Lists w m xs ys → Lists w (suc m) (put_in u xs) ys
   lists_begun w m u xs ys e acts comes l = record {
     from_event = λ y h. elim (has_split y u xs (sym (has_put y u xs) ∙ h)) [
       | inl s ↦ (suc m, omega arith, subst (λ z. ev (suc m) ≡ begins w z) s e)
@@ -336,11 +322,8 @@ module _ (ev : ℕ → Event) (last : ℕ) (left : Bool) (are : AreEvents ev) wh
   }
     where
       new : has_key u xs ≡ false
-      new = elim (cases_Bool (has_key u xs)) [
-        | inl h ↦ (let i = l.from_event u h in let same : i.0 ≡ suc m = are.once i.0 (suc m) w w u i.2 e in let low = i.1 in
-            absurd (omega (arith, same, low)))
-        | inr f ↦ f
-      ]
+      new = false_from_ne_true (has_key u xs) (λ h.
+          let i = l.from_event u h in let same : i.0 ≡ suc m = are.once i.0 (suc m) w w u i.2 e in let low = i.1 in omega (arith, same, low))
 
   looks_later : (m : ℕ) (s : State) (ys : List Act) → Ready m s ys
       → (j : ℕ) (w : Bool) (i : ℕ) → ev j ≡ looks w i → suc m < j → j ≤ last
@@ -376,7 +359,7 @@ module _ (ev : ℕ → Event) (last : ℕ) (left : Bool) (are : AreEvents ev) wh
       lists false = lists_past false m v s s.takes ys e r (r.lists false)
 
   -- what the event asks
-  none_due : (w : Bool) (m : ℕ) (xs : List ℕ) (ys : List Act) → suc m ≤ last → Waits m ys → AllOf (IsAct ev last) ys → Pairs Apart ys
+  none_due : (w : Bool) (m : ℕ) (xs : List ℕ) (ys : List Act) → suc m ≤ last → Waits m ys → AllByRecursion (IsAct ev last) ys → Pairs Apart ys
       → Lists w m xs ys → not_before (suc (suc m)) xs ≡ length xs
   none_due w m xs ys low waits acts pairs l = all_late (suc (suc m)) xs (λ u h. elim (below_or_not u (suc (suc m))) [
     | inl early ↦ (let i = l.needed u h (omega (arith, early, low)) in
@@ -386,8 +369,6 @@ module _ (ev : ℕ → Event) (last : ℕ) (left : Bool) (are : AreEvents ev) wh
 
   event_fits : (m : ℕ) (v : Event) (s : State) (ys : List Act) → ev (suc m) ≡ v → suc m ≤ last → Waits m ys → Ready m s ys
       → fits (suc m) v s ≡ true
-  event_fits m (begins w u) s ys e low waits r = refl
-  event_fits m idle s ys e low waits r = refl
   event_fits m (leaves w) s ys e low waits r = absurd (are.not_left (suc m) w e)
   event_fits m (ends w) s ys e low waits r = equal_test _ _ (none_due w m (changes_to w s) ys low waits r.acts r.pairs (r.lists w))
   event_fits m (looks w i) s ys e low waits r = elim (r.looks_to_come (suc m) w i e (omega arith) low) [
@@ -400,6 +381,7 @@ module _ (ev : ℕ → Event) (last : ℕ) (left : Bool) (are : AreEvents ev) wh
     where
       is_not : (t i : ℕ) → i ≤ t → not (nat_lt t i) ≡ true
       is_not t i l = grind (arith, nat_tests)
+  event_fits m v s ys e low waits r = refl
 
   -- THE TIMELINE, beside the rule: what begins by a moment turns the key
   place : (m : ℕ) (p : Act) (ys : List Act) (g s : State) → p.begun ≤ m → Leads m g s → Ready m s (p ∷ ys) → (k : Kind) → p.does ≡ k

@@ -3,7 +3,7 @@ use Rattle.std.proofs.Common.{◌≡◌, ◌≢◌, ℕ, ◌<◌, ◌≤◌, Boo
 use Rattle.std.specs.Prelude.{◌==◌, ◌&&◌, ◌||◌, nat_le, Option, Some, None, is_some, IfSome, All, AllPairs, filter}
 use Rattle.std.specs.List.{AllByRecursion}
 use Rattle.std.specs.List.Sorted.{IsStrictlyIncreasing}
-use Rattle.std.proofs.lemmas.Bool.{cases_Bool, true≢false, and_parts, both_ways}
+use Rattle.std.proofs.lemmas.Bool.{cases_Bool, true≢false, and_parts, both_ways, false_from_ne_true}
 use Rattle.std.proofs.lemmas.Bool.Decides.{nat_tests}
 use Rattle.std.proofs.lemmas.List.Elements.{All-filter, filter_passes, recursion_from_All}
 use Rattle.std.proofs.lemmas.List.Kept.{AllPairs-filter}
@@ -52,8 +52,7 @@ not_ended S j (Some x) l e = unequal_test x.0 j (λ q. absurd (let low : x.0 ≤
 
 no_turn : (kind : Kind) (until : ℕ) → turns kind ≡ false → begin_event kind until ≡ idle
 no_turn (changes w) until e = absurd (true≢false e)
-no_turn (sees w) until e = refl
-no_turn nothing until e = refl
+no_turn kind until e = refl
 
 abbrev Over : ℕ → ℕ → CallRecord → Type 0
 Over k S x = (key_of x.call).0 ≡ k → may_turn x ≡ true → x.begun ≤ S → has_ended S x.ended ≡ true
@@ -87,10 +86,8 @@ event_kept last k S j (x ∷ xs) l pairs over =
         (unequal_test (get_or xs i d).begun x.begun a.0, ends_not x.begun (get_or xs i d).ended a.1))))
 
     still : ((key_of x.call).0 == k) ≡ true → (x.begun == j) ≡ true → has_ended S x.ended ≡ false → turns (kind_if x.call x.ended) ≡ false
-    still t b o = elim (cases_Bool (turns (kind_if x.call x.ended))) [
-      | inl y ↦ absurd (both_ways _ o (over.0 (same_number (key_of x.call).0 k t) y (let at = same_number x.begun j b in omega (arith, at, l))))
-      | inr n ↦ n
-    ]
+    still t b o = false_from_ne_true (turns (kind_if x.call x.ended)) (λ y.
+        both_ways _ o (over.0 (same_number (key_of x.call).0 k t) y (let at = same_number x.begun j b in omega (arith, at, l))))
 
 event_other : (last k S j m : ℕ) (xs : List CallRecord) → j ≢ k → event_at last j (filter (kept k S) xs) m ≡ idle
 event_other last k S j m xs e = event_none last j m (filter (kept k S) xs) (recursion_from_All (IsSilent j m) (filter (kept k S) xs) (λ i d low t.

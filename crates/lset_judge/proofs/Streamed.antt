@@ -122,14 +122,11 @@ ends_moved xs ys is apart i j d low inside = other_number (get_or ys i d).end (g
     ]
 
 pub first_or_later : {X : Type 0} (x : X) (xs : List X) (y : X) → Contains (x ∷ xs) y → (y ≡ x) ⊎ Contains xs y
-first_or_later x xs y c = at c.0 c.1 c.2
-  where
-    at : (k : ℕ) → k < length (x ∷ xs) → get_or (x ∷ xs) k y ≡ y → (y ≡ x) ⊎ Contains xs y
-    at zero low is = inl (sym is)
-    at (suc k) low is = inr (k, omega (arith, low), is)
+first_or_later x xs y (zero, low, is) = inl (sym is)
+first_or_later x xs y (suc k, low, is) = inr (k, omega (arith, low), is)
 
 pub later_too : {X : Type 0} (x : X) (xs : List X) (y : X) → Contains xs y → Contains (x ∷ xs) y
-later_too x xs y c = let low = c.1 in (suc c.0, omega (arith, low), c.2)
+later_too x xs y (k, low, is) = (suc k, omega (arith, low), is)
 
 -- ---- THE PENDING CALLS
 

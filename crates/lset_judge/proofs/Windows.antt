@@ -154,10 +154,8 @@ module _ (threads upto : ℕ) (opening : List ℕ) (calls : List CallRecord) (ke
               let ends = if_some (λ (z : ℕ × Reply). (call_numbered calls n).begun < z.0) (call_numbered calls n).ended o.0 o.1
               (histories.calls_of threads calls history n no_call low).ends_later in
               let end = o.2 in omega (arith, ends, end, after, begins))
-          | inr h ↦ elim h [
-            | inl c ↦ (let q = has_part (call_numbered calls n) begins c in is_part (call_numbered calls n) turn q (cases_Bool q.0.is_shown))
-            | inr c ↦ absurd (let short = c.1 in omega (arith, short))
-          ]
+          | inr (inl c) ↦ (let q = has_part (call_numbered calls n) begins c in is_part (call_numbered calls n) turn q (cases_Bool q.0.is_shown))
+          | inr (inr c) ↦ absurd (let short = c.1 in omega (arith, short))
         ])
 
 -- the change that made the key so, of the recording

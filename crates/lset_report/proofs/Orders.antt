@@ -47,15 +47,13 @@ module _ {X : Type 0} (rank : X → ℕ) where
   next_rank n (x ∷ xs) rise = elim (order (rank x) n) [
     | inl l ↦ rw (lt-ltb (rank x) (n + 1) (omega arith), lt-ltb (rank x) n l, unequal_test (rank x) n (λ e. omega arith))
         (ap (λ z. x ∷ z) (next_rank n xs rest))
-    | inr o ↦ elim o [
-      | inl e ↦ (let none : below n xs ≡ [] = none_below n xs x (λ i l.
-          let a : rank x ≤ rank (get_or xs i x) = rise 0 (suc i) x (omega arith) (omega arith) in omega arith) in
-          rw (lt-ltb (rank x) (n + 1) (omega arith), le-ltb (rank x) n (omega arith), equal_test (rank x) n e)
-          (ap (λ z. x ∷ z) (next_rank n xs rest ∙ ap (λ z. z ++ of_rank n xs) none)
-          ∙ sym (ap (λ z. z ++ x ∷ of_rank n xs) none)))
-      | inr g ↦ rw (le-ltb (rank x) (n + 1) (omega arith), le-ltb (rank x) n (omega arith), unequal_test (rank x) n (λ e. omega arith))
-          (next_rank n xs rest)
-    ]
+    | inr (inl e) ↦ (let none : below n xs ≡ [] = none_below n xs x (λ i l.
+        let a : rank x ≤ rank (get_or xs i x) = rise 0 (suc i) x (omega arith) (omega arith) in omega arith) in
+        rw (lt-ltb (rank x) (n + 1) (omega arith), le-ltb (rank x) n (omega arith), equal_test (rank x) n e)
+        (ap (λ z. x ∷ z) (next_rank n xs rest ∙ ap (λ z. z ++ of_rank n xs) none)
+        ∙ sym (ap (λ z. z ++ x ∷ of_rank n xs) none)))
+    | inr (inr g) ↦ rw (le-ltb (rank x) (n + 1) (omega arith), le-ltb (rank x) n (omega arith), unequal_test (rank x) n (λ e. omega arith))
+        (next_rank n xs rest)
   ]
     where
       rest : IsNonDecreasingBy rank xs

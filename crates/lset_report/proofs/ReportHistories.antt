@@ -1,5 +1,5 @@
 -- The test of a call line is the law of histories, and what the reader keeps decides it.
-use Rattle.std.proofs.Common.{◌≡◌, ◌≢◌, ℕ, ◌<◌, ◌&&◌, ◌||◌, not, ltb, eqb, Bool, true, false, List, [], ◌∷◌, ◌++◌, length, get_or}
+use Rattle.std.proofs.Common.{inl, inr, ◌≡◌, ◌≢◌, ℕ, ◌<◌, ◌&&◌, ◌||◌, not, ltb, eqb, Bool, true, false, List, [], ◌∷◌, ◌++◌, length, get_or}
 use Rattle.std.proofs.Common.{Option, Some, None, refl, sym, ap, ◌∙◌, subst, arith, ⊎_elim, append_assoc, zero, suc, replicate}
 use Rattle.std.proofs.Math.ListN.{set}
 use Rattle.std.proofs.Math.Bool.{or-false, and-true, or_comm, or_assoc}
@@ -184,13 +184,12 @@ over_later busy end a m h lt =
 idle_ended : (before : Bool) (b m : ℕ) (o : Option (ℕ × Reply)) (calls : List CallRecord) → ends_later calls b o ≡ true
     → (b < m → before ≡ true) → (before && ended_before m o) ≡ is_over (is_open o) (end_moment o) m
 idle_ended before b m None calls ends h = and_right before false refl
-idle_ended before b m (Some e) calls ends h = ⊎_elim
-    (λ (yes : ltb e.0 m ≡ true).
-    let later : b < e.0 = ((ends_well calls b (Some e)).0 ends).0 in
-    let below : e.0 < m = ltb-true _ _ yes in
-    and_from _ _ (h (omega arith)) yes ∙ sym yes)
-    (λ (no_ : ltb e.0 m ≡ false). and_right before _ no_ ∙ sym no_)
-    (cases_Bool (ltb e.0 m))
+idle_ended before b m (Some e) calls ends h = elim (cases_Bool (ltb e.0 m)) [
+  | inl early ↦
+      let later : b < e.0 = ((ends_well calls b (Some e)).0 ends).0 in
+      and_from _ _ (h (omega (arith, ltb-true _ _ early))) early ∙ sym early
+  | inr late ↦ and_right before _ late ∙ sym late
+]
 
 idle_own : (calls : List CallRecord) (x : CallRecord) (m : ℕ) (busy : Bool) (end : ℕ) → ends_later calls x.begun x.ended ≡ true
     → is_over busy end x.begun ≡ true → is_idle calls x.thread m ≡ is_over busy end m

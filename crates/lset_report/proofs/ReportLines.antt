@@ -78,9 +78,7 @@ called : (v : Version) (w : CallWord) (n t k b : ℕ) (o : Option (ℕ × Reply)
     → (codes "call" ∷ decimal n ∷ decimal t ∷ call_word_text w ∷ decimal k ∷ decimal b ∷ end_pieces o
     ≡ pieces_of (call_with w n t k b o)) × IsLine v (call_with w n t k b o)
 called v Add n t k b o nl tl kl bs bl some ends has = (refl, (nl, tl, bs, some, (bl, kl, ends, has)))
-called v Remove n t k b o nl tl kl bs bl some ends has = (refl, (nl, tl, bs, some, (bl, kl, ends, has)))
-called v Contains n t k b o nl tl kl bs bl some ends has = (refl, (nl, tl, bs, some, (bl, kl, ends, has)))
-called v Ceiling n t k b o nl tl kl bs bl some ends has = (refl, (nl, tl, bs, some, (bl, kl, ends, has)))
+called v w n t k b o nl tl kl bs bl some ends has = (refl, (nl, tl, bs, some, (bl, kl, ends, has)))
 
 -- whatever pieces tell its end
 call_known : (v : Version) (r : ReportValue) (f : Form) (end : Told f → Option (ℕ × Reply)) → Reaches section.Calls r → ArePieces f

@@ -46,6 +46,7 @@ IsGood r (Place p) = length r.order < MOST_PLACES
 IsGood r (Key k) = length r.keys < most_keys r.version
 IsGood r End = Unit {0}
 
+-- a line judged good is itself, and is good: by its kind, from the one test or two that it passed
 pub judged_ok : (r : ReportValue) (l k : Line) → judged r l ≡ Ok k → (l ≡ k) × IsGood r l
 judged_ok r (Opening n) k e =
     let keys = r.history.opening.keys in
@@ -83,11 +84,8 @@ line_read s r x l e =
 -- the line `end` tells the end
 end_is : (v : Version) (s : Section) (l : Line) → line_in v wrong.Line (kinds v s) last_line ≡ Ok l → End ≡ l
 end_is One section.Opening l e = ok_is End l e
-end_is Two section.Opening l e = ok_is End l e
-end_is v section.Calls l e = ok_is End l e
-end_is v section.Order l e = ok_is End l e
-end_is v section.Keys l e = ok_is End l e
 end_is v section.Done l e = absurd cc
+end_is v s l e = ok_is End l e
 
 -- what a loop over the lines of a text gives in the end
 abbrev pub AllOf : List ℕ → SoFar → Result SoFar LineFault

@@ -11,29 +11,21 @@ use Rattle.lset_report.specs.ReportReading.{open_kind, ended_kind, from_keys, ki
 pub one_piece : (v : Version) (s : Section) (a : List ℕ) → (s ≡ section.Done → ⊥)
     → first_of Two wrong.Line from_keys (a ∷ []) ≡ first_of v wrong.Line (kinds v s) (a ∷ [])
 one_piece One section.Opening a more = refl
-one_piece Two section.Opening a more = refl
-one_piece v section.Calls a more = refl
-one_piece v section.Order a more = refl
-one_piece v section.Keys a more = refl
 one_piece v section.Done a more = absurd (more refl)
+one_piece v s a more = refl
 
 pub two_pieces : (v : Version) (s : Section) (a b : List ℕ) → (s ≡ section.Done → ⊥) → (v ≡ Two → s ≡ section.Opening → ⊥)
     → first_of Two wrong.Line from_keys (a ∷ b ∷ []) ≡ first_of v wrong.Line (kinds v s) (a ∷ b ∷ [])
-two_pieces One section.Opening a b more closed = refl
 two_pieces Two section.Opening a b more closed = absurd (closed refl refl)
-two_pieces v section.Calls a b more closed = refl
-two_pieces v section.Order a b more closed = refl
-two_pieces v section.Keys a b more closed = refl
 two_pieces v section.Done a b more closed = absurd (more refl)
+two_pieces v s a b more closed = refl
 
 pub no_call : (v : Version) (s : Section) (a b c : List ℕ) (parts : List (List ℕ)) → 0 < length parts → (s ≡ section.Opening → ⊥)
     → (s ≡ section.Calls → ⊥) → Err wrong.Line ≡ first_of v wrong.Line (kinds v s) (a ∷ b ∷ c ∷ parts)
 no_call v s a b c [] some opening calls = absurd (omega arith)
 no_call v section.Opening a b c (d ∷ more) some opening calls = absurd (opening refl)
 no_call v section.Calls a b c (d ∷ more) some opening calls = absurd (calls refl)
-no_call v section.Order a b c (d ∷ more) some opening calls = refl
-no_call v section.Keys a b c (d ∷ more) some opening calls = refl
-no_call v section.Done a b c (d ∷ more) some opening calls = refl
+no_call v s a b c parts some opening calls = refl
 
 pub is_call : (v : Version) (s : Section) (a b c : List ℕ) (parts : List (List ℕ)) → 0 < length parts
     → (s ≡ section.Opening) ⊎ (s ≡ section.Calls)

@@ -12,6 +12,7 @@ use Rattle.lset_words.specs.declared.history.Placed.{Placed}
 use Rattle.lset_words.specs.History.{MayFollow, ContinuesHistory, IsHistory}
 use Rattle.lset_words.specs.Words.{Opens}
 use Rattle.lset_words.proofs.Bounds.{opens_empty}
+use Rattle.lset_history.proofs.Lists.{all_imply}
 use Rattle.lset_text.specs.declared.headers.Header.{Header}
 use Rattle.lset_text.specs.declared.words.Version.{Version}
 use Rattle.lset_text.specs.declared.words.Version.TheVariants.{One, Two}
@@ -140,20 +141,15 @@ report_more r (told.Key k) is line good =
 report_more r told.End is line good = is
 
 reaches_more : (r : ReportValue) (l : Line) → Reaches (section_after l) r → Reaches (section_after l) (with_line r l)
-reaches_more r (told.Opening k) next = next
-reaches_more r (told.Call n x) next = next
-reaches_more r (told.Place p) next = next
 reaches_more r (told.Key k) next = tt
 reaches_more r told.End next = tt
+reaches_more r l next = next
 
 -- ---- one line
 
 may_come : (v : Version) (s : Section) (x : List ℕ) (l : Line) → line_in v wrong.Line (kinds v s) x ≡ Ok l → is_done s ≡ false
-may_come v section.Opening x l is = refl
-may_come v section.Calls x l is = refl
-may_come v section.Order x l is = refl
-may_come v section.Keys x l is = refl
 may_come v section.Done x l is = absurd cc
+may_come v s x l is = refl
 
 abbrev IsSoFar : SoFar → Type 0
 IsSoFar s = IsReport s.report × Reaches s.section s.report
@@ -212,8 +208,7 @@ none_reached : (s : Section) (v : Version) (h : Header) → Reaches s (no_lines 
 none_reached section.Opening v h = (refl, refl, refl)
 none_reached section.Calls v h = (refl, refl)
 none_reached section.Order v h = refl
-none_reached section.Keys v h = tt
-none_reached section.Done v h = tt
+none_reached s v h = tt
 
 -- a good line of a kind that may come
 step_again : (s : SoFar) (l : Line) → IsTold s.report.version (kinds s.report.version s.section) l → IsGood s.report l
@@ -355,10 +350,6 @@ only_in bytes (Err e) (inr out) q is text = out.cause
 
 -- ---- as what a writer asks
 
-all_words : {X : Type 0} (P Q : X → Type 0) (xs : List X) → ((x : X) → P x → Q x) → AllByRecursion P xs → AllByRecursion Q xs
-all_words P Q [] each h = tt
-all_words P Q (x ∷ xs) each h = (each x h.0, all_words P Q xs each h.1)
-
 end_words : (v : Version) (o : Option (ℕ × Reply)) → IsEnd v o → HasEnd v o
 end_words v None h = tt
 end_words v (Some e) h = h.1
@@ -366,9 +357,8 @@ end_words v (Some e) h = h.1
 words_in : (v : Version) (calls : List CallRecord) (order : List Placed) → AllByRecursion (IsCall v) calls
     → AllByRecursion (IsPlace v) order → HasWordsIn v calls order
 words_in One calls order are places = (
-  all_words (IsCall One) (λ (x : CallRecord). HasCall One x.call × HasEnd One x.ended) calls
-      (λ x h. (h.3, end_words One x.ended h.2)) are,
-  all_words (IsPlace One) (λ (p : Placed). HasReply One p.reply) order (λ p h. h.1) places,
+  all_imply (IsCall One) (λ (x : CallRecord). HasCall One x.call × HasEnd One x.ended) (λ x h. (h.3, end_words One x.ended h.2)) calls are,
+  all_imply (IsPlace One) (λ (p : Placed). HasReply One p.reply) (λ p h. h.1) order places,
 )
 words_in Two calls order are places = tt
 

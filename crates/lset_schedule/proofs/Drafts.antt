@@ -1,28 +1,36 @@
 -- What the generator keeps from turn to turn.
-use Rattle.std.proofs.Common.{◌≡◌, ◌≢◌, ℕ, ◌+◌, ◌^◌, ◌<◌, ◌≤◌, ◌⊎◌, inl, inr, IsTrue, ◌↔◌, false, List, [], ◌∷◌, ◌++◌, length}
-use Rattle.std.proofs.Common.{length-append, refl, sym, ap, subst, ◌∙◌, arith}
-use Rattle.std.specs.List.{AllByRecursion, count_by, sum_by}
+use Rattle.std.proofs.Common.{◌≡◌, ℕ, zero, suc, List, [], ◌∷◌, map, slice_index_or, refl, ◌≢◌, ◌+◌, ◌^◌, ◌<◌, ◌≤◌, ◌⊎◌, inl, inr, IsTrue, ◌↔◌, false, ◌++◌, length}
+use Rattle.std.proofs.Common.{length-append, sym, ap, subst, ◌∙◌, arith}
+use Rattle.std.specs.List.{range_with_len, AllByRecursion, count_by, sum_by}
 use Rattle.std.proofs.lemmas.Grind.{flat_map-append}
 use Rattle.std.proofs.lemmas.List.Sums.{sum_by-append, sum_by-cons}
+use Rattle.lset_words.specs.Words.{empty, Sizes, IsWithin, sizes}
 use Rattle.lset_words.specs.declared.TheConstants.{MOST_THREADS}
-use Rattle.lset_schedule.specs.declared.TheConstants.{MOST_GENERATED}
 use Rattle.lset_words.specs.declared.Kind.{Kind}
-use Rattle.lset_words.specs.Words.{Sizes, IsWithin, empty, sizes}
 use Rattle.lset_words.proofs.Bounds.{opens_empty}
 use Rattle.lset_text.specs.declared.words.Version.TheVariants.{One}
+use Rattle.lset_steps.specs.Steps.{idle, local_of, opening, Table, State, Enabled, after}
+use Rattle.lset_schedule.specs.declared.TheConstants.{MOST_GENERATED}
 use Rattle.lset_steps.specs.declared.Event.{Event}
 use Rattle.lset_steps.specs.declared.Event.TheVariants as event
-use Rattle.lset_steps.specs.Steps.{Table, State, Enabled, after, opening, local_of}
 use Rattle.lset_steps.specs.Worlds.{WorldState}
 use Rattle.lset_schedule.specs.declared.value.Line.{Line}
 use Rattle.lset_schedule.specs.declared.value.Line.TheVariants as line
 use Rattle.lset_schedule.specs.Plan.{IsLine, IsSchedule, event_count}
-use Rattle.lset_schedule.specs.Generating.{events_of_line, events_of_lines, is_begin, IsGeneratedLine, StartsWithBegin}
-use Rattle.lset_schedule.specs.Generating.{IsGenerated}
+use Rattle.lset_schedule.specs.Generating.{events_of_line, events_of_lines, is_begin, IsGeneratedLine, StartsWithBegin, IsGenerated}
 use Rattle.lset_steps.proofs.MoreEvents.{RunsTo, runs_to_opening, runs_to_more}
-use Rattle.lset_schedule.proofs.RunLaws.{opening_rests}
 use Rattle.lset_schedule.specs.Drawing.{line_of_event, left_after, IsOver}
 use Rattle.lset_schedule.specs.GeneratorTurns.{IsIdle, IsNextEvent}
+
+-- ---- at the opening no call is open
+
+idle_rests : (q t : ℕ) (xs : List ℕ) → (slice_index_or (map (idle q) xs) t (idle 0 0)).pc ≡ 0
+idle_rests q t [] = refl
+idle_rests q zero (x ∷ xs) = refl
+idle_rests q (suc t) (x ∷ xs) = idle_rests q t xs
+
+pub opening_rests : (n q t : ℕ) → (local_of (opening (empty n q)) t).pc ≡ 0
+opening_rests n q t = idle_rests q t (range_with_len 0 n)
 
 abbrev pub Resting : State → ℕ → Type 0
 Resting s n = (t : ℕ) → t < n → (local_of s t).pc ≡ 0

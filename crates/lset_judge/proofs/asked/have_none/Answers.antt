@@ -1,11 +1,32 @@
-use Rattle.std.proofs.Common.{ℕ, List, sym, subst, ◌∙◌}
-use Rattle.std.specs.Prelude.{Option, Bool}
+use Rattle.std.proofs.Common.{ℕ, ◌<◌, List, sym, subst, ◌∙◌}
+use Rattle.std.specs.Prelude.{All, Option, Some, None, IfSome, Bool}
+use Rattle.lset_judge.specs.declared.stream.StreamCall.{StreamCall}
 use Rattle.lset_judge.specs.declared.stream.StreamVerdict.TheVariants.{NotLinearizable}
-use Rattle.lset_judge.specs.Rest.{key_if}
+use Rattle.lset_judge.specs.declared.stream.Refusal.{Refusal}
+use Rattle.lset_judge.specs.declared.stream.Stream.{Stream}
+use Rattle.lset_judge.specs.Rest.{key_if, alone}
+use Rattle.lset_judge.specs.Log.{IsStreamKept}
 use Rattle.lset_judge.specs.Stream.{stream_history, IsStreamVerdict, IsStreamVerdictCutOff}
+use Rattle.lset_judge.specs.Verdict.{IsUnexplained}
 use Rattle.lset_judge.specs.Window.{records, HaveNone}
-use Rattle.lset_judge.proofs.Fewer.{TookAll, none_cut_off, none_left}
 use Rattle.lset_judge.proofs.asked.have_none.Goals as goal
+
+-- ---- no order
+
+none_cut_off : (threads key : ℕ) (there : Bool) (calls : List StreamCall) (r : Refusal)
+    → IsStreamVerdictCutOff (stream_history threads (key_if there key) (records calls)) (NotLinearizable r)
+    → HaveNone threads key there None (records calls)
+none_cut_off threads key there calls r v quota keys is = (v keys).0 quota
+
+none_left : (threads key : ℕ) (there l : Bool) (calls : List StreamCall) (r : Refusal)
+    → IsStreamVerdict (stream_history threads (key_if there key) (records calls)) (key_if l key) (NotLinearizable r)
+    → HaveNone threads key there (Some l) (records calls)
+none_left threads key there l calls r v quota keys is =
+    subst (λ (ks : List ℕ). IsUnexplained (alone threads quota there key (records calls)) ks) (sym is) (v.0 quota)
+
+-- a stream that took all calls, if there is one
+abbrev TookAll : ℕ → Bool → List StreamCall → Option Stream → Type 0
+TookAll key there calls o = IfSome o (λ s. (threads : ℕ) → All (λ (x : StreamCall). x.thread < threads) calls → IsStreamKept threads (key_if there key) (records calls) s)
 
 pub returns-in-NotLinearizable : goal.returns-in-NotLinearizable
 returns-in-NotLinearizable c = λ t threads below.
