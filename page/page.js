@@ -2445,7 +2445,7 @@ const $made_classics = (() => {
 const CLASSICS = {
   "failed-tries": {
     "question": "Two threads add one key at the same time. Which of them adds it?",
-    "turnsOn": "The one that takes the lock. An attempt that fails is a step too, and leaves the thread at its row. Thread 1 stays at row 1 until the lock is released, and then finds the key.",
+    "turnsOn": "The one that takes the lock. A failed attempt is a step too, and leaves the thread at its row. Thread 1 stays at row 1 until the lock is released, and then finds the key.",
     "without": "Both walk over one old link, and the second write loses the node of the first (lock).",
     "turns": [4, 15],
     "lacks": ["lock"]
@@ -2481,7 +2481,7 @@ const CLASSICS = {
   "marked-in-chain": {
     "question": "Thread 1 has marked the node of 5 and has not unlinked it yet. Thread 0 walks to that node. What does its contains(5) answer?",
     "turnsOn": "false: the mark removes the key from the set. That the node is still in the chain does not matter. contains reads its link, sees the mark, and takes no lock for it.",
-    "without": "true is correct at none of its moments (mark-in-contains). But the remove is still pending, and an order with the contains before it explains both. Nobody knows a history of that broken list that no order explains.",
+    "without": "true is correct at none of its moments (mark-in-contains). But the remove is still pending, and an order with the contains before it explains both. No history of that broken list is known that no order explains.",
     "turns": [20, 24],
     "lacks": ["mark-in-contains"]
   },
@@ -2495,14 +2495,14 @@ const CLASSICS = {
   "read-in-anothers-step": {
     "question": "Just after each of thread 0's own events, 5 is in the set. Its contains(5) answers false. Is that right?",
     "turnsOn": "Yes: between two of its events thread 1 removed 5, and added it again in another node. The call takes effect at event 23, a step of thread 1.",
-    "without": "Whoever looks for its linearization point among its own steps finds none, and calls a correct list wrong. check refuses the order that puts the contains last.",
+    "without": "A proof that looks for the linearization point among the call's own steps finds none, though the list is correct. check refuses the order that puts the contains last.",
     "turns": [23, 36, 39],
     "lacks": []
   },
   "ceiling-in-anothers-step": {
     "question": "Just after each of thread 0's own events, the smallest key from 6 on is 7, or there is none. Its ceiling(6) answers 9. Is that right?",
     "turnsOn": "Yes: it was 9 from event 15 until event 38, and all events between are steps of thread 1. The walk was at the node of 5 when that was unlinked, and its link still leads to 9.",
-    "without": "A ceiling that started again at each mark would answer 7 here, which is no better; and removes of smaller keys could send it back.",
+    "without": "A ceiling that started again at each mark would answer 7 here, which is no better, and removes of smaller keys could send it back.",
     "turns": [15, 38, 43],
     "lacks": []
   },
@@ -2515,7 +2515,7 @@ const CLASSICS = {
   },
   "two-removers": {
     "question": "Two threads have found the node of 5, unmarked, and want to remove it. Which of them does?",
-    "turnsOn": "The one whose exchange sets the mark. The exchange of the other compares link and mark in one, and fails. That thread walks again and answers false.",
+    "turnsOn": "The one whose exchange sets the mark. The exchange of the other compares link and mark together, and fails. That thread walks again and answers false.",
     "without": "A remove that marks a marked node answers true too, and 5 is removed twice (mark-in-remove).",
     "turns": [18, 20],
     "lacks": ["mark-in-remove"]
@@ -2544,7 +2544,7 @@ const CLASSICS = {
   "ceiling-meets-mark": {
     "question": "Thread 0's ceiling(3) has come to the node of 5. Before it looks at the mark, thread 1 removes 5. What does it answer, and when is that correct?",
     "turnsOn": "The mark is looked at last (row 25). The call finds one, starts again at the head, and comes to the tail: nothing, which is correct from the mark on.",
-    "without": "Here 5 would be right too, since the remove began after the ceiling. But a mark may be older: see the next example.",
+    "without": "Here 5 would be right too, since the remove began after the ceiling. In the next example it would not.",
     "turns": [18, 20],
     "lacks": []
   },
@@ -2558,14 +2558,14 @@ const CLASSICS = {
   "behind-the-walk": {
     "question": "Thread 0 has read the link of the head, which leads to 9. Thread 1 adds 5 in between. May the ceiling(3) of thread 0 answer 9?",
     "turnsOn": "Yes: at the moment of that read there was no key between. The call takes effect at its begin, so before the add, although the add ended first.",
-    "without": "No check is left out here. Each node of the walk was in the chain, with the link that was read, at some moment of the call. Along other links the walk could miss a key that was always there.",
+    "without": "No broken list lacks this. Each node of the walk was in the chain, with the link that was read, at some moment of the call. Along other links the walk could miss a key that was always there.",
     "turns": [9, 16],
     "lacks": []
   },
   "nothing-in-anothers-step": {
     "question": "Just after each of thread 0's own events, 7 is in the set. Its ceiling(6) answers that there is no key. Is that right?",
     "turnsOn": "Yes: between two of its events thread 1 removed 7 and then 5, and added 7 again. The link of the node of 5 led to the tail when the node was marked, and no exchange changes a marked link.",
-    "without": "No check is left out here either: the link beside the mark was in the chain during the call.",
+    "without": "No broken list lacks this either: the link beside the mark was in the chain during the call.",
     "turns": [11, 28],
     "lacks": []
   }
