@@ -59,10 +59,10 @@ function chooser(figure, thread, own) {
 }
 
 // The calls as bars, and what is in the set at each time.
-export function showStrip(figure) {
+export function showStrip(figure, given) {
   const { run } = figure;
   const box = figure.part("strip");
-  const wide = Math.max(280, box.clientWidth);
+  const wide = Math.max(280, given);
   const room = 26 + 9 * `{${run.promised().join(", ")}}`.length; // right of the last event, for what is in the set then
   const scale = scaleOf(run.trace, run.count, wide - room, figure.hides);
   Object.assign(scale, { edge: scale.edge + room, width: wide });

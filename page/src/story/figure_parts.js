@@ -30,17 +30,20 @@ export function frameOf({ box, spec }) {
   box.classList.toggle("undoes", spec.again !== false);
 }
 
+// What is asked of the layout is asked before anything is drawn: each question after that has the whole page laid out once more.
 export function drawFigure(figure, moment, isNear) {
   const { run, spec, box } = figure;
+  figure.wide = figure.part("list").clientWidth;
+  const [wide, scrolled] = [figure.part("strip").clientWidth, figure.part("lines")?.scrollTop];
   placeTheList(figure, moment, isNear);
   const tale = figure.told ?? taleHere(figure, moment);
   const words = tale === "" ? (spec.tale ?? "") : tale;
   if (figure.part("tale").innerHTML !== words) figure.part("tale").innerHTML = words;
   box.classList.toggle("at-end", run.count === run.trace.total);
   box.classList.toggle("shut", !figure.canStep);
-  showCode(figure, moment);
+  showCode(figure, moment, scrolled);
   showDock(figure);
-  if (spec.strip) showStrip(figure);
+  if (spec.strip) showStrip(figure, wide);
   if (spec.scrub) showScrub(figure);
 }
 
@@ -60,9 +63,7 @@ function taleHere({ run, spec }, moment) {
 
 function placeTheList(figure, { state, event }, isNear) {
   const box = figure.part("list");
-  const { id, most, spec } = figure;
-  const room = box.clientWidth;
-  figure.wide = room;
+  const { id, most, spec, wide: room } = figure;
   if (room === 0) return;
   const shape = shapeFor(room);
   const list = arranged(state, event, shape);
@@ -93,12 +94,12 @@ function fitList({ spec, most: { width } }, svg, room, own) {
 
 // Keeps the node of the event in sight where the list is wider than its stage.
 function scrollToTouched(box, room) {
-  const touched = box.querySelector("[data-hot]");
   const drawn = box.firstElementChild;
   const wide = Number(drawn.getAttribute("width"));
-  if (touched === null || wide <= room) return;
-  const { x, width } = drawn.viewBox.baseVal;
-  const at = (touched.x.baseVal.value - x) * (wide / width);
+  const touched = wide <= room ? null : box.querySelector("[data-hot]");
+  if (touched === null) return;
+  const [x, , width] = drawn.getAttribute("viewBox").split(" ").map(Number);
+  const at = (Number(touched.getAttribute("x")) - x) * (wide / width);
   if (at < box.scrollLeft + 60 || at > box.scrollLeft + room - 120) box.scrollLeft = at - room / 2;
 }
 
@@ -129,7 +130,7 @@ function operationsOf({ spec, run, isGuess }) {
   return [...new Set([...(spec.operations ?? []), ...planned, ...begun])].filter((name) => !hidden.includes(name));
 }
 
-function showCode(figure, { state, event, before }) {
+function showCode(figure, { state, event, before }, scrolled) {
   const box = figure.part("lines");
   if (box === null) return;
   const { spec, run, canStep } = figure;
@@ -140,9 +141,8 @@ function showCode(figure, { state, event, before }) {
   const made = event === null || event.deed === "begin" ? null : { row: before.pc, thread: event.thread };
   const next = state.threads.map((own, thread) => ({ thread, row: own.pc })).filter(({ row }) => row !== 0);
   const hides = (figure.isGuess ? spec.hidden?.hides : undefined) ?? spec.hides; // some is not told before the guess
-  const scroll = box.scrollTop;
   box.innerHTML = drawOwnCode({ list, plain, fresh, struck, hides, instead, operations: operationsOf(figure), next, made, canStep, active });
-  box.scrollTop = scroll;
+  box.scrollTop = scrolled;
   const toggles = figure.shown.filter(isAble).map((thread) => toggleOf(thread, active));
   figure.part("runs").innerHTML = canStep && toggles.length > 1 ? toggles.join("") : "";
   scrollToLit(box, event?.thread ?? active);

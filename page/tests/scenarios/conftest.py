@@ -70,6 +70,20 @@ class Visitor(webdriver.Browser):
             time.sleep(0.05)
         return found
 
+    def idle(self):
+        """Waits until what is played has come to its end."""
+        self.wait("return document.body.dataset.busy !== 'yes'")
+
+    def revealed(self):
+        """Waits until the answer is told, and the play is at its end."""
+        self.wait("return document.querySelector('.reveal') !== null && document.body.dataset.busy !== 'yes'")
+
+    def step(self, keys):
+        """Presses the letters of threads, each once the step before is shown."""
+        for key in keys:
+            self.press(key)
+            self.idle()
+
     def settle(self):
         """Waits as long as the address and what is kept follow behind."""
         time.sleep(0.6)

@@ -1,16 +1,10 @@
 """Guess, then see: each question is answered, shown, changed and left."""
 
-DONE = "return document.querySelector('.reveal') !== null && document.body.dataset.busy !== 'yes'"
-
-
-def idle(visitor):
-    visitor.wait("return document.body.dataset.busy !== 'yes'")
-
 
 def hurried(visitor):
     """The run is shown to its end at once by a key."""
     visitor.press("Right")
-    visitor.wait(DONE)
+    visitor.revealed()
 
 
 def test_each_question_is_shown_changed_and_left(visitor):
@@ -34,10 +28,10 @@ def test_each_question_is_shown_changed_and_left(visitor):
 def test_a_branch_stands_beside_the_example(visitor):
     visitor.open("#ask=stale-pred")
     visitor.press("2")
-    visitor.wait(DONE)
+    visitor.revealed()
     question = visitor.text("h1")
     visitor.press("a")
-    idle(visitor)
+    visitor.idle()
     assert "What if 1" in visitor.text("#branches") and visitor.text("h1") == f"What if?{question}"
     visitor.click("#branches button", "The example")
     assert visitor.text("h1") == question and visitor.text(".scrub .count").split()[0] == visitor.text(".scrub .count").split()[2]
@@ -49,7 +43,7 @@ def test_the_map_ticks_what_was_guessed(visitor):
     for name, option in (("two-removers", 1), ("stale-pred", 0)):
         visitor.open(f"#ask={name}")
         visitor.press(str(option + 1))
-        visitor.wait(DONE)
+        visitor.revealed()
     visitor.open("#ask")
     assert "1 of 11 guessed right at the first try, 2 seen" in visitor.text(".score")
     assert visitor.text(".card[href='#ask=two-removers'] .sign") == "✓" and visitor.text(".card[href='#ask=stale-pred'] .sign") == "seen"

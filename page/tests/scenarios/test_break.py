@@ -3,22 +3,15 @@
 import pathlib
 
 SCHEDULES = pathlib.Path(__file__).resolve().parents[3] / "examples/schedules/lacks"
-DONE = "return document.querySelector('.reveal') !== null && document.body.dataset.busy !== 'yes'"
-
-
-def idle(visitor):
-    visitor.wait("return document.body.dataset.busy !== 'yes'", seconds=40)
 
 
 def won(visitor):
     """Level 1 by its hints: both walk, B does its whole add, A ends."""
     visitor.open("#break=1")
     for key in "aaabbbbbbaa":
-        if visitor.script(DONE):
-            return
-        visitor.press(key)
-        idle(visitor)
-    visitor.wait(DONE)
+        if not visitor.is_seen(".reveal"):
+            visitor.step(key)
+    visitor.revealed()
 
 
 def test_a_won_level_keeps_its_answer_to_itself(visitor):
@@ -46,11 +39,11 @@ def test_a_wrong_answer_has_its_reply_and_the_right_one_strikes_the_line(visitor
     assert "No: it releases the lock only after that." in visitor.text("#talk")
     assert not visitor.is_seen(".steps del")
     visitor.click("[data-option]", "continues")
-    idle(visitor)
+    visitor.idle()
     assert visitor.text(".steps del").endswith("lock the list") and visitor.is_seen("[data-do=replay]")
     visitor.click("[data-do=replay]")
     visitor.press("a")
-    idle(visitor)
+    visitor.idle()
     assert visitor.is_seen(".list .lost")
     visitor.open("#break")
     assert "1 of 10 broken" in visitor.text(".score") and visitor.text(".card[href='#break=1'] .sign") == "✓"
@@ -59,7 +52,7 @@ def test_a_wrong_answer_has_its_reply_and_the_right_one_strikes_the_line(visitor
 def test_a_won_level_can_be_explored_on(visitor):
     won(visitor)
     visitor.press("a")
-    idle(visitor)
+    visitor.idle()
     assert "answers true" in visitor.text(".tale")
     visitor.settle()
     assert visitor.hash.startswith("#break=1&list=coarse")
@@ -88,14 +81,14 @@ def test_each_level_is_broken_by_the_schedule_of_the_examples(visitor):
         text = (SCHEDULES / f"{name}.schedule").read_text()
         address = visitor.inside("return listsets.addressOf(given[0], 99, given[1])", text, name)
         visitor.open(address)
-        visitor.wait(DONE)
+        visitor.revealed()
         visitor.settle()
         assert "shown to you" in visitor.text(".reveal"), name
         assert visitor.hash.startswith(f"#break={number}&"), name
         right = visitor.inside("return listsets.BREAK_LEVELS[given[0]].lacks", name)
         visitor.click("[data-option]", right)
         visitor.press("a")  # a second press shows the end of the replay at once
-        idle(visitor)
+        visitor.idle()
         assert visitor.is_seen(".steps del"), name
 
 

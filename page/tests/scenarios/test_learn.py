@@ -17,16 +17,6 @@ goal
 """
 
 
-def idle(visitor):
-    visitor.wait("return document.body.dataset.busy !== 'yes'")
-
-
-def press(visitor, keys):
-    for key in keys:
-        visitor.press(key)
-        idle(visitor)
-
-
 def begin(visitor, thread, call, key):
     visitor.choose(f"[data-call='{thread}']", call)
     visitor.script("document.querySelector(`[data-call='${arguments[0]}']`).dispatchEvent(new Event('input', { bubbles: true }))", thread)
@@ -42,13 +32,13 @@ def courses(visitor):
 def solved(visitor):
     """The course's lesson, as a student does it: A walks to the node of 5, B removes it, A looks at the mark."""
     begin(visitor, 0, "contains", 5)
-    press(visitor, "a")
+    visitor.step("a")
     begin(visitor, 1, "remove", 5)
     for _ in range(8):
         if visitor.script("return document.querySelector('[data-thread=\"1\"] .step') === null"):
             break
-        press(visitor, "b")
-    press(visitor, "a")
+        visitor.step("b")
+    visitor.step("a")
     visitor.wait("return document.querySelector('.reveal') !== null")
 
 
@@ -66,7 +56,7 @@ def test_a_lesson_is_solved_and_explored_on(visitor, another):
     student.settle()
     assert student.hash.startswith("#course=") and "learn=first&list=lazy" in student.hash
     forwarded = student.hash
-    press(student, "a")
+    student.step("a")
     assert "Solved" in student.text(".reveal") or student.is_seen(".conditions")
     visitor.open(forwarded)
     assert visitor.text("h1") == "A key that is gone" and visitor.text(".reveal .why").startswith("Solved.")
@@ -80,7 +70,7 @@ def test_a_lesson_is_solved_and_explored_on(visitor, another):
 
 def test_the_last_try_is_there_again(visitor):
     visitor.open("#learn=one-lock")
-    press(visitor, "ab")
+    visitor.step("ab")
     visitor.settle()
     tale, where = visitor.text(".tale"), visitor.hash
     visitor.open("#learn=hand-over-hand")

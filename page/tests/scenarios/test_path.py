@@ -2,22 +2,10 @@
 
 import pytest
 
-DONE = "return document.querySelector('.reveal') !== null && document.body.dataset.busy !== 'yes'"
-
-
-def idle(visitor):
-    visitor.wait("return document.body.dataset.busy !== 'yes'")
-
-
-def press(visitor, keys):
-    for key in keys:
-        visitor.press(key)
-        idle(visitor)
-
 
 def guess(visitor, key):
     visitor.press(key)
-    visitor.wait(DONE)
+    visitor.revealed()
 
 
 def test_a_first_visit_opens_the_path(visitor):
@@ -35,23 +23,23 @@ def test_who_presses_show_me_gets_through(visitor, number):
         if stage == "done":
             break
         visitor.click("#show-me")
-        idle(visitor)
-    visitor.wait(DONE)
+        visitor.idle()
+    visitor.revealed()
     assert len(visitor.text(".why")) > 60 and visitor.text("#go-on").startswith(("Continue", "And now?"))
 
 
 @pytest.mark.parametrize(("keys", "lost"), [("abbbaa", 6), ("baaabb", 5), ("abaabb", 5), ("aabbba", 6)])
 def test_each_way_to_lose_a_number(visitor, keys, lost):
     visitor.open("#story=2")
-    press(visitor, keys)
-    visitor.wait(DONE)
+    visitor.step(keys)
+    visitor.revealed()
     assert visitor.text(".why b") == f"{lost} is lost." and visitor.text(".ledger .odd") == str(lost)
     assert visitor.is_seen(".list .lost") and visitor.in_window(".ledger")
 
 
 def test_a_number_that_is_not_lost_and_one_press_back(visitor):
     visitor.open("#story=2")
-    press(visitor, "aaabbb")
+    visitor.step("aaabbb")
     assert "nothing is lost" in visitor.text("#talk") and visitor.text("#show-me") == "Start over"
     visitor.click("[data-undo]")
     assert "nothing is lost" not in visitor.text("#talk")
@@ -62,7 +50,7 @@ def test_a_wrong_guess_has_its_reply_and_steps_are_no_entries(visitor):
     before = visitor.script("return history.length")
     guess(visitor, "2")
     assert "You said: as far as A." in visitor.text(".reveal") and "Not one step." in visitor.text(".reveal")
-    press(visitor, "aaa")
+    visitor.step("aaa")
     visitor.settle()
     assert visitor.script("return history.length") == before
 
@@ -111,20 +99,20 @@ def test_the_moment_is_found_and_not_told(visitor):
         assert "5 was in the set" in visitor.text("#talk")
     visitor.script("document.querySelectorAll('.content')[1].focus()")
     visitor.press("Enter")
-    visitor.wait(DONE)
+    visitor.revealed()
     assert "linearizable" in visitor.text(".reveal")
 
 
 def test_step_by_the_code(visitor):
     visitor.open("#code=lazy")
-    press(visitor, "ab")
+    visitor.step("ab")
     for _ in range(2):
         visitor.click(".steps button.row", "lock pred")
-        idle(visitor)
+        visitor.idle()
     assert "takes the lock of 3" in visitor.text(".tale")
     visitor.click("[data-active='0']")
     visitor.click(".steps button.row", "validate")
-    idle(visitor)
+    visitor.idle()
     assert "It waits." in visitor.text(".tale")
     visitor.settle()
     where = visitor.hash
@@ -150,7 +138,7 @@ def test_live_regions_of_a_step_say_a_sentence_once(visitor):
         new MutationObserver((all) => all.forEach(({ target }) => { const it = target.nodeType === 1 ? target : target.parentElement;
             if (isLive(it)) window.said.push(it.closest("[aria-live], [role=status]").className); }))
             .observe(document.body, { subtree: true, childList: true, characterData: true })""")
-    press(visitor, "a")
+    visitor.step("a")
     assert visitor.script("return window.said") == ["tale"]
 
 
@@ -162,7 +150,7 @@ def test_a_phone_by_thumb(visitor, number):
     assert wide[0] <= wide[1]
     if number < 3:
         visitor.touch("[data-step='0']")
-        idle(visitor)
+        visitor.idle()
         assert visitor.text(".tale") != ""
 
 
@@ -171,7 +159,7 @@ def test_a_slide_by_a_presenters_keys(visitor):
     assert not visitor.is_seen("#top") and not visitor.is_seen(".dots")
     for _ in range(8):
         visitor.press("PageDown")
-        idle(visitor)
+        visitor.idle()
     visitor.wait("return location.hash.startsWith('#story=3&view=lecture')")
     visitor.press("Escape")
     assert visitor.is_seen("#top")

@@ -7,7 +7,7 @@ def test_one_goes_on_from_here_by_the_code(visitor):
     visitor.wait("return location.hash.startsWith('#code=lazy&quota=4&opening=&s=')")
     assert "marks 5" in visitor.text(".tale")
     visitor.press("b")
-    visitor.wait("return document.body.dataset.busy !== 'yes'")
+    visitor.idle()
     assert "5 is out of the chain" in visitor.text(".tale")
     visitor.back()
     visitor.wait("return document.getElementById('where')?.innerText.startsWith('event 20')")

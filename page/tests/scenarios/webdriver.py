@@ -63,7 +63,7 @@ class OverHttp:
         request = urllib.request.Request(f"{self.place}{self.own}{'/' * bool(path)}{path}", body, {"content-type": "application/json"})
         request.get_method = lambda: method
         try:
-            with urllib.request.urlopen(request, timeout=60) as answer:
+            with urllib.request.urlopen(request, timeout=180) as answer:
                 return json.load(answer)["value"]
         except urllib.error.HTTPError as fault:
             raise Failed(json.load(fault)["value"]["message"]) from None
@@ -80,7 +80,7 @@ class OverMarionette:
         own.append('user_pref("ui.prefersReducedMotion", 1);')
         pathlib.Path(folder, "user.js").write_text("\n".join(own))
         self.process = started([path, "--headless", "--no-remote", "--marionette", "--profile", folder], folder)
-        self.socket = until(lambda: socket.create_connection(("127.0.0.1", port), 60), OSError)
+        self.socket = until(lambda: socket.create_connection(("127.0.0.1", port), 180), OSError)
         self.answers = self.socket.makefile("rb")
         self.number = 0
         self.read()
@@ -105,7 +105,7 @@ class OverMarionette:
         return self.ask(COMMANDS[name][2], given)
 
 
-def until(deed, fault, seconds=40):
+def until(deed, fault, seconds=120):
     """What a deed gives once it does not fail this way."""
     end = time.monotonic() + seconds
     while True:
