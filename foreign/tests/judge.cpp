@@ -45,8 +45,8 @@ static void expect_judged() {
   expect(right.is_ok() && begins(right.text, "ok 2 calls\n"), "judged");
   listset::said refused = listset::judge_text(calls + "end\n");
   expect(refused.status == LISTSET_WRONG_TEXT && begins(refused.text, "not linearizable\n"), "judged without a key");
-  listset::said wrong = listset::judge_text(calls);
-  expect(wrong.status == LISTSET_WRONG_TEXT && wrong.text == "listset: line 4: NotEnded\n", "judged without an end");
+  listset::said wrong = listset::judge_text(calls + "ends\n");
+  expect(wrong.status == LISTSET_WRONG_TEXT && wrong.text == "listset: line 4: Line\n", "judged with a wrong line");
 }
 
 // Each value of a generated schedule has its place, and all its bits.

@@ -6,6 +6,7 @@
 import concurrent.futures
 import pathlib
 import sys
+import tempfile
 
 import listset
 
@@ -80,7 +81,12 @@ def main():
     assert wrong(listset.check, listset.example("snip", is_broken=True)) == (1, "WrongSet")
     assert wrong(listset.example, "none") == (2, "NAME")
     assert wrong(listset.gen, "lazy", 0, 4, 10, 5, 1) == (2, "THREADS")
-    assert wrong(listset.replay, b"\xff\0") == (1, "NotEnded")
+    assert wrong(listset.replay, b"\xff\0\n") == (1, "Header")
+    with tempfile.NamedTemporaryFile("w", suffix=".calls") as file:
+        file.write("listset-calls 1\ncall 0 add 5 1 2 true\nkey 5\nend\n")
+        file.flush()
+        said, status = listset.judge_file(file.name)
+        assert said.startswith("ok 1 calls\n") and status == 0
     listset.check(listset.replay(listset.gen("lock-free", 2, 4, 10, 5, 1)))
     assert len(listset.gen("lazy", 4, 2000, 10000, 50, 1)) > listset.FIRST_ROOM
 

@@ -6,7 +6,6 @@ import java.io.IOException;
 import java.io.ObjectInputStream;
 import java.io.ObjectOutputStream;
 import java.io.Serializable;
-import java.io.Writer;
 import java.lang.invoke.MethodHandles;
 import java.lang.invoke.VarHandle;
 import java.net.URISyntaxException;
@@ -34,6 +33,7 @@ import java.util.function.Supplier;
 import java.util.regex.MatchResult;
 import java.util.regex.Matcher;
 import java.util.regex.Pattern;
+import java.util.stream.Collectors;
 import java.util.stream.LongStream;
 
 /**
@@ -176,9 +176,9 @@ public final class Judge {
             return new Shape(it.name, more, it.sets, it.calls, fewer, it.times);
         }
 
-        /** The most keys of a run, and of all its sets. */
-        private int mostKeys(boolean ofAllSets) {
-            return LongStream.rangeClosed(1, PRESETS.length).mapToObj(this::shapeOf).mapToInt(it -> it.keys * (ofAllSets ? it.sets : 1)).max().getAsInt();
+        /** The most keys of a run. */
+        private int mostKeys() {
+            return LongStream.rangeClosed(1, PRESETS.length).mapToObj(this::shapeOf).mapToInt(Shape::keys).max().getAsInt();
         }
     }
 
@@ -288,14 +288,14 @@ public final class Judge {
             how.check();
             this.how = how;
             this.calls = calls;
-            calls.check(how.mostKeys(false));
+            calls.check(how.mostKeys());
             program = Program.found();
         }
 
         Verdict all() {
             long count = 0, overlapped = 0, until = System.nanoTime() + PATIENCE * 1_000_000_000L;
             Caller child = how.ownProcess ? Child.of(calls, how) : null;
-            try (Caller own = child == null ? new Here<>(calls, new Area(how)) : child) {
+            try (Caller own = child == null ? new Here<>(calls, new Area(how, ByteBuffer.allocateDirect(Area.SIZE))) : child) {
                 caller = own;
                 for (int one = 0; one < how.runs; one++) {
                     Shape shape = how.shapeOf(how.seed + one);
@@ -346,17 +346,12 @@ public final class Judge {
 
         /** How many calls of a run overlapped a change of their key; throws if it failed. */
         private long judged(long seed, Shape shape) {
-            Area area = caller.area();
             try (Recording recording = new Recording(seed, shape, how.record, program)) {
-                area.begin(seed, shape, caller);
-                String trouble = null;
-                for (int round = 1; round <= shape.rounds() && trouble == null; round++) {
-                    if (round > 1) area.goOn();
-                    Part made = area.madePart(caller, round);
-                    recording.write(made.text);
-                    trouble = made.trouble == null ? null : UNDER_WAY.formatted(made.trouble, made.underWay, "%s");
-                }
-                return recording.judged(trouble, calls);
+                Area area = caller.area();
+                String trouble = area.made(seed, shape, recording.file, caller);
+                return recording.judged(trouble == null ? null : UNDER_WAY.formatted(trouble, area.cut(), "%s"), calls);
+            } catch (IOException full) {
+                throw new NoVerdict("the recording cannot be written: ", full);
             }
         }
     }
@@ -387,29 +382,23 @@ public final class Judge {
         }
     }
 
-    /** A run in memory that another JVM may share: the part that goes on. */
+    /** A run in memory that another JVM may share: the calls since those in its file. */
     private static final class Area {
         private static final VarHandle INT = MethodHandles.byteBufferViewVarHandle(int[].class, ByteOrder.nativeOrder());
-        // Where numbers are: IS_HERE that another JVM has come, SHAPE five of them; WHY a text.
-        private static final int TICKETS = 0, THERE = 4, DONE = 8, BEGUN = 12, AT = 16, STOPPING = 20, LENGTH = 24, IS_HERE = 28, SEED = 32,
-            SHAPE = 40, WHY = 60, MOST_WHY = 240, SLOTS = WHY + MOST_WHY;
+        // Where numbers are: IS_HERE that another JVM has come, WRITTEN the bytes of the file, SHAPE five of them; WHY and FILE a text.
+        private static final int TICKETS = 0, THERE = 4, DONE = 8, BEGUN = 12, AT = 16, STOPPING = 20, IS_HERE = 24, SEED = 32, WRITTEN = 40,
+            SHAPE = 48, WHY = 68, FILE = WHY + 4 + 240, SLOTS = FILE + 4 + 1024;
         private static final int BEGIN = 0, END = 4, CALL = 8, KEY = 12, REPLY = 16, THREAD = 20, SLOT = 24; // of a call, those of each thread in turn
-        private static final int GOING = 1, RESTING = 2, OVER = 3, FAILED = 4, UNMADE = 5; // AT
+        private static final int GOING = 1, OVER = 2, FAILED = 3, UNMADE = 4; // AT
+        private static final int SIZE = SLOTS + PART * SLOT;
 
         private final Options how;
-        private final int opening, left; // where of each key of each set it is written whether it was there, at first and at the end
         private final ByteBuffer memory;
-
-        Area(Options how) { this(how, ByteBuffer.allocateDirect(sizeOf(how))); }
 
         Area(Options how, ByteBuffer memory) {
             this.how = how;
             this.memory = memory.order(ByteOrder.nativeOrder());
-            opening = SLOTS + PART * SLOT;
-            left = opening + how.mostKeys(true);
         }
-
-        static int sizeOf(Options how) { return SLOTS + PART * SLOT + 2 * how.mostKeys(true); }
 
         int get(int at) { return (int) INT.getVolatile(memory, at); }
 
@@ -417,61 +406,70 @@ public final class Judge {
 
         int next(int at) { return (int) INT.getAndAdd(memory, at, 1) + 1; }
 
-        /** Lets a run go on whose part has been read. */
-        void goOn() {
-            for (int at = SLOTS; at < opening; at += SLOT) memory.putLong(at, 0);
-            set(AT, GOING);
-        }
-
         Shape shape() {
             return new Shape("", get(SHAPE), get(SHAPE + 4), get(SHAPE + 8), get(SHAPE + 12), get(SHAPE + 16));
         }
 
-        /** Has the run of a seed begin. */
-        void begin(long seed, Shape of, Caller caller) {
-            for (int at = 0; at < memory.capacity(); at++) if (at < IS_HERE || at >= SEED) memory.put(at, (byte) 0);
+        /** Has the run of a seed made; gives how it was cut short, or null. */
+        String made(long seed, Shape of, Path file, Caller caller) {
+            for (int at = 0; at < SIZE; at += 4) if (at != IS_HERE) memory.putInt(at, 0);
             memory.putLong(SEED, seed);
             memory.putInt(SHAPE, of.threads).putInt(SHAPE + 4, of.sets).putInt(SHAPE + 8, of.calls).putInt(SHAPE + 12, of.keys).putInt(SHAPE + 16, of.times);
+            putText(FILE, SLOTS - FILE, file.toString());
             set(AT, GOING);
             caller.begin();
+            String trouble = isHung(caller) ? HUNG.formatted(how.seconds) : caller.trouble();
+            if (get(AT) >= FAILED) trouble = text(WHY);
+            if (get(AT) == UNMADE) throw new NoVerdict(trouble);
+            if (trouble != null && get(TICKETS) == 0) throw new NoVerdict(NOT_MADE.formatted(trouble));
+            return trouble;
         }
 
-        /** Waits until the part is made that goes on, or no call begins or ends for too long. */
-        Part madePart(Caller caller, int round) {
-            String trouble = null;
-            int seen = -1;
-            for (long since = System.nanoTime(); trouble == null && get(AT) != RESTING; LockSupport.parkNanos(300_000)) {
-                if (caller.hasEnded()) {
-                    trouble = caller.trouble();
-                    break;
-                }
+        /** Waits until the run has ended; true if before that no call begins or ends for too long. */
+        private boolean isHung(Caller caller) {
+            long since = System.nanoTime();
+            for (int seen = -1; !caller.hasEnded(); LockSupport.parkNanos(300_000)) {
                 int now = get(TICKETS);
                 if (now != seen) since = System.nanoTime();
                 seen = now;
-                if (System.nanoTime() - since > how.seconds * 1_000_000_000L) trouble = HUNG.formatted(how.seconds);
+                if (System.nanoTime() - since > how.seconds * 1_000_000_000L) return true;
             }
-            if (get(AT) >= FAILED) trouble = textOf(WHY, get(LENGTH));
-            if (get(AT) == UNMADE) throw new NoVerdict(trouble);
-            if (trouble != null && get(TICKETS) == 0) throw new NoVerdict(NOT_MADE.formatted(trouble));
-            return part(round, trouble);
+            return false;
         }
 
-        private String textOf(int at, int length) {
-            byte[] bytes = new byte[length];
-            memory.get(at, bytes);
+        private void putText(int at, int room, String text) {
+            byte[] bytes = text.getBytes(StandardCharsets.UTF_8);
+            int length = Math.min(bytes.length, room - 4);
+            memory.put(at + 4, bytes, 0, length);
+            set(at, length);
+        }
+
+        private String text(int at) {
+            byte[] bytes = new byte[get(at)];
+            memory.get(at + 4, bytes);
             return new String(bytes, StandardCharsets.UTF_8);
         }
 
-        private Part part(int round, String trouble) {
-            Shape of = shape();
-            StringBuilder text = new StringBuilder(round > 1 ? "" : "listset-calls 1\n" + linesOfKeys("opening ", opening)), underWay = new StringBuilder();
-            for (Row it : rows(of)) {
-                text.append(it.line());
-                if (it.end == 0 && it.reply != Calls.UNKNOWN) underWay.append(it.line());
+        /** The lines of the calls since those in the file. */
+        private String lines() { return rows(shape()).stream().map(Row::line).collect(Collectors.joining()); }
+
+        /** Writes those calls as the last of a run that was cut short; gives those under way. */
+        String cut() throws IOException {
+            List<Row> rows = rows(shape());
+            write(rows.stream().map(Row::line).collect(Collectors.joining()) + "cut\n");
+            return rows.stream().filter(it -> it.end == 0 && it.reply != Calls.UNKNOWN).map(Row::line).collect(Collectors.joining());
+        }
+
+        /** Writes lines behind those in the file, for all of its calls; the calls in memory are then over. */
+        void write(String lines) throws IOException {
+            try (FileChannel file = FileChannel.open(Path.of(text(FILE)), StandardOpenOption.WRITE)) {
+                long written = memory.getLong(WRITTEN);
+                ByteBuffer bytes = StandardCharsets.US_ASCII.encode(lines);
+                file.truncate(written);
+                while (bytes.hasRemaining()) file.write(bytes, written + bytes.position());
+                memory.putLong(WRITTEN, written + bytes.limit());
             }
-            if (trouble != null) text.append("cut\n");
-            else if (round == of.rounds()) text.append(linesOfKeys("key ", left)).append("end\n");
-            return new Part(text.toString(), trouble, underWay.toString());
+            for (int at = SLOTS; at < SIZE; at += SLOT) memory.putLong(at, 0);
         }
 
         /** The calls of the part by their begins. */
@@ -485,28 +483,23 @@ public final class Judge {
             return found;
         }
 
-        private String linesOfKeys(String word, int at) {
-            StringBuilder lines = new StringBuilder();
-            for (int key = 0; key < left - opening; key++) if (memory.get(at + key) == 1) lines.append(word).append(key).append('\n');
-            return lines.toString();
-        }
-
         /** Makes sets and calls them, to the end. */
         <S, K> void callAll(Calls<S, K> calls) {
             new Play<>(this, calls, shape()).all();
             INT.compareAndSet(memory, AT, GOING, OVER);
         }
 
+        private interface Doing {
+            void run() throws Exception;
+        }
+
         /** Does this; what it throws is written down, the first alone. */
-        private void tried(int as, Runnable does) {
+        private void tried(int as, Doing does) {
             try {
                 does.run();
             } catch (Throwable why) {
                 if (next(STOPPING) > 1) return;
-                byte[] text = (as == UNMADE ? NOT_MADE : THREW).formatted(why).getBytes(StandardCharsets.UTF_8);
-                int length = Math.min(text.length, MOST_WHY);
-                memory.put(WHY, text, 0, length);
-                set(LENGTH, length);
+                putText(WHY, FILE - WHY, (as == UNMADE ? NOT_MADE : THREW).formatted(why));
                 set(AT, as);
                 why.printStackTrace();
             }
@@ -553,27 +546,33 @@ public final class Judge {
             return waits(() -> area.get(Area.THERE) >= all);
         }
 
-        /** Makes each set and has the threads call it; rests after each part until somebody has read it. */
-        private void lead() {
+        /** Makes each set and has the threads call it; writes each part once it is made. */
+        private void lead() throws IOException {
+            StringBuilder left = new StringBuilder();
+            area.write("listset-calls 1\n");
             for (int i = 0; i < of.rounds(); i++) {
-                int round = i, keys = round / of.parts() * of.keys;
-                if (round > 0) area.set(Area.AT, Area.RESTING);
-                if (!waits(() -> area.get(Area.AT) == Area.GOING)) return;
+                int round = i;
                 if (round % of.parts() == 0) {
                     area.tried(Area.UNMADE, () -> set = calls.make.get());
                     if (area.get(Area.STOPPING) > 0) return;
-                    if (area.how.opensWithKeys) lookUp(area.opening + keys);
+                    if (area.how.opensWithKeys) area.write(linesOfKeys("opening ", round));
                 }
                 area.set(Area.BEGUN, round + 1);
                 if (!waits(() -> area.get(Area.DONE) == (round + 1) * of.threads)) return;
-                if ((round + 1) % of.parts() == 0) lookUp(area.left + keys);
+                if ((round + 1) % of.parts() == 0) left.append(linesOfKeys("key ", round));
+                area.write(area.lines());
             }
+            area.write(left + "end\n");
         }
 
-        private void lookUp(int at) {
+        /** The keys that the set of a round has. */
+        private String linesOfKeys(String word, int round) {
+            StringBuilder lines = new StringBuilder();
             for (int key = 0; key < of.keys; key++, area.next(Area.TICKETS)) {
-                area.memory.put(at + key, (byte) (calls.reply(set, 2, calls.key(key, of.times)) == Calls.YES ? 1 : 0));
+                int number = round / of.parts() * of.keys + key;
+                if (calls.reply(set, 2, calls.key(key, of.times)) == Calls.YES) lines.append(word).append(number).append('\n');
             }
+            return lines.toString();
         }
 
         /** The calls of one thread. */
@@ -672,7 +671,7 @@ public final class Judge {
 
         private static Area shared(Options how, Path file) throws IOException {
             try (FileChannel channel = FileChannel.open(file, StandardOpenOption.READ, StandardOpenOption.WRITE)) {
-                return new Area(how, channel.map(FileChannel.MapMode.READ_WRITE, 0, Area.sizeOf(how)));
+                return new Area(how, channel.map(FileChannel.MapMode.READ_WRITE, 0, Area.SIZE));
             }
         }
 
@@ -748,16 +747,12 @@ public final class Judge {
         }
     }
 
-    /** What a recording has of a part of a run; how this came to no end, or null; and the calls under way. */
-    private record Part(String text, String trouble, String underWay) { }
-
     /** The file into which a run is written as it grows. */
     private static final class Recording implements AutoCloseable {
         private final long seed;
         private final Shape shape;
         private final Program program;
-        private final Path folder, file;
-        private final Writer to;
+        private final Path file;
         private boolean isKept;
 
         Recording(long seed, Shape shape, String record, Program program) {
@@ -765,43 +760,24 @@ public final class Judge {
             this.shape = shape;
             this.program = program;
             isKept = record != null;
-            folder = Path.of(isKept ? record : System.getProperty("java.io.tmpdir"));
+            Path folder = Path.of(isKept ? record : System.getProperty("java.io.tmpdir"));
             try {
                 if (isKept) Files.createDirectories(folder);
                 file = isKept ? folder.resolve("seed-" + seed + ".calls") : Files.createTempFile(folder, "listset-seed-" + seed + "-", ".calls");
-                to = Files.newBufferedWriter(file);
+                if (isKept) Files.writeString(file, "");
             } catch (IOException none) {
-                throw unwritten();
-            }
-        }
-
-        private NoVerdict unwritten() { return new NoVerdict(NO_FOLDER.formatted(folder)); }
-
-        void write(String text) {
-            try {
-                to.write(text);
-            } catch (IOException full) {
-                throw unwritten();
+                throw new NoVerdict(NO_FOLDER.formatted(folder));
             }
         }
 
         /** How many calls overlapped a change of their key; throws if no order explains them, or the run was cut short. */
         long judged(String trouble, Calls<?, ?> calls) {
-            flush();
             Judgement judged = program.judged(file);
             if (trouble == null && judged.refused == null) return judged.overlapped;
             isKept = true;
             String said = judged.refused == null ? EXPLAINED : Told.explained(judged.refused, file) + keyLine(judged.refused, calls);
             if (trouble != null) throw new CutShort(seed, shape.name, trouble.formatted(said), file, program);
             throw new NotLinearizable(seed, shape.name, said, judged.refused, file, program);
-        }
-
-        private void flush() {
-            try {
-                to.flush();
-            } catch (IOException full) {
-                throw unwritten();
-            }
         }
 
         /** Which key of which set it is that the judge names, if its number does not say so. */
@@ -814,13 +790,7 @@ public final class Judge {
         }
 
         @Override public void close() {
-            try {
-                to.close();
-            } catch (IOException full) {
-                throw unwritten();
-            } finally {
-                if (!isKept) file.toFile().delete();
-            }
+            if (!isKept) file.toFile().delete();
         }
     }
 

@@ -57,14 +57,14 @@ pub struct Area {
 }
 
 /// A call that was recorded.
-pub struct Row([u32; SLOT]);
+struct Row([u32; SLOT]);
 
 impl Row {
-    pub fn is_under_way(&self) -> bool {
+    fn is_under_way(&self) -> bool {
         self.0[0] == 0
     }
 
-    pub fn line(&self) -> String {
+    fn line(&self) -> String {
         let [end, begin, thread, word, key, reply] = self.0;
         let word = ["add", "remove", "contains"][word as usize];
         match end {
@@ -131,13 +131,13 @@ impl Area {
         Ok(())
     }
 
-    /// The calls since those in the file by their begins, or those under way alone.
-    pub fn lines(&self, is_under_way: bool) -> String {
+    /// The calls since those in the file, by their begins, and those under way.
+    pub fn lines(&self) -> (String, String) {
         let slots = self.memory[SLOTS..].chunks(SLOT);
         let numbers = |slot: &[AtomicU32]| Row(std::array::from_fn(|it| slot[it].load(SeqCst)));
         let mut rows: Vec<Row> = slots.map(numbers).filter(|it| it.0[1] > 0).collect();
         rows.sort_unstable_by_key(|it| it.0[1]);
-        rows.iter().filter(|it| !is_under_way || it.is_under_way()).map(Row::line).collect()
+        (rows.iter().map(Row::line).collect(), rows.iter().filter(|it| it.is_under_way()).map(Row::line).collect())
     }
 
     // ---- who watches a run
@@ -296,7 +296,7 @@ impl<S: Sync> Play<'_, S> {
             if round == (self.one + 1) * self.of.parts() {
                 left = self.lines_of_keys("key");
             }
-            area.write(&area.lines(false)).expect(WRITABLE);
+            area.write(&area.lines().0).expect(WRITABLE);
         }
         left
     }

@@ -31,8 +31,8 @@ impl<'a> Recording<'a> {
 
     /// How many calls of the run, which may have been cut short, overlapped a change of their key; or what is wrong with it.
     pub(crate) fn judged<S>(mut self, source: &Source<S>, area: &Area, trouble: Option<String>) -> Result<u64, Failure> {
-        let under_way = area.lines(true);
-        if trouble.is_some() && area.write(&format!("{}cut\n", area.lines(false))).is_err() {
+        let (lines, under_way) = area.lines();
+        if trouble.is_some() && area.write(&format!("{lines}cut\n")).is_err() {
             return no_verdict(say(NO_FOLDER, &[&self.path.display()]));
         }
         let said = match self.judge.judged(&self.path)? {
