@@ -173,7 +173,7 @@ one_line s t x holds is =
     )
 
 same_end : (s t : SoFar) → ends s ≡ Ok t → s ≡ t
-same_end s t is = (kept_if (is_done s.section) wrong.NotEnded s t is).1
+same_end s t is = (kept_if (is_done s.section) _ s t is).1
 
 empty_report : (v : Version) (h : Header) → IsHeader h → IsReport (no_lines v h)
 empty_report v h is = record {
@@ -199,7 +199,7 @@ is_found bytes r is =
     let last = bind_ok (text_from (text v) (cut_at 10 bytes)) report_told r is in
     let found = text_found (text v) IsSoFar lines_at (starts v) (λ s t x h e. let m = one_line s t x h e in (m.0, m.1)) same_end
     bytes last.0 last.1 in
-    let done = (kept_if (is_done last.0.section) wrong.NotEnded last.0 last.0 found.1).0 in
+    let done = (kept_if (is_done last.0.section) _ last.0 last.0 found.1).0 in
     rw (← ok_is last.0.report r last.2) (found.2.0, found.0 ∙ rw done refl)
 
 -- ---- a line is read again
