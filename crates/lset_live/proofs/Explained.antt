@@ -6,16 +6,13 @@ use Rattle.std.proofs.lemmas.List.{map-append}
 use mathlib.Core.Option.{some}
 use lib.ListN.{get_elem?}
 use Rattle.lset_words.proofs.Numbers.{equal_test}
-use Rattle.lset_words.specs.declared.Key.{Key}
 use Rattle.lset_words.specs.declared.Call.{Call}
-use Rattle.lset_words.specs.declared.Call.TheVariants.{Contains}
 use Rattle.lset_words.specs.declared.Reply.{Reply}
-use Rattle.lset_words.specs.declared.Reply.TheVariants.{True, False, Full}
 use Rattle.lset_words.specs.declared.Reply.TheVariants as reply
 use Rattle.lset_words.specs.declared.history.CallRecord.{CallRecord}
 use Rattle.lset_words.specs.declared.history.Placed.{Placed}
 use Rattle.lset_words.specs.History.{Precedes, answered, call_numbered, no_call}
-use Rattle.lset_words.specs.SequentialSet.{SetState, Answered, IsLegal, opening_set, reply_to, after_call, has_key}
+use Rattle.lset_words.specs.SequentialSet.{opening_set}
 use Rattle.lset_history.proofs.Histories.{IsPart, part_of}
 use Rattle.lset_lists.specs.Headline.{ExplainsRun, RunsAreLinearizable}
 use Rattle.lset_steps.specs.declared.Event.{Event}
@@ -33,11 +30,11 @@ use Rattle.lset_rule.specs.Views.{Stands, AreIdle, HasAside, HasThread}
 use Rattle.lset_rule.specs.Calls.{Makes}
 use Rattle.lset_rule.specs.Seats.{IsSeat, TableSeat}
 use Rattle.lset_rule.proofs.Stepped.{Tied, tied}
-use Rattle.lset_words.specs.Records.{Keeps, called, thread_of}
-use Rattle.lset_live.specs.Dated.{call_of, record_of}
+use Rattle.lset_words.specs.Records.{Keeps, thread_of}
+use Rattle.lset_live.specs.Dated.{record_of}
 use Rattle.lset_live.specs.Explained.{HasAnswered, IsAnswered, SeenIsLinearizable}
 use Rattle.lset_live.specs.Seats.{SeatValue, SetValue}
-use Rattle.lset_live.proofs.Dated.{root_is, said_by}
+use Rattle.lset_live.proofs.Dated.{root_is}
 use Rattle.lset_live.proofs.Histories.{of_thread, ended_record, thread_records, MayBegin, thread_calls}
 use Rattle.lset_live.proofs.Orders.{keeps}
 use Rattle.lset_words.specs.Words.{Opening}

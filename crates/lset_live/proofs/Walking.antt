@@ -53,9 +53,6 @@ falls c items curr next n e w = walk_falls (view c.sizes c.words w.laws.used) w.
 pub fits : (c : LastWords) (items : List ℕ) (curr : ℕ) → curr ≢ 1 → Walks c items curr → node_key c.words curr - 1 < 4294967296
 fits c items curr n w = key_fits (view c.sizes c.words w.laws.used) w.laws.ordered items curr w.laws.tail_key n w.walked
 
-pub above : (c : LastWords) (items : List ℕ) (curr : ℕ) → Walks c items curr → 0 < node_key c.words curr
-above c items curr w = w.walked.above
-
 pub ends : (c : LastWords) (items : List ℕ) (curr : ℕ) → curr ≡ 1 → Walks c items curr → HasKeys c items
 ends c items curr e w = same_content c.sizes c.words w.laws.used (λ t. 0) items
     (walk_ends (view c.sizes c.words w.laws.used) w.laws.ordered items curr e w.walked)

@@ -182,7 +182,8 @@ first_tried m law b own s n s' c same may seat starts again ne =
     now_holds m b (m.feed (first m b own) n).local (first m b own) s' (ap (λ (f : Fed). f.local) (again n ne))
     (begins_holding m law b own s n s' c same may seat starts (ap (λ (f : Fed). f.answer) (again n ne)))
 
--- the same registers in other words
+-- The same registers in other words. So a loop's answers go: `leads` of a step says what the thread holds after it, as the
+-- table computes it; the branch's test decides that (if_same, if_other, deed); and `moved` writes the outcome as a row.
 pub moved : {m : Table} {b : Begun} {l l' : Local} {s : TableSeat} → Holds m b l s → l ≡ l' → Holds m b l' s
 moved h same = record { words = h.words; used = h.used; seat = h.seat; mid = h.mid; stands = h.stands; local = h.local ∙ same }
 

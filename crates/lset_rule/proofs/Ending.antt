@@ -50,8 +50,7 @@ counted_next T k es j (Go u) t o n is h = rw is (counted_by (u == t) _ o (n + 1)
 
 counted : (T : Table) (k : Opening) (es : ℕ → Event) (t j : ℕ) → Counted (under_at (log_of T k es) t j) (steps_since es t j)
 counted T k es t zero = tt
-counted T k es t (suc j) = counted_next T k es j (es j) t (under_at (log_of T k es) t j) (steps_since es t j) refl
-    (counted T k es t j)
+counted T k es t (suc j) = counted_next T k es j (es j) t (under_at _ t j) (steps_since es t j) refl (counted T k es t j)
 
 counted_is : (o : Option PendingCall) (u : PendingCall) (n : ℕ) → Counted o n → o ≡ Some u → u.steps ≡ n
 counted_is o u n h e = subst (λ z. Counted z n) e h

@@ -1,12 +1,10 @@
 -- Each move keeps the rule.
-use Rattle.std.proofs.Common.{◌≡◌, ◌≢◌, inl, inr, ⊎_elim, ℕ, zero, suc, ◌+◌, ◌<◌, ◌≤◌, false, List, [], ◌∷◌, ◌++◌, length, set, slice_index}
+use Rattle.std.proofs.Common.{◌≡◌, ◌≢◌, inl, inr, ℕ, ◌+◌, ◌<◌, ◌≤◌, false, List, [], ◌∷◌, ◌++◌, length, set, slice_index}
 use Rattle.std.proofs.Common.{slice_set, Option, Some, None, refl, sym, ap, ◌∙◌, subst, arith, append-nil, append_assoc, length-append}
-use mathlib.Core.Option.{some, some-injective, some-ne-none}
-use mathlib.Core.Logic.{dite}
-use native.Mathlib.Decide.{ℕ_discrete}
+use mathlib.Core.Option.{some}
 use lib.ListN.{get_elem?}
 use Rattle.atomic_table.specs.Table as table
-use Rattle.atomic_table.specs.Table.{Me, step, keeps, Allows}
+use Rattle.atomic_table.specs.Table.{Me, keeps, Allows}
 use Rattle.lset_words.specs.declared.Call.{Call}
 use Rattle.lset_steps.specs.declared.Local.{Local}
 use Rattle.lset_steps.specs.declared.Action.{Action}
@@ -21,7 +19,7 @@ use Rattle.lset_steps.proofs.WorldRuns.{named_in}
 use Rattle.lset_words.specs.Words.{word_count, target, tail_word, Opening, sizes}
 use Rattle.lset_rule.specs.Pasts.{root, calls_of, Before, InOrder, Apart, IsIn}
 use Rattle.lset_steps.specs.Worlds.{thread_of, WorldState, IsRun}
-use Rattle.lset_rule.specs.Runs.{Here, here, under_after, log_by, end_of, at_end, IsRunOf, StartsWith}
+use Rattle.lset_rule.specs.Runs.{Here, here, under_after, log_by, end_of, at_end, IsRunOf}
 use Rattle.lset_rule.proofs.Stepped.{left, found, gone, begins, left_is, found_is, Tied, end_more, is_run_more, end_other, end_begin}
 use Rattle.lset_rule.proofs.Stepped.{end_go, end_laws, end_tied, in_locals}
 use Rattle.lset_rule.specs.Rule.{Holds, MatchesLog}

@@ -1,5 +1,5 @@
 -- A machine whose every step is one of the changes keeps its laws over every run.
-use Rattle.std.specs.Prelude.{◌≡◌, ◌≢◌, ℕ, ◌+◌, ◌%◌, ◌<◌, ◌≤◌, ◌⊎◌, ◌-◌, Bool, true, false, Option, Some, None, List, slice_index}
+use Rattle.std.specs.Prelude.{◌≡◌, ◌≢◌, ℕ, ◌+◌, ◌%◌, ◌<◌, ◌≤◌, ◌⊎◌, ◌-◌, Bool, true, false, Option, Some, None, List}
 use Rattle.std.specs.Prelude.{slice_set, slice_index_or, length, refl, if◌then◌else◌, ◌==◌, ◌||◌}
 use Rattle.std.proofs.Common.{arith, inl, inr, sym, ◌∙◌, ap, subst, zero, suc, get_or-set_other, get_or-set_same, length-set}
 use Rattle.std.proofs.lemmas.List.FromFn.{length-map-range_with_len}
@@ -30,12 +30,14 @@ use Rattle.lset_steps.proofs.Openings.{opening_local, none_used, opening_ordered
 abbrev pub Outline : Type 1
 Outline = ℕ → ℕ → (ℕ → View) → ℕ → ℕ → View → Bool → Local → Type 0
 
+-- what holds of the words at a moment, whichever thread steps next
 pub record Here (marks : Bool) (sz : Sizes) (vs : ℕ → View) (now : ℕ) (ws : List ℕ) (used : ℕ → ℕ) : Type 1 where
   pub limits : IsWithin sz
   pub memory : Memory marks sz ws used
   pub course : Course vs now
   pub present : vs now ≡ view sz ws used
 
+-- what holds of thread t and its registers l at that moment
 pub record Thread (At : Outline) (sz : Sizes) (t : ℕ) (vs : ℕ → View) (first now : ℕ) (ws : List ℕ) (used : ℕ → ℕ)
     (done : Bool) (l : Local) : Type 0 where
   pub registers : Registers sz t l
@@ -68,6 +70,7 @@ pub record StepOf (T : Table) (marks : Bool) (At : Outline) (sz : Sizes) (t : �
 abbrev pub Before : Outline → ℕ → ℕ → (ℕ → View) → View → Local → Type 0
 Before At q t vs v l = (first : ℕ) × (now : ℕ) × (done : Bool) × At q t vs first now v done l
 
+-- What a list shows of its table: the opening has the outline, and each begin and each step keeps it for every thread.
 pub record Discipline (T : Table) (marks : Bool) (At : Outline) : Type 1 where
   pub idle_at : (op : Opening) → Opens op → (t : ℕ) (vs : ℕ → View)
       → At op.quota t vs 0 0 (view_of (sizes op) (opening op)) false (idle op.quota t)
@@ -277,8 +280,7 @@ module _ (T : Table) (marks : Bool) (At : Outline) (d : Discipline T marks At) (
     used_at u = elim (same_or_not u t) [
       | inl y ↦ subst (λ z. used_in (after T s (Go t)) z ≡ m.used' z) (sym y) (ap (λ (l : Local). l.used) local_is ∙ m.counts)
       | inr y ↦ ap (λ (l : Local). l.used) (local_other u y)
-          ∙ sym (others_counted marks (sizes op) s.words (used_in s) i.memory t th u y m.action m.words' m.used' m.effect
-          m.change)
+          ∙ sym (others_counted marks _ s.words _ i.memory t th u y m.action m.words' m.used' m.effect m.change)
     ]
 
     used_is : used_in (after T s (Go t)) ≡ m.used'
@@ -356,20 +358,18 @@ module _ (T : Table) (marks : Bool) (At : Outline) (d : Discipline T marks At) (
         (T.effect (local_of s t) (seen_next T s t))) (has_changed (log_of T op es) t k) (equal_test t t refl)
         ∙ ap (λ c. has_changed (log_of T op es) t k || is_change c) told_is ∙ ap (λ b. b || is_change m.effect) (sym de)) in
         record {
-          in_table = rw m.acts (named_in marks (sizes op) s.words (used_in s) i.memory t th m.action m.words' m.used' m.effect
-              m.change);
-          lock_use = rw m.acts (lock_use marks (sizes op) s.words (used_in s) i.memory t th m.action m.words' m.used' m.effect
-              m.change);
+          in_table = rw m.acts (named_in marks _ s.words _ i.memory t th m.action m.words' m.used' m.effect m.change);
+          lock_use = rw m.acts (lock_use marks _ s.words _ i.memory t th m.action m.words' m.used' m.effect m.change);
           same_call = ap (λ f. f.local.call) fed ∙ m.same_call;
           content = subst (λ c. Changed c (views T op es k) (views T op es (suc k))) (sym told_is)
               (subst (λ v. Changed m.effect v (views T op es (suc k))) (sym was)
               (subst (λ v. Changed m.effect (view_of (sizes op) s) v) (sym now_is)
-              (move-changed marks (view_of (sizes op) s) (view (sizes op) m.words' m.used') i.memory.ordered m.effect move')));
+              (move-changed marks _ _ i.memory.ordered m.effect move')));
           by_call = subst (λ c. MayChange op.quota (local_of s t).used (local_of s t).call
               (has_changed (log_of T op es) t k) c) (sym told_is)
               (subst (λ b. MayChange op.quota (local_of s t).used (local_of s t).call b m.effect) de m.by_call);
           counts = ap (λ f. f.local.used) fed ∙ m.counts
-              ∙ mine_counted marks (sizes op) s.words (used_in s) i.memory t th m.action m.words' m.used' m.effect m.change
+              ∙ mine_counted marks _ s.words _ i.memory t th m.action m.words' m.used' m.effect m.change
               ∙ ap (λ c. count_after c (used_in s t)) (sym told_is);
           answered = subst (λ f. Answered (has_changed (log_of T op es) t (suc k)) op.quota (views T op es)
               (begun_at (log_of T op es) t (suc k)) (suc k) t (local_of s t).call f.local.pc f.answer) (sym fed)
@@ -379,8 +379,7 @@ module _ (T : Table) (marks : Bool) (At : Outline) (d : Discipline T marks At) (
               m.local'.pc m.answer) (sym first_is)
               (subst (λ w. Answered (done t || is_change m.effect) op.quota w (first t) (suc k) t (local_of s t).call
               m.local'.pc m.answer) ve
-              (answered_on (done t || is_change m.effect) op.quota vs (first t) k t (local_of s t).call m.local'.pc m.answer
-              m.answered))));
+              (answered_on (done t || is_change m.effect) op.quota vs (first t) k t _ m.local'.pc m.answer m.answered))));
         }
 
 -- THE LAWS
@@ -443,15 +442,12 @@ module _ (T : Table) (marks : Bool) (At : Outline) (d : Discipline T marks At) (
       let en : Enabled (state_at T op es k) (Go t) = subst (λ z. Enabled (state_at T op es k) z) ee (r.enabled k l) in
       let m : StepOf T marks At (sizes op) t (views T op es) (λ u. begun_at (log_of T op es) u k) k
       (state_at T op es k).words (used_in (state_at T op es k)) (λ u. has_changed (log_of T op es) u k)
-      (local_of (state_at T op es k)) =
-      moves T marks At d op r.opens (views T op es) k (state_at T op es k) (λ u. begun_at (log_of T op es) u k)
+      (local_of (state_at T op es k)) = moves T marks At d op r.opens _ k _ (λ u. begun_at (log_of T op es) u k)
       (λ u. has_changed (log_of T op es) u k) t i en in
-      let w : (after T (state_at T op es k) (Go t)).words ≡ m.words' =
-      words_are T marks At d op r.opens (views T op es) k (state_at T op es k)
+      let w : (after T (state_at T op es k) (Go t)).words ≡ m.words' = words_are T marks At d op r.opens _ k _
       (λ u. begun_at (log_of T op es) u k) (λ u. has_changed (log_of T op es) u k) t i en m in
-      ap (λ x. node_link x b) w ∙ marked_stays marks (view_of (sizes op) (state_at T op es k)) (view (sizes op) m.words' m.used')
-      i.memory.ordered m.effect
-      (move' T marks At d op r.opens (views T op es) k (state_at T op es k) (λ u. begun_at (log_of T op es) u k)
+      ap (λ x. node_link x b) w ∙ marked_stays marks _ _ i.memory.ordered m.effect
+      (move' T marks At d op r.opens _ k _ (λ u. begun_at (log_of T op es) u k)
       (λ u. has_changed (log_of T op es) u k) t i en m) b p o
 
   later_by : (j i c k : ℕ) → k ≡ j + c → k ≤ last → (views T op es j).published i
@@ -463,8 +459,7 @@ module _ (T : Table) (marks : Bool) (At : Outline) (d : Discipline T marks At) (
       let f : suc (j + c) ≡ k = omega arith in
       let g : j + c + 1 ≡ suc (j + c) = omega arith in
       let co : Course (views T op es) last = (inv_at last (omega arith)).course in
-      subst (λ z. UnlinkedStays marks (views T op es j) (views T op es z) i) f
-      (later_more marks (views T op es j) (views T op es (j + c)) (views T op es (suc (j + c))) i
+      subst (λ z. UnlinkedStays marks (views T op es j) (views T op es z) i) f (later_more marks _ _ _ i
       (subst (λ z. KeepsNodes (views T op es (j + c)) (views T op es z)) g (co.goes (j + c) (omega arith)))
       (λ b p o. keeps_marks (j + c) (omega arith) (es (j + c)) refl b p o) h)
 
@@ -474,7 +469,6 @@ lawful_of T At d = record {
   states = λ op last k es r l. in_order_at T T.marks At d op es last r k l;
   steps = λ op last k t es r l e. stepped_at T T.marks At d op es last r k t l e;
   unlinked_stays = λ op last j k i es r a l m. later_by T T.marks At d op es last r j i (k - j) k (omega arith) l m;
-  seen_before = λ op last j k b es r a l c. hindsight (views T op es) last j k b
-      (inv_at T T.marks At d op es last r last (omega arith)).course l
+  seen_before = λ op last j k b es r a l c. hindsight _ last j k b (inv_at T T.marks At d op es last r last (omega arith)).course l
       (record { at = j; from = omega arith; upto = a; in_chain = c });
 }

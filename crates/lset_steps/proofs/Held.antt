@@ -257,8 +257,7 @@ module _ {marks : Bool} {sz : Sizes} {ws : List ℕ} {used : ℕ → ℕ} (m : M
         locks = λ b z. lock_after_lock ws a (t + 1) b
             (λ e. let f : node_lock ws b ≡ node_lock ws a = ap (node_lock ws) e in omega arith) ∙ z;
         links = λ b p z. link_after_lock ws (lock_index a) (t + 1) b k;
-        chain = λ b z i. quiet_keeps (view sz ws used) (view sz (slice_set ws (lock_index a) (t + 1)) used) m.ordered
-            (at_lock marks sz ws used m t tn (lock_index a) (t + 1) k) b i;
+        chain = λ b z i. quiet_keeps _ _ m.ordered (at_lock marks sz ws used m t tn (lock_index a) (t + 1) k) b i;
       }
 
   -- a held node stays held where another is freed
@@ -266,8 +265,7 @@ module _ {marks : Bool} {sz : Sizes} {ws : List ℕ} {used : ℕ → ℕ} (m : M
       → Held (view sz (slice_set ws (lock_index b) 0) used) t a
   held_past {a} b d h = record {
     mine = lock_after_lock ws b 0 a d ∙ h.mine;
-    at = quiet_keeps (view sz ws used) (view sz (slice_set ws (lock_index b) 0) used) m.ordered
-        (at_lock marks sz ws used m t tn (lock_index b) 0 (inr (b, refl))) a h.at;
+    at = quiet_keeps _ _ m.ordered (at_lock marks sz ws used m t tn (lock_index b) 0 (inr (b, refl))) a h.at;
     published = h.published;
   }
 
@@ -302,8 +300,7 @@ module _ {marks : Bool} {sz : Sizes} {ws : List ℕ} {used : ℕ → ℕ} (m : M
     keys = λ a p. key_after_key ws (own_of sz.quota t used) x a (no_own marks sz ws used m t a tn r p);
     locks = λ a z. lock_after_key ws (own_of sz.quota t used) x a ∙ z;
     links = λ a p z. link_after_key ws (own_of sz.quota t used) x a;
-    chain = λ a z i. quiet_keeps (view sz ws used) (view sz (slice_set ws (key_index (own_of sz.quota t used)) x) used) m.ordered
-        (at_own_key marks sz ws used m t tn x r) a i;
+    chain = λ a z i. quiet_keeps _ _ m.ordered (at_own_key marks sz ws used m t tn x r) a i;
   }
 
   pub leaves_own_link : (x : ℕ) → used t < sz.quota
@@ -314,6 +311,5 @@ module _ {marks : Bool} {sz : Sizes} {ws : List ℕ} {used : ℕ → ℕ} (m : M
     keys = λ a p. key_after_link ws (own_of sz.quota t used) x a;
     locks = λ a z. lock_after_link ws (own_of sz.quota t used) x a ∙ z;
     links = λ a p z. link_after_link ws (own_of sz.quota t used) x a (no_own marks sz ws used m t a tn r p);
-    chain = λ a z i. quiet_keeps (view sz ws used) (view sz (slice_set ws (link_index (own_of sz.quota t used)) x) used) m.ordered
-        (at_own_link marks sz ws used m t tn x r) a i;
+    chain = λ a z i. quiet_keeps _ _ m.ordered (at_own_link marks sz ws used m t tn x r) a i;
   }

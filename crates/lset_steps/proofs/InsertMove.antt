@@ -71,9 +71,6 @@ insert-ordered v w ord pred own k q = record {
     cases : (i : ℕ) → (i ≡ pred) ⊎ (i ≢ pred)
     cases i = grind arith
 
-    one_key_same : w.key 1 ≡ v.key 1
-    one_key_same = q.keys 1 ord.tail_published
-
     old_top : (i : ℕ) → v.published i → w.key i ≤ w.key 1
     old_top i o = let a : w.key i ≡ v.key i = q.keys i o in
         let b : w.key 1 ≡ v.key 1 = q.keys 1 ord.tail_published in

@@ -97,6 +97,7 @@ pub record Had (vs : ℕ → View) (first now k : ℕ) : Type 0 where
   pub upto : at ≤ now
   pub has : InContent (vs at) k
 
+-- a moment from `first` to `now` at which the set lacked k
 pub record Lacked (vs : ℕ → View) (first now k : ℕ) : Type 0 where
   pub at : ℕ
   pub from : first ≤ at
@@ -108,6 +109,7 @@ pub record At20 (vs : ℕ → View) (first now k curr : ℕ) : Type 0 where
   pub past : InPast vs first now curr
   pub low : (vs past.at).key curr < k + 1
 
+-- It has loaded the link of a node whose key is below k: the link led to curr.
 pub record At21 (vs : ℕ → View) (first now k curr : ℕ) : Type 0 where
   pub from : ℕ
   pub word : ℕ
@@ -115,6 +117,7 @@ pub record At21 (vs : ℕ → View) (first now k curr : ℕ) : Type 0 where
   pub next : word / 2 ≡ curr
   pub low : (vs seen.at).key from < k + 1
 
+-- curr has the key k, and was in the chain at some moment of the call.
 pub record At22 (vs : ℕ → View) (first now k curr : ℕ) : Type 0 where
   pub past : InPast vs first now curr
   pub found : (vs past.at).key curr ≡ k + 1

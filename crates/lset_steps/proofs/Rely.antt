@@ -18,6 +18,8 @@ use Rattle.lset_steps.proofs.Memory.{at_lock, at_own_key, at_own_link}
 use Rattle.lset_steps.proofs.AfterWrite.{set_other, key_after_link, link_after_link, lock_after_link, list_lock_after_link, link_after_key}
 use Rattle.lset_steps.proofs.AfterWrite.{key_after_key, lock_after_key, list_lock_after_key, key_after_lock, link_after_lock}
 
+-- What a step of another thread, from v to w, leaves to thread u (q is the quota): nodes keep their keys, and u's count, the
+-- locks that u has, the links and the places in the chain of the nodes under them, and u's next slot stay.
 pub record Rely (v w : View) (q u : ℕ) : Type 0 where
   pub goes : KeepsNodes v w
   pub used : w.used u ≡ v.used u
@@ -40,6 +42,7 @@ Guarded marks sz t ws used a ws' used' ch (drops b p c d k y w at first inn foll
     (node_lock ws p ≡ t + 1) × (node_lock ws c ≡ t + 1)
 Guarded marks sz t ws used a ws' used' ch step = Unit {0}
 
+-- Thread t makes a step; u is another thread.
 module _ (marks : Bool) (sz : Sizes) (ws : List ℕ) (used : ℕ → ℕ) (m : Memory marks sz ws used) (t : ℕ) (h : t < sz.threads)
     (u : ℕ) (k : u < sz.threads) (d : u ≢ t) where
   at_word : (x v : ℕ) → IsLockWord x → (slice_index ws x ≡ 0) ⊎ (slice_index ws x ≡ t + 1)
@@ -51,8 +54,7 @@ module _ (marks : Bool) (sz : Sizes) (ws : List ℕ) (used : ℕ → ℕ) (m : M
     list_lock = λ z. mine 0 z;
     lock = λ a z. mine (lock_index a) z;
     link = λ a p z. link_after_lock ws x v a i;
-    chain = λ a z c. quiet_keeps (view sz ws used) (view sz (slice_set ws x v) used) m.ordered
-        (at_lock marks sz ws used m t h x v i) a c;
+    chain = λ a z c. quiet_keeps _ _ m.ordered (at_lock marks sz ws used m t h x v i) a c;
     own_key = λ r. key_after_lock ws x v (own_of sz.quota u used) i;
     own_link = λ r. link_after_lock ws x v (own_of sz.quota u used) i;
   }
@@ -84,9 +86,12 @@ module _ (marks : Bool) (sz : Sizes) (ws : List ℕ) (used : ℕ → ℕ) (m : M
     own_link = λ r. link_after_link ws p x (own_of sz.quota u used) (λ e. no_own marks sz ws used m u p k r pm (sym e));
   }
 
+  -- A node that t has locked is none that u has locked.
   alien : (c a : ℕ) → node_lock ws c ≡ t + 1 → node_lock ws a ≡ u + 1 → a ≢ c
   alien c a x y e = d (let f : node_lock ws a ≡ node_lock ws c = ap (node_lock ws) e in omega arith)
 
+  -- A guarded step of t leaves all that to u: by cases, with at_word for a lock word and at_link for a published node's link.
+  -- What it writes or unlinks there is under a lock of t, so under none of u's (alien).
   pub rely_of : (a : Action) (ws' : List ℕ) (used' : ℕ → ℕ) (ch : Option (Key × Bool))
       (c : WordStep marks sz t ws used a ws' used' ch)
       → Guarded marks sz t ws used a ws' used' ch c
@@ -130,8 +135,7 @@ module _ (marks : Bool) (sz : Sizes) (ws : List ℕ) (used : ℕ → ℕ) (m : M
     list_lock = λ z. list_lock_after_link ws (own_of sz.quota t used) (2 * c) ∙ z;
     lock = λ b z. lock_after_link ws (own_of sz.quota t used) (2 * c) b ∙ z;
     link = λ b p z. link_after_link ws (own_of sz.quota t used) (2 * c) b (no_own marks sz ws used m t b h r p);
-    chain = λ b z y. quiet_keeps (view sz ws used) (view sz ws' used) m.ordered (at_own_link marks sz ws used m t h (2 * c) r) b
-        y;
+    chain = λ b z y. quiet_keeps _ _ m.ordered (at_own_link marks sz ws used m t h (2 * c) r) b y;
     own_key = λ s. key_after_link ws (own_of sz.quota t used) (2 * c) (own_of sz.quota u used);
     own_link = λ s. link_after_link ws (own_of sz.quota t used) (2 * c) (own_of sz.quota u used) (other_own s r);
   }

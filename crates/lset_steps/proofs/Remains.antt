@@ -12,6 +12,8 @@ use Rattle.lset_steps.proofs.Memory.{WordStep, Memory, reads, fails, takes, give
 use Rattle.lset_steps.proofs.Memory.{drops, own_of, row_once, no_own, moved, goes_on, others_counted}
 use Rattle.lset_steps.proofs.AfterWrite.{key_after_link, link_after_link, link_after_key, key_after_key, key_after_lock, link_after_lock}
 
+-- What a step of another thread, from v to w, leaves to thread u (q is the quota), whoever has locks: keys and marked links of
+-- nodes, u's count and u's next slot stay.
 pub record Remains (v w : View) (q u : ℕ) : Type 0 where
   pub goes : KeepsNodes v w
   pub marked : (a : ℕ) → v.published a → v.link a % 2 ≡ 1 → w.link a ≡ v.link a
@@ -19,6 +21,7 @@ pub record Remains (v w : View) (q u : ℕ) : Type 0 where
   pub own_key : v.used u < q → w.key (slot_node q u (v.used u)) ≡ v.key (slot_node q u (v.used u))
   pub own_link : v.used u < q → w.link (slot_node q u (v.used u)) ≡ v.link (slot_node q u (v.used u))
 
+-- a moment in which nothing happens
 pub remains_same : (v : View) (q u : ℕ) → Remains v v q u
 remains_same v q u = record {
   goes = record { keys = λ i p. refl; grows = λ i p. p; kept = λ i p. inl refl; back = λ i p c. c };
@@ -28,6 +31,7 @@ remains_same v q u = record {
   own_link = λ r. refl;
 }
 
+-- Thread t makes a step; u is another thread.
 module _ (marks : Bool) (sz : Sizes) (ws : List ℕ) (used : ℕ → ℕ) (m : Memory marks sz ws used) (t : ℕ) (h : t < sz.threads)
     (u : ℕ) (k : u < sz.threads) (d : u ≢ t) where
   at_chain : (p : ℕ) → InChain (view sz ws used) p → Published sz used p
@@ -76,8 +80,7 @@ module _ (marks : Bool) (sz : Sizes) (ws : List ℕ) (used : ℕ → ℕ) (m : M
       → WordStep marks sz t ws used a ws' used' ch → Remains (view sz ws used) (view sz ws' used') sz.quota u
   remains_of a ws' used' ch c = record {
     goes = goes_on marks sz ws used m t h a ws' used' ch c;
-    marked = marked_stays marks (view sz ws used) (view sz ws' used') m.ordered ch
-        (moved marks sz ws used m t h a ws' used' ch c);
+    marked = marked_stays marks _ _ m.ordered ch (moved marks sz ws used m t h a ws' used' ch c);
     used = others_counted marks sz ws used m t h u d a ws' used' ch c;
     own_key = slot_key a ws' used' ch c;
     own_link = slot_link a ws' used' ch c;

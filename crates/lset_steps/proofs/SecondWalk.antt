@@ -1,8 +1,7 @@
 -- A second walk from the head, which asks whether a node that the thread has locked is in the chain (Herlihy and Shavit's
 -- validation). It may pass through nodes that are being unlinked; but each node that it comes to was in the chain at some moment
 -- since the lock was taken, and a node leaves the chain only by the thread that has locked it. So where it comes to the locked
--- node,
--- that one is in the chain.
+-- node, that one is in the chain.
 use Rattle.std.specs.Prelude.{◌≡◌, ◌≢◌, ℕ, suc, ◌+◌, ◌/◌, ◌<◌, ◌≤◌, ◌⊎◌, [], refl}
 use Rattle.std.proofs.Common.{arith, inl, inr, subst, sym}
 use Rattle.lset_steps.specs.Chain.{View, InChain, IsOrdered}

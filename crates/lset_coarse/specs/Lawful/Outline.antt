@@ -74,30 +74,21 @@ pub data At (q t : ℕ) (vs : ℕ → View) (first now : ℕ) (v : View) (done :
   at1 : l.pc ≡ 1 → done ≡ false → At q t vs first now v done l
   at2 : l.pc ≡ 2 → done ≡ false → v.list_lock ≡ t + 1 → At q t vs first now v done l
   at3 : l.pc ≡ 3 → done ≡ false → Window v t l → At q t vs first now v done l
-  at4 : l.pc ≡ 4 → done ≡ false → Window v t l → v.key l.curr < target l.call
+  at4 : l.pc ≡ 4 → done ≡ false → Window v t l → v.key l.curr < target l.call → At q t vs first now v done l
+  at5 : l.pc ≡ 5 → done ≡ false → Window v t l → Adding v t q l.curr l.call → At q t vs first now v done l
+  at6 : l.pc ≡ 6 → done ≡ false → Window v t l → Adding v t q l.curr l.call → v.key (slot_node q t (v.used t)) ≡ target l.call
       → At q t vs first now v done l
-  at5 : l.pc ≡ 5 → done ≡ false → Window v t l → Adding v t q l.curr l.call
-      → At q t vs first now v done l
-  at6 : l.pc ≡ 6 → done ≡ false → Window v t l → Adding v t q l.curr l.call
-      → v.key (slot_node q t (v.used t)) ≡ target l.call → At q t vs first now v done l
-  at7 : l.pc ≡ 7 → done ≡ false → Window v t l → Adding v t q l.curr l.call
-      → v.key (slot_node q t (v.used t)) ≡ target l.call
+  at7 : l.pc ≡ 7 → done ≡ false → Window v t l → Adding v t q l.curr l.call → v.key (slot_node q t (v.used t)) ≡ target l.call
       → v.link (slot_node q t (v.used t)) ≡ 2 * l.curr → At q t vs first now v done l
-  at8 : l.pc ≡ 8 → done ≡ false → Window v t l → Removing v l.curr l.call
-      → At q t vs first now v done l
-  at9 : l.pc ≡ 9 → done ≡ false → Window v t l → Removing v l.curr l.call
-      → v.link l.curr / 2 ≡ l.succ → At q t vs first now v done l
+  at8 : l.pc ≡ 8 → done ≡ false → Window v t l → Removing v l.curr l.call → At q t vs first now v done l
+  at9 : l.pc ≡ 9 → done ≡ false → Window v t l → Removing v l.curr l.call → v.link l.curr / 2 ≡ l.succ → At q t vs first now v done l
   at10 : l.pc ≡ 10 → v.list_lock ≡ t + 1 → (r : Reply) → l.reply ≡ Some r → Due done q vs first now t l.call r
       → At q t vs first now v done l
 
 -- what the others leave of it
 segment_same : (v w : View) → w.link ≡ v.link → (i j : ℕ) (ns : List ℕ) → Segment v i ns j → Segment w i ns j
 segment_same v w e i j [] x = x
-segment_same v w e i j (a ∷ ns) x = (
-  x.0,
-  x.1,
-  segment_same v w e (w.link i / 2) j ns (subst (λ (f : ℕ → ℕ). Segment v (f i / 2) ns j) (sym e) x.2),
-)
+segment_same v w e i j (a ∷ ns) x = (x.0, x.1, segment_same v w e (w.link i / 2) j ns (rw e x.2))
 
 module _ (q t : ℕ) (vs : ℕ → View) (first now : ℕ) (v w : View) (done : Bool) (l : Local) (r : v.list_lock ≡ t + 1 → Same v w) where
   module _ (x : Window v t l) where
@@ -108,39 +99,33 @@ module _ (q t : ℕ) (vs : ℕ → View) (first now : ℕ) (v w : View) (done : 
     window_same = record {
       mine = s.list_lock ∙ x.mine;
       at = (x.at.0, segment_same v w s.links 0 l.pred x.at.0 x.at.1);
-      follows = ap (λ (f : ℕ → ℕ). f l.pred) s.links ∙ x.follows;
-      below = subst (λ (f : ℕ → ℕ). f l.pred < target l.call) (sym s.keys) x.below;
+      follows = rw s.links x.follows;
+      below = rw s.keys x.below;
     }
 
     adding_same : Adding v t q l.curr l.call → Adding w t q l.curr l.call
-    adding_same a = record {
-      call = a.call;
-      room = subst (λ (f : ℕ → ℕ). f t < q) (sym s.used) a.room;
-      above = subst (λ (f : ℕ → ℕ). target l.call < f l.curr) (sym s.keys) a.above;
-    }
+    adding_same a = record { call = a.call; room = rw s.used a.room; above = rw s.keys a.above }
 
     removing_same : Removing v l.curr l.call → Removing w l.curr l.call
-    removing_same a = record { call = a.call; found = ap (λ (f : ℕ → ℕ). f l.curr) s.keys ∙ a.found }
+    removing_same a = record { call = a.call; found = rw s.keys a.found }
 
     own_key_same : v.key (slot_node q t (v.used t)) ≡ target l.call → w.key (slot_node q t (w.used t)) ≡ target l.call
-    own_key_same e = ap (λ (f : ℕ → ℕ). w.key (slot_node q t (f t))) s.used
-        ∙ ap (λ (f : ℕ → ℕ). f (slot_node q t (v.used t))) s.keys ∙ e
+    own_key_same e = rw (s.used, s.keys) e
 
     own_link_same : v.link (slot_node q t (v.used t)) ≡ 2 * l.curr → w.link (slot_node q t (w.used t)) ≡ 2 * l.curr
-    own_link_same e = ap (λ (f : ℕ → ℕ). w.link (slot_node q t (f t))) s.used
-        ∙ ap (λ (f : ℕ → ℕ). f (slot_node q t (v.used t))) s.links ∙ e
+    own_link_same e = rw (s.used, s.links) e
 
   stays : At q t vs first now v done l → At q t vs first (suc now) w done l
   stays (at0 e) = at0 e
   stays (at1 e d) = at1 e d
   stays (at2 e d h) = at2 e d ((r h).list_lock ∙ h)
   stays (at3 e d x) = at3 e d (window_same x)
-  stays (at4 e d x h) = at4 e d (window_same x) (subst (λ (f : ℕ → ℕ). f l.curr < target l.call) (sym (r x.mine).keys) h)
+  stays (at4 e d x h) = at4 e d (window_same x) (rw (r x.mine).keys h)
   stays (at5 e d x a) = at5 e d (window_same x) (adding_same x a)
   stays (at6 e d x a h) = at6 e d (window_same x) (adding_same x a) (own_key_same x h)
   stays (at7 e d x a h i) = at7 e d (window_same x) (adding_same x a) (own_key_same x h) (own_link_same x i)
   stays (at8 e d x a) = at8 e d (window_same x) (removing_same x a)
-  stays (at9 e d x a h) = at9 e d (window_same x) (removing_same x a) (ap (λ (f : ℕ → ℕ). f l.curr / 2) (r x.mine).links ∙ h)
+  stays (at9 e d x a h) = at9 e d (window_same x) (removing_same x a) (rw (r x.mine).links h)
   stays (at10 e h y z due) = at10 e ((r h).list_lock ∙ h) y z (due_on done q vs first now t l.call y due)
 
 module _ (sz : Sizes) (t : ℕ) (vs : ℕ → View) (first now : ℕ) (ws : List ℕ) (used : ℕ → ℕ) (done : Bool) (l : Local)
@@ -222,12 +207,8 @@ module _ (sz : Sizes) (t : ℕ) (vs : ℕ → View) (first now : ℕ) (ws : List
       let head : node_key ws 0 ≡ 0 = M.head_key in
       let w : Walking V (t + 1) (target l.call) 0 (s / 2) = walks 0 mine ([], refl) (omega arith) in
       passes (Load (link_index 0)) ws (record l { pc = 3; pred = 0; curr = s / 2 })
-      (rw e refl) (rw e refl) (rw e refl) (alone mine (reads (link_index 0) (omega arith))) (
-        keep_walk sz t 3 0 (s / 2) l (omega arith) (chain_in false sz ws used M (s / 2) (curr_at w)) regs,
-        refl,
-        refl,
-        λ x. omega arith,
-      )
+      (rw e refl) (rw e refl) (rw e refl) (alone mine (reads (link_index 0) (omega arith)))
+      (keep_walk sz t 3 0 _ l (omega arith) (chain_in false sz ws used M _ (curr_at w)) regs, refl, refl, λ x. omega arith)
       (at3 refl d w)
   go (at3 e d w) busy =
       let k : ℕ = target l.call in let s : ℕ = node_key ws l.curr in
@@ -237,8 +218,7 @@ module _ (sz : Sizes) (t : ℕ) (vs : ℕ → View) (first now : ℕ) (ws : List
       let tail : node_key ws 1 ≡ tail_word = M.tail_key in
       let small : s ≤ tail_word = omega arith in
       let a = Load (key_index l.curr) in
-      let read : LeavesHolder sz t ws used (Load (key_index l.curr)) ws used None =
-      alone w.mine (reads (key_index l.curr) (omega arith)) in
+      let read : LeavesHolder sz t ws used a ws used None = alone w.mine (reads (key_index l.curr) (omega arith)) in
       elim (below_or_not s k) [
         | inl lt ↦
             (let on = if_below s k lt (record l0 { pc = 4 }) (decided_on targets s l0) in
@@ -264,12 +244,8 @@ module _ (sz : Sizes) (t : ℕ) (vs : ℕ → View) (first now : ℕ) (ws : List
       let s : ℕ = node_link ws l.curr in let inn : l.curr < node_count sz = regs.curr in
       let next : Walking V (t + 1) (target l.call) l.curr (s / 2) = walks l.curr w.mine (curr_at w) lt in
       passes (Load (link_index l.curr)) ws (record l { pc = 3; pred = l.curr; curr = s / 2 })
-      (rw e refl) (rw e refl) (rw e refl) (alone w.mine (reads (link_index l.curr) (omega arith))) (
-        keep_walk sz t 3 l.curr (s / 2) l regs.curr (chain_in false sz ws used M (s / 2) (curr_at next)) regs,
-        refl,
-        refl,
-        λ x. omega arith,
-      )
+      (rw e refl) (rw e refl) (rw e refl) (alone w.mine (reads (link_index l.curr) (omega arith)))
+      (keep_walk sz t 3 l.curr _ l regs.curr (chain_in false sz ws used M _ (curr_at next)) regs, refl, refl, λ x. omega arith)
       (at3 refl d next)
   go (at5 e d w a) busy =
       let o : ℕ = own_of sz.quota t used in let k : ℕ = target l.call in
@@ -302,14 +278,10 @@ module _ (sz : Sizes) (t : ℕ) (vs : ℕ → View) (first now : ℕ) (ws : List
       (at10 refl (list_lock_after_link ws l.pred x ∙ w.mine) True refl refl)
   go (at8 e d w a) busy =
       let s : ℕ = node_link ws l.curr in let inn : l.curr < node_count sz = regs.curr in
+      let next = M.ordered.next_published l.curr (curr_published w) (found_no_tail M a regs.low) in
       passes (Load (link_index l.curr)) ws (record l { pc = 9; succ = s / 2 })
-      (rw e refl) (rw e refl) (rw e refl) (alone w.mine (reads (link_index l.curr) (omega arith))) (
-        keep_succ sz t 9 (s / 2) l.reply l (inside false sz ws used M (s / 2)
-            (M.ordered.next_published l.curr (curr_published w) (found_no_tail M a regs.low))) regs,
-        refl,
-        refl,
-        λ x. omega arith,
-      )
+      (rw e refl) (rw e refl) (rw e refl) (alone w.mine (reads (link_index l.curr) (omega arith)))
+      (keep_succ sz t 9 (s / 2) l.reply l (inside false sz ws used M _ next) regs, refl, refl, λ x. omega arith)
       (at9 refl d w a refl)
   go (at9 e d w a next) busy =
       let x : ℕ = 2 * l.succ in

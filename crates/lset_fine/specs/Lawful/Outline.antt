@@ -7,7 +7,7 @@ use Rattle.lset_words.specs.declared.Reply.{Reply}
 use Rattle.lset_words.specs.declared.Reply.TheVariants.{True}
 use Rattle.lset_steps.specs.declared.Local.{Local}
 use Rattle.lset_steps.specs.declared.Action.TheVariants.{Load, Store}
-use Rattle.lset_steps.specs.Chain.{View, view, node_key, node_link, node_lock}
+use Rattle.lset_steps.specs.Chain.{View, view, node_key, node_link}
 use Rattle.lset_steps.specs.Laws.{Registers, Due}
 use Rattle.lset_steps.proofs.Memory.{Memory, own_of, one_more, one_more_same, link_wrote, key_wrote, lock_wrote, own_in, inside}
 use Rattle.lset_steps.proofs.AfterWrite.{lock_after_link, lock_after_lock, key_after_lock, key_after_link}

@@ -11,7 +11,7 @@ use Rattle.lset_steps.specs.Chain.{View, view, node_key, node_link, node_lock}
 use Rattle.lset_steps.specs.Laws.{Registers, Due}
 use Rattle.lset_steps.proofs.Memory.{Memory, own_of, one_more, one_more_same, own_in, goes_on, link_wrote}
 use Rattle.lset_steps.proofs.Memory.{key_wrote, lock_wrote}
-use Rattle.lset_steps.proofs.AfterWrite.{lock_after_link, key_after_link, lock_after_lock}
+use Rattle.lset_steps.proofs.AfterWrite.{key_after_link, lock_after_lock}
 use Rattle.lset_steps.proofs.Rely.{Rely}
 use Rattle.lset_steps.proofs.Discipline.{Here, Thread}
 use Rattle.lset_steps.proofs.Replies.{Adding, Removing, removing_kept, registers_begun, keep_more, keep, keep_ckey, keep_succ, keep_walk}

@@ -52,8 +52,7 @@ Neighbours v t l = Between v t (target l.call) l.pred l.curr × (l.node ≡ l.pr
 pub data At (q t : ℕ) (vs : ℕ → View) (first now : ℕ) (v : View) (done : Bool) (l : Local) : Type 0 where
   at0 : l.pc ≡ 0 → At q t vs first now v done l
   at1 : l.pc ≡ 1 → done ≡ false → At q t vs first now v done l
-  at2 : l.pc ≡ 2 → done ≡ false → Spot v (target l.call) l.pred l.curr → v.key l.pred ≡ l.pkey
-      → At q t vs first now v done l
+  at2 : l.pc ≡ 2 → done ≡ false → Spot v (target l.call) l.pred l.curr → v.key l.pred ≡ l.pkey → At q t vs first now v done l
   at3 : l.pc ≡ 3 → done ≡ false → v.published l.curr → v.key l.curr ≡ l.ckey → l.ckey < target l.call
       → At q t vs first now v done l
   at4 : l.pc ≡ 4 → done ≡ false → Window v l → At q t vs first now v done l
@@ -145,14 +144,6 @@ module _ (sz : Sizes) (t : ℕ) (vs : ℕ → View) (first now : ℕ) (ws : List
   own_is : own_slot l ≡ own_of sz.quota t used
   own_is = rw (th.registers.thread, th.registers.quota, th.counts) refl
 
-  go_14 : l.pc ≡ 14 → node_lock ws l.pred ≡ t + 1 → node_lock ws l.curr ≡ t + 1 → l.curr ≢ l.pred
-      → Outcome done sz.quota vs first now t l.call l.reply → Goal
-  go_14 e pred curr apart o =
-      passes (Store (lock_index l.pred) 0) (slice_set ws (lock_index l.pred) 0) (record l { pc = 15 })
-      (rw e refl) (rw e refl) (rw e refl) (frees l.pred regs.pred pred)
-      (keep sz t 15 l.reply l regs, refl, refl, λ x. omega arith)
-      (at15 refl (lock_after_lock ws l.pred 0 l.curr apart ∙ curr) (outcome_on done sz.quota vs first now t l.call l.reply o))
-
   go_15 : l.pc ≡ 15 → node_lock ws l.curr ≡ t + 1 → (r : Option Reply) → l.reply ≡ r
       → Outcome done sz.quota vs first now t l.call r → Goal
   go_15 e mine None y o =
@@ -169,14 +160,10 @@ module _ (sz : Sizes) (t : ℕ) (vs : ℕ → View) (first now : ℕ) (ws : List
   go : At sz.quota t vs first now (view sz ws used) done l → l.pc ≢ 0 → Goal
   go (at0 e) busy = absurd (busy e)
   go (at1 e d) busy =
-      let s : ℕ = node_link ws 0 in
+      let s : ℕ = node_link ws 0 in let next : s / 2 < node_count sz = next_inside M 0 M.ordered.head_published in
       passes (Load (link_index 0)) ws (record l { pc = 2; pred = 0; pkey = 0; curr = s / 2 })
-      (rw e refl) (rw e refl) (rw e refl) (reads_word (link_index 0) (omega arith)) (
-        keep_passed sz t 2 0 0 (s / 2) l (omega arith) (omega arith) (next_inside M 0 M.ordered.head_published) regs,
-        refl,
-        refl,
-        λ x. omega arith,
-      )
+      (rw e refl) (rw e refl) (rw e refl) (reads_word (link_index 0) (omega arith))
+      (keep_passed sz t 2 0 0 (s / 2) l (omega arith) (omega arith) next regs, refl, refl, λ x. omega arith)
       (at2 refl d (spot_behind_head M (omega arith)) M.head_key)
   go (at2 e d x k) busy =
       let key : ℕ = target l.call in let s : ℕ = node_key ws l.curr in
@@ -198,23 +185,17 @@ module _ (sz : Sizes) (t : ℕ) (vs : ℕ → View) (first now : ℕ) (ws : List
             (at4 refl d (record { found = record { spot = x; is = refl; above = ge }; low = k })))
       ]
   go (at3 e d c k lt) busy =
-      let s : ℕ = node_link ws l.curr in
-      let inn : l.curr < node_count sz = regs.curr in
-      let below : node_key ws l.curr < target l.call = omega arith in
+      let s : ℕ = node_link ws l.curr in let next : s / 2 < node_count sz = next_inside M l.curr c in
+      let inn : l.curr < node_count sz = regs.curr in let below : node_key ws l.curr < target l.call = omega arith in
       passes (Load (link_index l.curr)) ws (record l { pc = 2; pred = l.curr; pkey = l.ckey; curr = s / 2 })
-      (rw e refl) (rw e refl) (rw e refl) (reads_word (link_index l.curr) (omega arith)) (
-        keep_passed sz t 2 l.curr l.ckey (s / 2) l regs.curr regs.ckey (next_inside M l.curr c) regs,
-        refl,
-        refl,
-        λ x. omega arith,
-      )
+      (rw e refl) (rw e refl) (rw e refl) (reads_word (link_index l.curr) (omega arith))
+      (keep_passed sz t 2 l.curr l.ckey (s / 2) l regs.curr regs.ckey next regs, refl, refl, λ x. omega arith)
       (at2 refl d (spot_behind M l.curr c below) k)
   go (at4 e d f) busy = tries (locks_nodes false) l.pred (record l { pc = 5 }) (record l { pc = 4 }) regs.pred
       (rw (e, regs.thread) refl) (rw e refl) (rw e refl)
       (keep sz t 5 l.reply l regs, refl, refl, λ x. omega arith)
       (keep sz t 4 l.reply l regs, refl, refl, λ x. omega arith)
-      (λ free.
-      at5 refl d (reached_kept (keeps_locked M tn l.pred regs.pred free) f)
+      (λ free. at5 refl d (reached_kept (keeps_locked M tn l.pred regs.pred free) f)
       (lock_wrote false sz ws used M l.pred (t + 1) regs.pred))
       (at4 refl d f)
   go (at5 e d f p) busy =
@@ -230,10 +211,7 @@ module _ (sz : Sizes) (t : ℕ) (vs : ℕ → View) (first now : ℕ) (ws : List
             (rw (e, regs.thread) refl) (rw (e, is) refl) (rw e refl)
             (keep_node sz t 8 0 l (omega arith) regs, refl, refl, λ x. omega arith)
             (keep sz t 5 l.reply l regs, refl, refl, λ x. omega arith)
-            (λ free.
-            let s = leaves_locked M tn l.curr free in
-            let g = keeps_locked M tn l.curr regs.curr free in
-            at8 refl d (reached_kept g f) mine
+            (λ free. let s = leaves_locked M tn l.curr free in at8 refl d (reached_kept (keeps_locked M tn l.curr regs.curr free) f) mine
             (held_on s (subst (Held V t) (sym z) (head_held M.ordered.head_published (subst (λ x. node_lock ws x ≡ t + 1) z p))))
             (sym z))
             (at5 refl d f p))
@@ -243,18 +221,13 @@ module _ (sz : Sizes) (t : ℕ) (vs : ℕ → View) (first now : ℕ) (ws : List
             (rw (e, regs.thread) refl) (rw (e, is) refl) (rw e refl)
             (keep_node sz t 6 0 l (omega arith) regs, refl, refl, λ x. omega arith)
             (keep sz t 5 l.reply l regs, refl, refl, λ x. omega arith)
-            (λ free.
-            let s = leaves_locked M tn l.curr free in
-            let g = keeps_locked M tn l.curr regs.curr free in
-            at6 refl d (reached_kept g f) mine
-            (let k0 = s.keys 0 M.ordered.head_published in omega arith) (suc now)
-            (let g : first ≤ now = th.begun in omega arith)
+            (λ free. let s = leaves_locked M tn l.curr free in at6 refl d (reached_kept (keeps_locked M tn l.curr regs.curr free) f) mine
+            (let k0 = s.keys 0 M.ordered.head_published in omega arith) (suc now) (let g : first ≤ now = th.begun in omega arith)
             (second_walk_begins vs (suc now) (s.locks l.pred p) f.found.spot.pred_published M.ordered.head_published))
             (at5 refl d f p))
       ]
   go (at6 e d f c k start g x) busy =
-      let s : ℕ = node_link ws l.node in
-      let inn : l.node < node_count sz = regs.node in
+      let s : ℕ = node_link ws l.node in let inn : l.node < node_count sz = regs.node in
       let pkey : node_key ws l.pred ≡ l.pkey = f.low in let pred : node_key ws l.pred < target l.call = f.found.spot.below in
       let below : node_key ws l.node < target l.call = omega arith in
       passes (Load (link_index l.node)) ws (record l { pc = 7; node = s / 2 })
@@ -263,8 +236,7 @@ module _ (sz : Sizes) (t : ℕ) (vs : ℕ → View) (first now : ℕ) (ws : List
       (at7 refl d f c start g
       (second_walk_goes vs h.present h.course M.ordered (inner false sz ws used M l.node (target l.call) below regs.low) x))
   go (at7 e d f c start g x) busy =
-      let s : ℕ = node_key ws l.node in
-      let inn : l.node < node_count sz = regs.node in
+      let s : ℕ = node_key ws l.node in let inn : l.node < node_count sz = regs.node in
       let past : Local = record l { pc = 14; reply = None } in
       let there : Local = record l { pc = 8 } in let on : Local = record l { pc = 6 } in
       let read : LockedStep false sz t ws used (Load (key_index l.node)) ws used None =
@@ -286,8 +258,7 @@ module _ (sz : Sizes) (t : ℕ) (vs : ℕ → View) (first now : ℕ) (ws : List
                   (let at = if_same l.node l.pred a there on in
                   passes (Load (key_index l.node)) ws there (rw e refl) (rw (e, is, at) refl) (rw e refl) read
                   (keep sz t 8 l.reply l regs, refl, refl, λ y. omega arith)
-                  (at8 refl d f c
-                  (held_from M x.mine (second_walk_arrives vs h.present a x)) a))
+                  (at8 refl d f c (held_from M x.mine (second_walk_arrives vs h.present a x)) a))
               | inr a ↦
                   (let at = if_other l.node l.pred a there on in
                   passes (Load (key_index l.node)) ws on (rw e refl) (rw (e, is, at) refl) (rw e refl) read
@@ -296,35 +267,30 @@ module _ (sz : Sizes) (t : ℕ) (vs : ℕ → View) (first now : ℕ) (ws : List
             ])
       ]
   go (at8 e d f c x a) busy =
-      let s : ℕ = node_link ws l.pred in
-      let inn : l.pred < node_count sz = regs.pred in
+      let s : ℕ = node_link ws l.pred in let inn : l.pred < node_count sz = regs.pred in
       let past : Local = record l { pc = 14; reply = None } in
-      let l8 : Local = record l { pc = 8 } in
-      let decided : Local = decided_on targets l.ckey l8 in
-      let read : LockedStep false sz t ws used (Load (link_index l.pred)) ws used None =
-      reads_word (link_index l.pred) (omega arith) in
+      let l8 : Local = record l { pc = 8 } in let decided : Local = decided_on targets l.ckey l8 in
+      let a' = Load (link_index l.pred) in
+      let read : LockedStep false sz t ws used a' ws used None = reads_word (link_index l.pred) (omega arith) in
       let apart = found_apart f.found in
       elim (same_or_not (s / 2) l.curr) [
         | inr z ↦
             (let is = if_other (s / 2) l.curr z decided past in
-            passes (Load (link_index l.pred)) ws past (rw e refl) (rw (e, is) refl) (rw e refl) read
+            passes a' ws past (rw e refl) (rw (e, is) refl) (rw e refl) read
             (keep sz t 14 None l regs, refl, refl, λ y. omega arith)
             (at14 refl x.mine c apart (λ y. x.at) d))
         | inl z ↦
             (let is = if_same (s / 2) l.curr z decided past in
             let made = decision M l8 tn (keep sz t 8 l.reply l regs) th.counts f c x z in
             elim made.1 [
-              | inl r ↦ passes (Load (link_index l.pred)) ws (goes_to 14 (Some r.0) l8)
-                  (rw e refl) (rw (e, is ∙ r.1) refl) (rw e refl) read
+              | inl r ↦ passes a' ws (goes_to 14 (Some r.0) l8) (rw e refl) (rw (e, is ∙ r.1) refl) (rw e refl) read
                   (keep sz t 14 (Some r.0) l regs, refl, refl, λ y. omega arith)
                   (at14 refl x.mine c apart (λ y. x.at)
                   (due_now done sz.quota vs first now t V l.call r.0 d th.begun h.present r.2))
               | inr y ↦ elim y [
-                | inl r ↦ passes (Load (link_index l.pred)) ws (goes_to 9 None l8)
-                    (rw e refl) (rw (e, is ∙ r.0) refl) (rw e refl) read
+                | inl r ↦ passes a' ws (goes_to 9 None l8) (rw e refl) (rw (e, is ∙ r.0) refl) (rw e refl) read
                     (keep sz t 9 None l regs, refl, refl, λ y. omega arith) (at9 refl d (made.0, a) r.1)
-                | inr r ↦ passes (Load (link_index l.pred)) ws (goes_to 12 None l8)
-                    (rw e refl) (rw (e, is ∙ r.0) refl) (rw e refl) read
+                | inr r ↦ passes a' ws (goes_to 12 None l8) (rw e refl) (rw (e, is ∙ r.0) refl) (rw e refl) read
                     (keep sz t 12 None l regs, refl, refl, λ y. omega arith) (at12 refl d (made.0, a) r.1)
               ]
             ])
@@ -371,7 +337,11 @@ module _ (sz : Sizes) (t : ℕ) (vs : ℕ → View) (first now : ℕ) (ws : List
       (keep sz t 14 (Some True) l regs) refl th.counts (λ x. omega arith)
       (at14 refl (lock_after_link ws l.pred x l.pred ∙ b.0.walk.held.mine) (lock_after_link ws l.pred x l.curr ∙ b.0.mine)
       (curr_is_not_pred M b.0.walk) (λ y. stays_behind M x used b.0.walk.held.at) refl)
-  go (at14 e p c x i o) busy = go_14 e p c x o
+  go (at14 e p c x i o) busy =
+      passes (Store (lock_index l.pred) 0) (slice_set ws (lock_index l.pred) 0) (record l { pc = 15 })
+      (rw e refl) (rw e refl) (rw e refl) (frees l.pred regs.pred p)
+      (keep sz t 15 l.reply l regs, refl, refl, λ y. omega arith)
+      (at15 refl (lock_after_lock ws l.pred 0 l.curr x ∙ c) (outcome_on done sz.quota vs first now t l.call l.reply o))
   go (at15 e c o) busy = go_15 e c l.reply refl o
 
 pub optimistic_follows : Follows optimistic (node_locks false) At

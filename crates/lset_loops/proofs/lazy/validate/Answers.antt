@@ -1,3 +1,4 @@
+-- Where a load shows that they are no neighbours, both locks are given back (row 13); else the call goes on: row 7, decision.
 use Rattle.std.proofs.Common.{◌*◌, ◌%◌, None, refl, ap, sym}
 use Rattle.lset_words.proofs.Numbers.{if_same, if_other}
 use Rattle.lset_steps.specs.Rows.{decided_on}

@@ -1,3 +1,4 @@
+-- `deed` says to which row the decision leads (9, 12 or 14), and `moved` that the thread is there; the steps from it compute.
 use Rattle.std.proofs.Common.{◌*◌, refl, ap}
 use Rattle.lset_words.specs.Words.{link_index}
 use Rattle.lset_steps.specs.declared.Action.TheVariants.{Store}

@@ -19,10 +19,9 @@ pub returns-then-node-pred : goal.returns-then-node-pred
 returns-then-node-pred g c =
     let at = c.load_key-word.ensures.leads _ (c.load_link-link.ensures.leads _ c.loop-round.invariant.1) in
     let low : c.load_key-word.result ≤ c.args.stopped.before = omega arith in
-    let at' = moved at (if_not_below c.args.stopped.before c.load_key-word.result low _ _) in (
+    let at' = moved at (if_not_below _ _ low _ _) in (
       record c.loop-round.invariant.0 { node = c.load_link-link.result / 2; pkey = c.args.stopped.before },
-      moved at' (if_same (c.load_link-link.result / 2) c.args.stopped.found.pred.number (sym c.behind-node.ensures
-          ∙ c.if-node-pred.true) _ _),
+      moved at' (if_same (c.load_link-link.result / 2) _ (sym c.behind-node.ensures ∙ c.if-node-pred.true) _ _),
     )
 
 pub loop-round-preserved : goal.loop-round-preserved

@@ -6,8 +6,7 @@ use Rattle.lset_loops.proofs.optimistic.validate.Goals as goal
 pub returns-then-link-found : goal.returns-then-link-found
 returns-then-link-found g c = let at8 = rw c.if-not-branch.false at c.in_ok-reaches.ensures in (
   _,
-  moved (c.load_link-link.ensures.leads _ at8.1) (if_other (c.load_link-link.result / 2) c.args.stopped.found.curr.number
-      c.if-link-found.true _ _),
+  moved (c.load_link-link.ensures.leads _ at8.1) (if_other (c.load_link-link.result / 2) _ c.if-link-found.true _ _),
 )
 
 pub returns-then-not-branch : goal.returns-then-not-branch
@@ -16,6 +15,5 @@ returns-then-not-branch g c = rw c.if-not-branch.true at c.in_ok-reaches.ensures
 pub returns : goal.returns
 returns g c = let at8 = rw c.if-not-branch.false at c.in_ok-reaches.ensures in (
   at8.0,
-  moved (c.load_link-link.ensures.leads _ at8.1) (if_same (c.load_link-link.result / 2) c.args.stopped.found.curr.number
-      c.if-link-found.false _ _),
+  moved (c.load_link-link.ensures.leads _ at8.1) (if_same (c.load_link-link.result / 2) _ c.if-link-found.false _ _),
 )

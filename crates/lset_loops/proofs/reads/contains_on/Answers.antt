@@ -99,7 +99,6 @@ loop-curr-smaller g c =
     let lt : n < target b.call =
     omega (arith, c.new-caller.result.is_key, c.if-word-target.false, c.if-word-target-2.false, ap target (ap (λ b. b.call) c.new-caller.ensures.origin)) in
     let at = c.look_at_key-word.ensures.told _ c.loop-curr.invariant _ (below m laws b c.new-caller.result.slots _ n lt) in
-    falls m g.met.M.Machine.lawful g.met.M.OpenReads.reads b c.args.key (ap (λ b. b.call) c.new-caller.ensures.origin) _ _ _ c.loop-curr.place
-    c.look_at_key-word.new.place c.look_at_link-link.new.place n c.look_at_link-link.result c.loop-curr.invariant
-    c.look_at_key-word.ensures.goes at c.look_at_link-link.ensures.goes
-    (c.look_at_link-link.ensures.told _ at _ (fed_20 m laws b c.new-caller.result.slots _ c.look_at_link-link.result))
+    falls m g.met.M.Machine.lawful g.met.M.OpenReads.reads b _ (ap (λ b. b.call) c.new-caller.ensures.origin) _ _ _ c.loop-curr.place
+    _ _ n _ c.loop-curr.invariant c.look_at_key-word.ensures.goes at c.look_at_link-link.ensures.goes
+    (c.look_at_link-link.ensures.told _ at _ (fed_20 m laws b c.new-caller.result.slots _ _))

@@ -9,22 +9,19 @@ use Rattle.lset_rule.proofs.interpreter.interpret_read.Goals as goal
 
 pub next-requires : goal.next-requires
 next-requires g c = let low : target (Contains c.args.key) < tail_word = search rules in
-    first_reached g.M.Machine.table g.met.M.Machine.lawful (Contains c.args.key) low c.args.place.now.me.0 c.args.slots
-    c.resting.result c.begin-begun.result c.requires.stands c.requires.idle c.requires.slots c.resting.ensures
-    c.begin-begun.ensures
+    first_reached _ g.met.M.Machine.lawful (Contains _) low _ _
+    _ _ c.requires.stands c.requires.idle c.requires.slots c.resting.ensures c.begin-begun.ensures
 
 pub loop-fed-init : goal.loop-fed-init
 loop-fed-init g c = (
-  first_comes g.M.Machine.table g.met.M.Machine.lawful (Contains c.args.key) c.args.place.now.me.0 c.start_on-seen.result
-      c.start_on-seen.new.place.me.0 c.args.slots c.resting.result c.begin-begun.result c.feed-fed.result
+  first_comes _ g.met.M.Machine.lawful (Contains _) _ _ _ _ _ _ _
       c.start_on-seen.ensures.starts c.requires.slots c.resting.ensures c.begin-begun.ensures c.feed-fed.ensures,
   c.start_on-seen.ensures.place,
 )
 
 pub one_step-requires : goal.one_step-requires
 one_step-requires g c = let none : c.loop-fed.fed.answer ≡ None = search rules in
-    may_step g.M.Machine.table g.met.M.Machine.lawful (Contains c.args.key) c.args.table.now.table_id c.args.table.now.key
-    c.args.slots c.args.place.now c.loop-fed.place c.loop-fed.fed c.requires c.loop-fed.invariant none
+    may_step _ g.met.M.Machine.lawful (Contains _) _ _ _ _ c.loop-fed.place c.loop-fed.fed c.requires c.loop-fed.invariant none
 
 pub loop-fed-smaller : goal.loop-fed-smaller
 loop-fed-smaller g c = let T = g.M.Machine.table in
@@ -42,6 +39,5 @@ pub returns-in-Some : goal.returns-in-Some
 returns-in-Some g c = record {
   place = c.loop-fed.invariant.1;
   slots = c.of.ensures ∙ ap slots_of (sym c.loop-fed.invariant.0.0);
-  made = made g.M.Machine.table (Contains c.args.key) c.args.place.now.me.0 c.loop-fed.place.me.0 c.loop-fed.fed c.in-Some.reply
-      c.loop-fed.invariant.0 c.in-Some.is;
+  made = made _ (Contains _) _ c.loop-fed.place.me.0 c.loop-fed.fed c.in-Some.reply c.loop-fed.invariant.0 c.in-Some.is;
 }

@@ -27,9 +27,8 @@ loop-worker-preserved g c =
     let made : IsMadeOn w.promise.seat.value.past w.promise.program.value.items c.in_ok-done.field-0.items
     c.join-done.result.seat.past = search rules in
     record {
-      so_far = one_more c.args.set.now _ _ _ _ _ _ w c.loop-worker.seat c.loop-worker.replies.items _ c.in_ok-done.field-0
-          c.join-done.result.seat
-          c.gather_onto.result step c.in-Ok.ensures.items inv.so_far made back.1 told.record told.held told.seat back.3
+      so_far = one_more _ _ _ _ _ _ _ w c.loop-worker.seat c.loop-worker.replies.items _ c.in_ok-done.field-0
+          c.join-done.result.seat _ step c.in-Ok.ensures.items inv.so_far made back.1 told.record told.held told.seat back.3
           told.events.0 told.events.1;
       started = (all_rest _ _ w (λ x. x.promise.set.value ≡ c.args.set.now) step inv.started).1;
       gated = (all_rest _ _ w (λ x. x.promise.gate.value ≡ c.args.gate.now) step inv.gated).1;

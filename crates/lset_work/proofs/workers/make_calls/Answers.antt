@@ -12,8 +12,7 @@ loop-number-preserved g c =
     record {
       set = told.of_set;
       held = told.held ∙ inv.held;
-      later = starts_on c.call-reply.new.seat.events c.loop-number.seat.events c.args.seat.now.events
-          (answered_on _ _ _ _ _ _ _ told.answered) inv.later;
+      later = starts_on _ c.loop-number.seat.events _ (answered_on _ _ _ _ _ _ _ told.answered) inv.later;
       each = omega (
         arith,
         inv.each,
@@ -21,7 +20,6 @@ loop-number-preserved g c =
         length-append c.loop-number.replies.items (c.call-reply.result ∷ []),
       );
       room = grind (arith, common_steps);
-      made = call_at _ _ _ items c.loop-number.replies.items _ c.loop-number.number _ c.call-reply.result c.loop-number-test.true
-          inv.each
+      made = call_at _ _ _ items c.loop-number.replies.items _ c.loop-number.number _ _ c.loop-number-test.true inv.each
           c.in-Ok.ensures.items inv.made told.past;
     }

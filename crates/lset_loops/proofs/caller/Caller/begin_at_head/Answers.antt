@@ -4,13 +4,11 @@ use Rattle.lset_loops.proofs.Calling.{of_table_first, acts_first, begins_holding
 use Rattle.lset_loops.proofs.caller.Caller.begin_at_head.Goals as goal
 
 pub start_on-seen-requires-clause-place : goal.start_on-seen-requires-clause-place
-start_on-seen-requires-clause-place g c = of_table_first g.M.Machine.table c.args.self.now.origin _ _ _ c.args.self.now.slots
-    c.args.place.now c.args.self.now.is_call c.requires.begins
+start_on-seen-requires-clause-place g c = of_table_first _ _ _ _ _ _ _ c.args.self.now.is_call c.requires.begins
 
 pub start_on-seen-requires-clause-action : goal.start_on-seen-requires-clause-action
-start_on-seen-requires-clause-action g c = ap Load c.link_index.ensures
-    ∙ acts_first g.M.Machine.table g.met.M.Machine.lawful c.args.self.now.origin c.args.self.now.slots c.args.place.now
-    c.args.self.now.call _ c.args.self.now.is_call.0 c.requires.begins c.requires.acts
+start_on-seen-requires-clause-action g c = ap Load c.link_index.ensures ∙ acts_first _ g.met.M.Machine.lawful _ _ _
+    _ _ c.args.self.now.is_call.0 c.requires.begins c.requires.acts
 
 pub returns : goal.returns
 returns g c = begins_holding g.M.Machine.table g.met.M.Machine.lawful c.args.self.now.origin c.args.self.now.slots c.args.place.now _

@@ -2,5 +2,4 @@ use Rattle.lset_loops.proofs.Calling.{of_table}
 use Rattle.lset_loops.proofs.caller.Caller.release_last.Goals as goal
 
 pub step_on-requires-clause-place : goal.step_on-requires-clause-place
-step_on-requires-clause-place g c = of_table g.M.Machine.table c.args.self.now.origin _ _ _ c.args.self.now.is_call _ c.args.place.now
-    c.requires.holds
+step_on-requires-clause-place g c = of_table _ _ _ _ _ c.args.self.now.is_call _ _ c.requires.holds

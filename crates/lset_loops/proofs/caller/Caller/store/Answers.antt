@@ -11,5 +11,4 @@ returns g c = rw (c.step_on.ensures.stored _ _ refl) at (leads g.M.Machine.table
     c.step_on.ensures.goes)
 
 pub step_on-requires-clause-place : goal.step_on-requires-clause-place
-step_on-requires-clause-place g c = of_table g.M.Machine.table c.args.self.now.origin _ _ _ c.args.self.now.is_call _ c.args.place.now
-    c.requires.holds
+step_on-requires-clause-place g c = of_table _ _ _ _ _ c.args.self.now.is_call _ _ c.requires.holds
