@@ -14,7 +14,7 @@ use Rattle.lset_judge.specs.Events.{until_if}
 use Rattle.lset_judge.specs.Verdict.{is_plain}
 use Rattle.lset_judge.specs.Stream.{behind_all, pending_of, IsBefore, ArePending, MayCome, moment_of}
 use Rattle.lset_judge.specs.Judge.{IsJudgeOf}
-use Rattle.lset_judge.proofs.Coming.{comes}
+use Rattle.lset_judge.proofs.Reread.{comes}
 use Rattle.lset_recording.specs.Texts.{all_threads}
 use Rattle.lset_recording.specs.Kept.{IsLatest, IsJudgeKept}
 

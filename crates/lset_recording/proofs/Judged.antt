@@ -40,11 +40,8 @@ keys_more keys key are above low =
 -- ---- one line more
 
 first_none : (s : Section) (k : ℕ) (o : Option Judge) → Comes s (told.Opening k) → IsFirst s o → o ≡ None
-first_none part.Title k o comes first = absurd comes
 first_none part.Opening k o comes first = first
-first_none part.Calls k o comes first = absurd comes
-first_none part.Keys k o comes first = absurd comes
-first_none part.Done k o comes first = absurd comes
+first_none s k o comes first = absurd comes
 
 no_calls : (opening more : List ℕ) (calls : List CallRecord) (o : Option Judge) → o ≡ None → IsJudgeKept opening calls o
     → IsJudgeKept more calls o

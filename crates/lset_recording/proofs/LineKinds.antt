@@ -68,10 +68,8 @@ numbered : (w : CallWord) (n k b : ℕ) (e : Option (ℕ × Reply)) → n < 2 ^ 
     → IfSome e (λ (d : ℕ × Reply). IsMoment d.0 × (is_truth d.1 ≡ true))
     → (let x = call_of n (with_key w (record { 0 = k })) b e in
     (codes "call" ∷ decimal n ∷ call_word_text w ∷ decimal k ∷ decimal b ∷ end_pieces e ≡ call_pieces (record_of x)) × IsNumbered x)
-numbered word.Add n k b e nl kl has bl el = (refl, record { thread = nl; key = kl; word = has; begun = bl; end = el })
-numbered word.Remove n k b e nl kl has bl el = (refl, record { thread = nl; key = kl; word = has; begun = bl; end = el })
-numbered word.Contains n k b e nl kl has bl el = (refl, record { thread = nl; key = kl; word = has; begun = bl; end = el })
 numbered word.Ceiling n k b e nl kl has bl el = absurd has
+numbered w n k b e nl kl has bl el = (refl, record { thread = nl; key = kl; word = has; begun = bl; end = el })
 
 open_known : Knows One line_pieces IsLine open_kind
 open_known = (
@@ -120,7 +118,6 @@ calls_known : AllByRecursion (Knows One line_pieces IsLine) from_calls
 calls_known = (open_known, (true_known, (false_known, (cut_known, (key_known, (end_known, tt))))))
 
 pub kinds_known : (s : Section) → AllByRecursion (Knows One line_pieces (IsLineIn s)) (kinds s)
-kinds_known section.Title = tt
 kinds_known section.Opening =
     known_in section.Opening (opening_kind ∷ from_calls) (opening_known, calls_known)
     ((λ t. tt), ((λ t. tt), ((λ t. tt), ((λ t. tt), ((λ t. tt), ((λ t. tt), ((λ t. tt), tt)))))))
@@ -129,7 +126,7 @@ kinds_known section.Calls =
     ((λ t. tt), ((λ t. tt), ((λ t. tt), ((λ t. tt), ((λ t. tt), ((λ t. tt), tt))))))
 kinds_known section.Keys =
     known_in section.Keys (key_kind ∷ end_kind ∷ []) (key_known, (end_known, tt)) ((λ t. tt), ((λ t. tt), tt))
-kinds_known section.Done = tt
+kinds_known s = tt
 
 -- ---- what a line says
 
@@ -154,13 +151,9 @@ titled false line l same is = absurd cc
 pub line_found_in : (s : Section) (line : List ℕ) (l : Line) → line_told s line ≡ Ok l
     → (line ≡ line_of (line_pieces l)) × IsLine l × Comes s l
 line_found_in section.Title line l is = titled (bytes_eq line title) line l refl is
-line_found_in section.Opening line l is = behind_title section.Opening line l is
-line_found_in section.Calls line l is = behind_title section.Calls line l is
-line_found_in section.Keys line l is = behind_title section.Keys line l is
-line_found_in section.Done line l is = behind_title section.Done line l is
+line_found_in s line l is = behind_title s line l is
 
 pub is_formed : (l : Line) → IsLine l → IsFormed l
-is_formed told.Title is = tt
 is_formed (told.Opening k) is = is
 is_formed (told.Call x) is = (
   is.thread,
@@ -178,5 +171,4 @@ is_formed (told.Call x) is = (
     plain None h = tt
     plain (Some e) h = h.1
 is_formed (told.Key k) is = is
-is_formed told.End is = tt
-is_formed told.Cut is = tt
+is_formed l is = tt

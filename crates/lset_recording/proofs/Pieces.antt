@@ -15,10 +15,7 @@ use Rattle.lset_recording.specs.Reading.{call_kinds, kinds, takes_calls, open_ki
 many_pieces : (s : Section) (a b c : List ℕ) (more : List (List ℕ)) → first_of One wrong.Line (kinds s) (a ∷ b ∷ c ∷ more)
     ≡ cond (takes_calls s) (first_of One wrong.Line call_kinds (a ∷ b ∷ c ∷ more)) (Err wrong.Line)
 many_pieces section.Title a b c more = refl
-many_pieces section.Opening a b c more = refl
-many_pieces section.Calls a b c more = refl
-many_pieces section.Keys a b c more = refl
-many_pieces section.Done a b c more = refl
+many_pieces s a b c more = refl
 
 -- a line of the word `call`
 call_word : (w : Bool) (a b c : List ℕ) (more : List (List ℕ)) → bytes_eq a (codes "call") ≡ w

@@ -57,10 +57,7 @@ too_long s line many = inl (by s.section)
 
     by : (p : Section) → line_told p line ≡ Err (cause_if_long p)
     by part.Title = untitled (bytes_eq line title) refl
-    by part.Opening = behind part.Opening
-    by part.Calls = behind part.Calls
-    by part.Keys = behind part.Keys
-    by part.Done = behind part.Done
+    by p = behind p
 
 -- ---- newlines
 

@@ -48,6 +48,9 @@ behind_calls o c k y no_k = rw no_k (simp (append-nil, append_assoc))
 behind_all : (o c k : List (List ℕ)) (y : List ℕ) → o ++ c ++ (k ++ y ∷ []) ≡ (o ++ c ++ k) ++ y ∷ []
 behind_all o c k y = simp append_assoc refl
 
+behind_end : (o c k : List (List ℕ)) (y : List ℕ) → o ++ c ++ k ++ y ∷ [] ≡ (o ++ c ++ k) ++ y ∷ []
+behind_end o c k y = simp append_assoc refl
+
 -- the lines above a line
 abbrev above : Line → Recording → List (List ℕ)
 above told.Title c = []
@@ -71,22 +74,14 @@ more_lines c (told.Key k) next =
 more_lines c told.End next =
     ap (λ (b : Bool). title ∷ opening_lines c.opening ++ map call_line c.calls ++ map key_line c.keys ++ end_line b ∷ []) next
     ∙ behind_end (title ∷ opening_lines c.opening) (map call_line c.calls) (map key_line c.keys) (end_line false)
-  where
-    behind_end : (o c k : List (List ℕ)) (y : List ℕ) → o ++ c ++ k ++ y ∷ [] ≡ (o ++ c ++ k) ++ y ∷ []
-    behind_end o c k y = simp append_assoc refl
 more_lines c told.Cut next =
     behind_end (title ∷ opening_lines c.opening) (map call_line c.calls) (map key_line c.keys) (end_line true)
-  where
-    behind_end : (o c k : List (List ℕ)) (y : List ℕ) → o ++ c ++ k ++ y ∷ [] ≡ (o ++ c ++ k) ++ y ∷ []
-    behind_end o c k y = simp append_assoc refl
 
 reaches_more : (c : Recording) (l : Line) → Finds l c → Reaches (section_after l) (with_line c l)
 reaches_more c told.Title next = (next.1, next.2, next.3)
-reaches_more c (told.Opening k) next = next
-reaches_more c (told.Call x) next = next
-reaches_more c (told.Key k) next = next
 reaches_more c told.End next = tt
 reaches_more c told.Cut next = tt
+reaches_more c l next = next
 
 finds : (s : Section) (c : Recording) (l : Line) → Comes s l → Reaches s c → Finds l c
 finds part.Title c told.Title comes reached = reached
@@ -107,12 +102,10 @@ lines_above : (s : Section) (c : Recording) (l : Line) → Comes s l → above l
 lines_above part.Title c told.Title comes = refl
 lines_above part.Title c l comes = absurd comes
 lines_above part.Opening c told.Title comes = absurd comes
-lines_above part.Opening c l comes = refl
 lines_above part.Calls c told.Title comes = absurd comes
-lines_above part.Calls c l comes = refl
 lines_above part.Keys c told.Title comes = absurd comes
-lines_above part.Keys c l comes = refl
 lines_above part.Done c l comes = absurd comes
+lines_above s c l comes = refl
 
 -- a line that is taken
 one_line : (s t : SoFar) (x : List ℕ) → Reaches s.section s.told → IsTaken s x t → Reaches t.section t.told × (lines_at t ≡ lines_at s ++ x ∷ [])
@@ -131,11 +124,8 @@ at_end n s [] c is = (refl, by s.section s.told is)
   where
     by : (p : Section) (d : Recording) → Ok c ≡ ending n (record { section = p; told = d }) []
         → lines_at (record { section = p; told = d }) ≡ lines c
-    by part.Title d same = absurd cc
-    by part.Opening d same = absurd cc
-    by part.Calls d same = absurd cc
-    by part.Keys d same = absurd cc
     by part.Done d same = let told : c ≡ d = cc in ap lines (sym told)
+    by p d same = absurd cc
 at_end n s (b ∷ bs) c is = absurd cc
 
 found : (n : ℕ) (s : SoFar) (parts : List (List ℕ)) (c : Recording) → Reaches s.section s.told → Reads n s parts (Ok c)

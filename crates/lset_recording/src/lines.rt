@@ -99,28 +99,10 @@ struct CallPieces<'a> {
     begun: &'a [u8],
 }
 
-fn is_dash(piece: &[u8]) -> bool
-    ensures { result ≡ bytes_eq piece.now (codes "-") }
-{
-    matches!(piece, b"-")
-}
-
 fn is_call(piece: &[u8]) -> bool
     ensures { result ≡ bytes_eq piece.now (codes "call") }
 {
     matches!(piece, b"call")
-}
-
-fn is_true(piece: &[u8]) -> bool
-    ensures { result ≡ bytes_eq piece.now (codes "true") }
-{
-    matches!(piece, b"true")
-}
-
-fn is_false(piece: &[u8]) -> bool
-    ensures { result ≡ bytes_eq piece.now (codes "false") }
-{
-    matches!(piece, b"false")
 }
 
 fn open_call(pieces: CallPieces<'_>) -> Result<Line, Cause>
@@ -177,15 +159,11 @@ fn ended_call(pieces: CallPieces<'_>, end: &[u8], reply: &[u8]) -> Result<Line, 
     ensures { result ≡ first_of One Cause.Line call_kinds (codes "call" ∷ pieces.entry.thread.now
         ∷ pieces.entry.call.now ∷ pieces.entry.key.now ∷ pieces.entry.begun.now ∷ end.now ∷ reply.now ∷ []) }
 {
-    if is_dash(reply) {
-        if is_dash(end) {
-            open_call(pieces)
-        } else {
-            Err(Cause::Line)
-        }
-    } else if is_true(reply) {
+    if reply == b"-".as_slice() && end == b"-".as_slice() {
+        open_call(pieces)
+    } else if reply == b"true".as_slice() {
         true_call(pieces, end)
-    } else if is_false(reply) {
+    } else if reply == b"false".as_slice() {
         false_call(pieces, end)
     } else {
         Err(Cause::Line)

@@ -83,8 +83,7 @@ module _ (T : Table) (op : Opening) (events : List LineEvent) (k : ℕ) (w : Wor
       by_cause : (cause : StepFault) → IsFirstRefused T op events next.line cause
           → IsRefusal T op events (fault_at next.line cause)
       by_cause step.NoThread f = f
-      by_cause step.Busy f = f
-      by_cause step.Idle f = f
+      by_cause cause f = f
 
   -- and a list that keeps its promises finds the recorder ready
   module _ (accounts : TellsKeys T) where

@@ -25,10 +25,8 @@ pub record LeastAt (F : ℕ → Type 0) (first last moment : ℕ) : Type 0 where
 -- of every call but a ceiling, by its key alone
 pub plain_shows : (changes : ℕ → List ℕ) (c : Call) (r : Reply) → ((k : Key) → c ≡ call.Ceiling k → ⊥)
     → shows changes c r ≡ (λ m. is_present changes (key_of c).0 m)
-plain_shows changes (call.Add k) r n = refl
-plain_shows changes (call.Remove k) r n = refl
-plain_shows changes (call.Contains k) r n = refl
 plain_shows changes (call.Ceiling k) r n = absurd (n k refl)
+plain_shows changes c r n = refl
 
 module _ (P F : ℕ → Type 0) (first last : ℕ) (to : (m : ℕ) → first ≤ m → m ≤ last → F m → P m) (back :
     (m : ℕ) → first ≤ m → m ≤ last → P m → F m) where

@@ -1,15 +1,11 @@
-pub mod Kept
 pub mod EventLists
 pub mod KeyChanges
 pub mod LeastFits
 pub mod OpenCalls
 pub mod Following
 pub mod Stepping
-pub mod OpenedChanges
 pub mod Ready
 pub mod Followed
-pub mod Ordered
 pub mod EventSteps
 pub mod Reported
 pub mod ReportWords
-pub mod Recorded

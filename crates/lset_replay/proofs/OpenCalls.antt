@@ -10,7 +10,7 @@ use Rattle.lset_words.specs.Log.{Log, Change, TracedCall, is_under_way, traced_o
 use Rattle.lset_words.specs.Log.Entry.{began, stepped}
 use Rattle.lset_words.specs.Account.{Contents, Counts, Account}
 use Rattle.lset_words.specs.Placement.{no_traced, traced_at}
-use Rattle.std.proofs.lemmas.Bool.{cases_Bool}
+use Rattle.std.proofs.lemmas.Bool.{cases_Bool, cases_order}
 use Rattle.lset_history.proofs.Lists.{Pairs, pairs_std}
 use Rattle.lset_history.proofs.Calls.{Later, IsOpenOf, Calls, new_call}
 use Rattle.lset_history.proofs.CallSteps.{step_of, way_of, is_way, run_of, calls_of}
@@ -76,14 +76,11 @@ open_stepped k u t change reply xs number call begun c p =
 -- A STEP sets the open call anew, and leaves the others
 open_once : (xs : List TracedCall) (t i j : ℕ) → Pairs Later xs → i < length xs → j < length xs → IsOpenOf t (traced_at xs i)
     → IsOpenOf t (traced_at xs j) → i ≡ j
-open_once xs t i j p l m a b = elim (compared i j) [
+open_once xs t i j p l m a b = elim (cases_order i j) [
   | inl e ↦ e
   | inr d ↦ elim d [ inl n ↦ absurd (clash i j n m a b) | inr n ↦ absurd (clash j i n l b a) ]
 ]
   where
-    compared : (a b : ℕ) → (a ≡ b) ⊎ ((a < b) ⊎ (b < a))
-    compared a b = grind arith
-
     clash : (i j : ℕ) → i < j → j < length xs → IsOpenOf t (traced_at xs i) → IsOpenOf t (traced_at xs j) → ⊥
     clash i j n m a b =
         let q : Later (traced_at xs i) (traced_at xs j) = pairs_std Later xs p i j no_traced n m in

@@ -1,37 +1,71 @@
 -- A run's next event finds the recorder ready for it.
-use Rattle.std.proofs.Common.{◌≡◌, ℕ, zero, suc, ◌<◌, ◌≤◌, Bool, true, false, ◌&&◌, inl, inr, List, [], ◌∷◌, length, sym, refl}
-use Rattle.std.proofs.Common.{subst, ap, ◌∙◌, arith}
-use Rattle.std.specs.Prelude.{◌==◌, Option, Some, None, is_none, IfSome, IsSomeAnd}
+use Rattle.std.proofs.Common.{◌≡◌, ℕ, zero, suc, ◌<◌, ◌≤◌, ◌^◌, Bool, true, false, List, [], ◌∷◌, get_or, sym, refl, subst, ap, ◌∙◌, arith, ◌&&◌, inl, inr, length}
+use Rattle.std.specs.Prelude.{All, if◌then◌else◌, Contains as InList, ◌==◌, Option, Some, None, is_none, IfSome, IsSomeAnd}
 use Rattle.std.specs.List.{AllByRecursion, list_any}
+use Rattle.std.proofs.lemmas.List.Elements.{All-from_get_or, All-from_recursion}
 use Rattle.std.proofs.lemmas.List.{length-map, length-replicate, get_or-replicate}
-use Rattle.std.proofs.lemmas.List.Elements.{All-from_recursion}
+use Rattle.std.proofs.lemmas.List.Folds.{list_any_none}
+use Rattle.std.proofs.Math.ListN.{get_or-map}
+use Rattle.std.proofs.lemmas.Bool.{cases_Bool, false_from_ne_true}
+use Rattle.lset_words.specs.Account.{Contents, Counts, Enters, Account}
+use Rattle.lset_words.specs.SequentialSet.{has_key}
+use Rattle.lset_words.specs.Words.{Opening}
 use Rattle.lset_words.specs.declared.Call.{Call}
 use Rattle.lset_words.specs.declared.Reply.{Reply}
 use Rattle.lset_words.specs.declared.history.CallRecord.{CallRecord}
 use Rattle.lset_words.specs.Log.{Log, Entry, Change, TracedCall, is_under_way, calls_at, history_at, record_of, is_open}
 use Rattle.lset_words.specs.Log.Entry.{began, stepped}
-use Rattle.lset_words.specs.Account.{Contents, Counts, Enters, Account}
 use Rattle.lset_words.specs.Placement.{no_traced}
 use Rattle.lset_words.specs.History.{call_numbered}
-use Rattle.lset_words.specs.Words.{Opening}
+use Rattle.lset_history.specs.Changes.{opened_moments, is_present, state_at, IsBounded, moments_of}
+use Rattle.lset_history.proofs.Keys.{has_from, has_false, has_none}
 use Rattle.lset_history.specs.History.{IsLater, MayBegin, MayEnd, has_open}
-use Rattle.std.proofs.lemmas.Bool.{cases_Bool}
-use Rattle.lset_history.proofs.Lists.{all_imply, all_map, get_or_mapped}
+use Rattle.lset_history.proofs.Lists.{all_imply, all_map}
 use Rattle.lset_history.proofs.Calls.{Traced, EndedBy, OpenAt}
 use Rattle.lset_history.proofs.CallSteps.{run_of, calls_of, way_of}
+use Rattle.lset_replay.proofs.KeyChanges.{Tells, HoldsKeys, may_change}
 use Rattle.lset_replay.proofs.OpenCalls.{OpenNumber, length_began, length_stepped}
 use Rattle.lset_replay.specs.declared.places.OpenCall.{OpenCall}
 use Rattle.lset_replay.specs.declared.recorder.Recorder.{Recorder}
 use Rattle.lset_replay.specs.Trace.{Trace, open_call_at, trace_at, trace_after, trace_of, MayStep, MayChange}
 use Rattle.lset_replay.proofs.Following.{Follows, IsWatched, follows_beginning}
-use Rattle.lset_history.specs.Changes.{moments_of}
-use Rattle.lset_replay.proofs.KeyChanges.{HoldsKeys, may_change}
 use Rattle.lset_replay.proofs.Stepping.{follows_step}
-use Rattle.lset_replay.proofs.OpenedChanges.{opened_upto, opened_tells, opened_bounded}
 
-none_passes : {X : Type 0} (p : X → Bool) (xs : List X) → AllByRecursion (λ x. p x ≡ false) xs → list_any p xs ≡ false
-none_passes p [] h = refl
-none_passes p (x ∷ xs) h = rw (h.0, none_passes p xs h.1) refl
+-- ---- what the opening keys are in a trace before its first event
+
+one_upto : (i : ℕ) → i < 1 → get_or (0 ∷ []) i 0 ≤ 0
+one_upto zero l = omega arith
+one_upto (suc i) l = absurd (omega arith)
+
+pub opened_upto : (keys : List ℕ) (j : ℕ) → All (λ x. x ≤ 0) (opened_moments keys j)
+opened_upto keys j = by_test (has_key j keys)
+  where
+    by_test : (b : Bool) → All (λ x. x ≤ 0) (if b then 0 ∷ [] else [])
+    by_test true = All-from_get_or (λ x. x ≤ 0) (0 ∷ []) 0 one_upto
+    by_test false = All-from_get_or (λ x. x ≤ 0) [] 0 (λ i below. absurd (omega arith))
+
+present_at_first : (keys : List ℕ) (j : ℕ) → is_present (opened_moments keys) j 0 ≡ has_key j keys
+present_at_first keys j = by_test (has_key j keys)
+  where
+    by_test : (b : Bool) → state_at false (if b then 0 ∷ [] else []) 0 ≡ b
+    by_test true = refl
+    by_test false = refl
+
+module _ (op : Opening) (contents : Contents) (opens : (k : ℕ) → (contents 0 k → InList op.keys k) × (InList op.keys k → contents 0 k)) where
+  tells_first : (j : ℕ) → Tells (is_present (opened_moments op.keys) j 0) (contents 0 j)
+  tells_first j = (
+    λ e. (opens j).1 (has_from j op.keys (sym (present_at_first op.keys j) ∙ e)),
+    λ e c. has_none j op.keys (sym (present_at_first op.keys j) ∙ e) ((opens j).0 c),
+  )
+
+  pub opened_tells : (j m : ℕ) → m ≤ 0 → Tells (is_present (opened_moments op.keys) j m) (contents m j)
+  opened_tells j m b =
+      let first : 0 ≡ m = omega arith in
+      subst (λ y. Tells (is_present (opened_moments op.keys) j y) (contents y j)) first (tells_first j)
+
+  pub opened_bounded : ((j : ℕ) → contents 0 j → j < 2 ^ 32) → IsBounded (opened_moments op.keys)
+  opened_bounded low key high = ap (λ b. if b then 0 ∷ [] else []) (has_false key op.keys (λ c.
+      let l : key < 2 ^ 32 = low key ((opens key).1 c) in omega arith))
 
 module _ (op : Opening) (last : ℕ) (log : Log) (contents : Contents) (counts : Counts)
     (account : Account op last log contents counts)
@@ -93,11 +127,7 @@ module _ (op : Opening) (last : ℕ) (log : Log) (contents : Contents) (counts :
 
     shut : (t : ℕ) → is_open log t k ≡ false → (x : TracedCall) → Traced (run_of op.threads op.quota log contents counts) k x
         → is_under_way t x ≡ false
-    shut t e x h = elim (cases_Bool (is_under_way t x)) [
-      | inl y ↦ absurd (
-          grind arith)
-      | inr y ↦ y
-    ]
+    shut t e x h = false_from_ne_true (is_under_way t x) (λ y. grind arith)
 
     pub may_begin : (t : ℕ) (call : Call) → Enters op.threads op.quota log contents counts k (began t call)
         → MayBegin r.history t (suc k) × (t < length r.under_way.items)
@@ -105,10 +135,10 @@ module _ (op : Opening) (last : ℕ) (log : Log) (contents : Contents) (counts :
       record {
         of_a_thread = rw threads en.of_a_thread;
         idle = ap (λ (xs : List CallRecord). has_open xs t) now.history
-            ∙ none_passes (λ (x : CallRecord). x.thread == t && is_none x.ended) (history_at log k)
-            (all_map record_of (λ (x : CallRecord). (x.thread == t && is_none x.ended) ≡ false) (calls_at log k)
+            ∙ list_any_none (λ (x : CallRecord). x.thread == t && is_none x.ended) (history_at log k)
+            (All-from_recursion _ (history_at log k) (all_map record_of (λ (x : CallRecord). (x.thread == t && is_none x.ended) ≡ false) (calls_at log k)
             (all_imply (Traced (run_of op.threads op.quota log contents counts) k)
-            (λ x. is_under_way t x ≡ false) (shut t en.idle) (calls_at log k) each));
+            (λ x. is_under_way t x ≡ false) (shut t en.idle) (calls_at log k) each)));
         later = later;
       },
       (let a : t < op.threads = en.of_a_thread in let b : length r.under_way.items ≡ op.threads = now.seats in omega arith),
@@ -135,7 +165,7 @@ module _ (op : Opening) (last : ℕ) (log : Log) (contents : Contents) (counts :
                 open_call = record {
                   known = omega arith;
                   not_ended = ap (λ (xs : List CallRecord). (call_numbered xs o.0.number).ended) now.history
-                      ∙ ap (λ (x : CallRecord). x.ended) (get_or_mapped record_of (calls_at log k) o.0.number no_traced)
+                      ∙ ap (λ (x : CallRecord). x.ended) (get_or-map record_of (calls_at log k) o.0.number no_traced)
                       ∙ number.open_call.1;
                 };
                 later = later;

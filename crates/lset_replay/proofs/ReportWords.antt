@@ -4,6 +4,7 @@ use Rattle.std.proofs.Common.{refl, sym, subst, ◌∙◌, arith}
 use Rattle.std.specs.Prelude.{Option, Some, None, ◌==◌, Contains, if◌then◌else◌}
 use Rattle.std.specs.List.{AllByRecursion}
 use Rattle.std.proofs.lemmas.List.{get_or_default}
+use Rattle.std.proofs.lemmas.List.Elements.{recursion_from_All, All-from_get_or}
 use Rattle.lset_words.specs.declared.Call.{Call}
 use Rattle.lset_words.specs.declared.Call.TheVariants as call
 use Rattle.lset_words.specs.declared.Reply.{Reply}
@@ -158,11 +159,6 @@ end_is_in order number (Some e) h there =
     let place : Contains order p = there e.0 e.1 refl in
     subst IsReplyIn (get_or_default order place.0 p _ place.1 ∙ place.2) (all_at IsReplyIn order p place.0 place.1 h)
 
-all_there : {X : Type 0} (P : X → Type 0) (xs : List X) (d : X) → ((i : ℕ) → i < length xs → P (get_or xs i d)) →
-    AllByRecursion P xs
-all_there P [] d h = tt
-all_there P (x ∷ xs) d h = (h 0 (omega arith), all_there P xs d (λ i l. h (suc i) (omega arith)))
-
 -- ---- THE WORDS OF A REPLAY
 
 words_in : (v : Version) (q : ℕ) (s : SetState) (calls : List CallRecord) (order : List Placed) → Linearizes q s calls order
@@ -170,8 +166,8 @@ words_in : (v : Version) (q : ℕ) (s : SetState) (calls : List CallRecord) (ord
 words_in One q s calls order h are =
     let replies : AllByRecursion IsReplyIn order = order_is_in q calls s order h.legal are in (
       all_both (IsRecordIn One) (λ (x : CallRecord). HasEnd One x.ended) calls are
-          (all_there (λ (x : CallRecord). HasEnd One x.ended) calls no_call (λ number known. end_is_in order number
-          (call_numbered calls number).ended replies (λ m r is. h.ended number m r known is))),
+          (recursion_from_All (λ (x : CallRecord). HasEnd One x.ended) calls (All-from_get_or (λ (x : CallRecord). HasEnd One x.ended) calls no_call (λ number known. end_is_in order number
+          (call_numbered calls number).ended replies (λ m r is. h.ended number m r known is)))),
       replies,
     )
 words_in Two q s calls order h are = tt

@@ -3,6 +3,8 @@ use Rattle.std.proofs.Common.{◌≡◌, ◌≢◌, ℕ, suc, ◌<◌, ◌≤◌
 use Rattle.std.proofs.Common.{subst, ap, ◌∙◌, arith, get_or-set_same, get_or-set_other}
 use Rattle.std.specs.Prelude.{All, ◌-◌, Option, Some, None, is_some}
 use Rattle.std.proofs.lemmas.List.{map-set, set-get_or}
+use Rattle.std.proofs.lemmas.Bool.{or_parts, or_from}
+use Rattle.std.proofs.Math.ListN.{get_or-map}
 use Rattle.lset_words.specs.declared.Reply.{Reply}
 use Rattle.lset_words.specs.Log.{Log, Change, TracedCall, traced_on, changed_by, ended_by, calls_at, calls_after, history_at}
 use Rattle.lset_words.specs.Log.{record_of, last_call, begun_at, is_open, has_changed, is_change, open_after}
@@ -13,7 +15,7 @@ use Rattle.lset_words.specs.History.{call_numbered, no_call}
 use Rattle.lset_history.specs.History.{ended_with}
 use Rattle.lset_words.proofs.Numbers.{same_or_not, if_same, if_other}
 use Rattle.lset_words.specs.Words.{Opening}
-use Rattle.lset_history.proofs.Lists.{get_or_mapped, all_at}
+use Rattle.lset_history.proofs.Lists.{all_at}
 use Rattle.lset_history.proofs.Calls.{Run, Traced, EndedBy, OpenAt, open_is, changed_is}
 use Rattle.lset_history.proofs.CallSteps.{run_of, calls_of}
 use Rattle.lset_replay.proofs.OpenCalls.{OpenNumber, open_stepped, length_stepped, step_sets}
@@ -64,27 +66,20 @@ module _ (m t : ℕ) (cs : List TracedCall) (ch : Option Change) (o : OpenCall) 
   ended_history None e g h = g ∙ sym (cc (
     map-set record_of cs num (traced_on m ch None (traced_at cs num)),
     h,
-    get_or_mapped record_of cs num no_traced,
+    get_or-map record_of cs num no_traced,
     set-get_or (map record_of cs) num no_call,
   ))
   ended_history (Some a) e g h = cc (
     e,
     g,
-    get_or_mapped record_of cs num no_traced,
+    get_or-map record_of cs num no_traced,
     map-set record_of cs num
         (traced_on m ch (Some a) (traced_at cs num)),
   )
 
-or_false : (b c : Bool) → (b || c) ≡ false → (b ≡ false) × (c ≡ false)
-or_false true c e = absurd (cc)
-or_false false c e = (refl, e)
-
 no_count : (ch : Option Change) (c : ℕ) → is_change ch ≡ false → count_after ch c ≡ c
 no_count None c e = refl
 no_count (Some x) c e = absurd (cc)
-
-or_nothing : (b : Bool) → b ≡ false → (b || false) ≡ false
-or_nothing b e = rw e refl
 
 module _ (op : Opening) (last : ℕ) (log : Log) (contents : Contents) (counts : Counts)
     (account : Account op last log contents counts)
@@ -134,7 +129,7 @@ module _ (op : Opening) (last : ℕ) (log : Log) (contents : Contents) (counts :
 
   quiet_here : has_changed log t (suc k) ≡ false → (has_changed log t k ≡ false) × (counts (suc k) t ≡ counts k t)
   quiet_here e =
-      let w : (has_changed log t k ≡ false) × (is_change ch ≡ false) = or_false (has_changed log t k) (is_change ch)
+      let w : (has_changed log t k ≡ false) × (is_change ch ≡ false) = or_parts (has_changed log t k) (is_change ch)
       (sym (if_same t t refl (has_changed log t k || is_change ch) (has_changed log t k))
       ∙ sym (changed_is log k (stepped t ch r) at t) ∙ e) in
       (w.0, en.own_count ∙ no_count ch (counts k t) w.1)
@@ -215,7 +210,7 @@ module _ (op : Opening) (last : ℕ) (log : Log) (contents : Contents) (counts :
       let unchanged : has_changed log t k ≡ false = subst (λ z. has_changed log z k ≡ false) th (cc (told.changed_is, e)) in
       let still : has_changed log t (suc k) ≡ false = changed_is log k (stepped t ch r) at t
       ∙ if_same t t refl (has_changed log t k || is_change ch) (has_changed log t k)
-      ∙ ap (λ z. has_changed log t k || is_change z) g ∙ or_nothing (has_changed log t k) unchanged in
+      ∙ ap (λ z. has_changed log t k || is_change z) g ∙ or_from (has_changed log t k) false unchanged refl in
       let call_same = subst (λ z. last_call log z k ≡ here.call) th told.call_is ∙ number.open_call.2 in
       let begun_same = subst (λ z. begun_at log z k ≡ here.begun) th told.begun_is ∙ number.open_call.3 in
       let sometime : FitsSometime op.quota contents counts watching.begun (suc k) t watching.call a =

@@ -1,7 +1,30 @@
-use Rattle.std.proofs.Common.{ℕ, ◌≤◌, All, subst, sym}
-use Rattle.lset_history.specs.Changes.{moments_of}
-use Rattle.lset_replay.proofs.Kept.{below_upto, turn_of, upto_change}
+use Rattle.std.proofs.Common.{◌≡◌, ℕ, ◌<◌, ◌≤◌, not, Bool, true, false, List, get_or, ap, ◌∙◌, arith, refl, subst, sym, All}
+use mathlib.Core.Bool.{beq}
+use Rattle.std.proofs.lemmas.List.Elements.{All-get_or, All-from_get_or}
+use Rattle.lset_history.specs.Changes.{is_present, is_present_now, with_change, moments_of}
+use Rattle.lset_history.proofs.ChangeLaws.{all_upto_change, present_past}
 use Rattle.lset_replay.proofs.moments.note_key.Goals as goal
+
+below_upto : (ms : List ℕ) (m : ℕ) → All (λ x. x < m) ms → All (λ x. x ≤ m) ms
+below_upto ms m h = All-from_get_or (λ x. x ≤ m) ms 0 (λ i below.
+    let b : get_or ms i 0 < m = All-get_or (λ x. x < m) ms i 0 below h in omega arith)
+
+other_bool : (a b : Bool) → not (beq a b) ≡ true → b ≡ not a
+other_bool true false d = refl
+other_bool false true d = refl
+other_bool a b d = absurd cc
+
+-- a change of a key that is not so already
+turn_of : (changes : ℕ → List ℕ) (key moment : ℕ) (there present : Bool) → ((j : ℕ) → All (λ m. m < moment) (changes j))
+    → there ≡ is_present changes key moment → not (beq there present) ≡ true → present ≡ not (is_present_now changes key)
+turn_of changes key moment there present later is other =
+    other_bool there present other
+    ∙ ap not (is ∙ present_past changes key moment (below_upto (changes key) moment (later key)))
+
+upto_change : (old new : ℕ → List ℕ) (key moment : ℕ) → ((j : ℕ) → All (λ m. m < moment) (old j))
+    → ((j : ℕ) → new j ≡ with_change old key moment j) → (j : ℕ) → All (λ m. m ≤ moment) (new j)
+upto_change old new key moment later is j = subst (All (λ m. m ≤ moment)) (sym (is j))
+    (all_upto_change old key moment moment j (below_upto (old j) moment (later j)) (omega arith))
 
 pub note-requires-clause-turn : goal.note-requires-clause-turn
 note-requires-clause-turn c = turn_of (moments_of c.args.changes.now) c.args.key c.args.moment c.is_there.result c.args.present

@@ -17,11 +17,10 @@ use Rattle.lset_replay.proofs.Reported.{few_places, places_upto, replay_is, expl
 use Rattle.lset_replay.proofs.ReportWords.{words_of_version}
 use Rattle.lset_replay.proofs.replaying.replay_on.Goals as goal
 
--- what holds of the opening and the lines that are passed holds of the schedule's
+-- what holds of an opening and lines that are those of a schedule holds of the schedule's
 of_schedule : (P : Opening → List LineEvent → Type 0) (p : Plan) (op : Opening) (n : ℕ) (ls : List Line)
     → op ≡ opening_in p → n ≡ first_event_line p → ls ≡ p.lines → P op (events_from n ls) → P (opening_in p) (events_of p)
-of_schedule P p op n ls a b c h = subst (λ ks. P (opening_in p) (events_from (first_event_line p) ks)) c
-    (subst (λ m. P (opening_in p) (events_from m ls)) b (subst (λ z. P z (events_from n ls)) a h))
+of_schedule P p op n ls opening first lines h = rw (opening, first, lines) at h
 
 pub in_order-requires : goal.in_order-requires
 in_order-requires g c =
