@@ -7724,7 +7724,9 @@ const setScene = (given) => dispatch("scene", given);
 function talk(html) {
   const box = part("#talk");
   if (!setHtml(box, html) || scene.isNew || hiddenBelow() <= 0) return;
-  box.lastElementChild.scrollIntoView({ block: "end", behavior: "smooth" });
+  const last = box.lastElementChild;
+  const isTall = last.getBoundingClientRect().height > innerHeight / 2; // as on a phone: what comes first is to be seen
+  last.scrollIntoView({ block: isTall ? "start" : "end" });
 }
 
 function hiddenBelow() {

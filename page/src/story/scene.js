@@ -34,7 +34,9 @@ export const setScene = (given) => dispatch("scene", given);
 export function talk(html) {
   const box = part("#talk");
   if (!setHtml(box, html) || scene.isNew || hiddenBelow() <= 0) return;
-  box.lastElementChild.scrollIntoView({ block: "end", behavior: "smooth" });
+  const last = box.lastElementChild;
+  const isTall = last.getBoundingClientRect().height > innerHeight / 2; // as on a phone: what comes first is to be seen
+  last.scrollIntoView({ block: isTall ? "start" : "end" });
 }
 
 // How much of the talk lies under the bar.
