@@ -1739,7 +1739,7 @@ function sentenceOn(ask, cause, ...kinds) {
   const told = ask("listset_faults").text;
   const parts = kinds.map((kind) => told.split(`, in ${kind};`)[1]?.split("\n\n")[0] ?? "");
   const [, said] = new RegExp(`^  ${cause} +((?:.|\n {12})+)`, "m").exec(parts.join("\n")) ?? [];
-  return said === undefined ? null : said.replace(/\n +/g, " ").replace(/\.( .*)?$/, "");
+  return said === undefined ? null : said[0].toLowerCase() + said.slice(1).replace(/\n +/g, " ").replace(/\.( .*)?$/, "");
 }
 return { sentenceOn };
 })();

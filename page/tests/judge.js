@@ -251,7 +251,7 @@ function checkAnswers(ask) {
 // A fault of recorded calls is told by the program's own line and its sentence on the cause.
 function checkFaultsOfCalls(ask) {
   const { kind, says } = saidOf(ask, `${TITLE}call 0 add 5 7 8 true\ncall 1 add 6 5 9 true\nend\n`);
-  const told = "The call does not end after it begins; or a line above has one of its moments, or a call of the same thread that is pending";
+  const told = "the call does not end after it begins; or a line above has one of its moments, or a call of the same thread that is pending";
   const why = `${told} when it begins; or it begins before a call above`;
   check(`a fault: ${says}`, kind === "fault" && says === `listset: line 3: History: ${why}.`);
 }

@@ -155,7 +155,7 @@ function checkFaults(engine) {
     const [, found] = /^(?:listset:|refused) line \d+:? (\w+)$/m.exec(saidOf(text)) ?? [];
     check(`${cause}: ${saidOf(text).slice(0, 200)}`, found === cause && told(cause) !== null);
   }
-  check("a sentence", told("Number") === "Expected a number in range, without sign or leading zero: 5, not +5 or 05");
+  check("a sentence", told("Number") === "expected a number in range, without sign or leading zero: 5, not +5 or 05");
   check("no sentence", ["", null, "History", "Expected"].every((cause) => told(cause) === null));
   const ofOther = ask("listset_lacking", "lock", HEAD.replace("coarse", "lazy"), "trace").text;
   check(`a broken list is of one kind: ${ofOther}`, ofOther === "listset: line 2: Kind\n");

@@ -45,16 +45,15 @@ fn run_round<M: Running + Send + Sync, R: Threads + Wait + Sync>(
     request: RandomRequest,
     opening: &[u32],
 ) -> Result<Outcome, Trouble> {
-    let RandomRequest {
-        threads,
-        quota,
-        calls,
-        keys,
-        seed,
-        ..
-    } = request;
-    let programs = programs(alloc, threads, calls, keys, seed)?;
-    let (set, seats) = open_with::<M>(alloc, threads, quota, opening).map_err(opening_trouble)?;
+    let programs = programs(
+        alloc,
+        request.threads,
+        request.calls,
+        request.keys,
+        request.seed,
+    )?;
+    let opened = open_with::<M>(alloc, request.threads, request.quota, opening);
+    let (set, seats) = opened.map_err(opening_trouble)?;
     match work(rt, alloc, set, seats, programs, &Always) {
         Ok(outcome) => Ok(outcome),
         Err(fault) => Err(work_trouble(fault.cause)),
@@ -64,17 +63,10 @@ fn run_round<M: Running + Send + Sync, R: Threads + Wait + Sync>(
 /// The counts, the number of keys, and each key.
 fn summary_text(alloc: Global, counts: Counts, keys: &[u32]) -> Result<Vec<u8>, AllocError> {
     let mut out = String::new(alloc);
-    let Counts {
-        calls,
-        trues,
-        falses,
-        fulls,
-    } = counts;
-    let left = keys.len();
-    write!(
-        out,
-        "calls {calls}\ntrue {trues}\nfalse {falses}\nfull {fulls}\nkeys {left}\n"
-    )?;
+    let (calls, left) = (counts.calls, keys.len());
+    let (trues, falses, fulls) = (counts.trues, counts.falses, counts.fulls);
+    writeln!(out, "calls {calls}\ntrue {trues}\nfalse {falses}")?;
+    writeln!(out, "full {fulls}\nkeys {left}")?;
     put_keys(&mut out, keys)?;
     Ok(out.into_bytes())
 }
