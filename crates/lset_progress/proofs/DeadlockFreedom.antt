@@ -170,8 +170,7 @@ module _ (T : Table) (law : Lawful T) (S : Shape) (most : Sizes → ℕ) (shows 
     }
 
     mine_counts : (k : ℕ) → Ready k → moves calls T (state_at T op es k) (Go u) ≡ 1
-    mine_counts k g = weight_of (state_at T op es k) u 1 g.busy.meant
-        ∙ gets_weight (state_at T op es k).words (T.next (local_of (state_at T op es k) u)) g.gets_on.tries
+    mine_counts k g = weight_of _ u 1 g.busy.meant ∙ gets_weight _ (T.next _) g.gets_on.tries
 
     -- one event before
     by_event : (k : ℕ) → Ready k → (Ready (suc k) → Gather (suc m) (suc k)) → (e : Event) → es k ≡ e

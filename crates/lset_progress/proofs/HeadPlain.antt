@@ -56,45 +56,38 @@ module _ (T : Table) (At : Outline) (d : Discipline T T.marks At) (op : Opening)
         (local_of (state_at T op es k))
     the_step =
         let i : Known k = known k (omega arith) in
-        d.goes (sizes op) t (views T op es) (λ u. begun_at (log_of T op es) u k) k (state_at T op es k).words
-        (used_in (state_at T op es k)) (λ u. has_changed (log_of T op es) u k) (local_of (state_at T op es k))
+        d.goes _ t _ (λ u. begun_at (log_of T op es) u k) k _ _ (λ u. has_changed (log_of T op es) u k) _
         (record { limits = r.opens.within; memory = i.memory; course = i.course; present = i.present }) i.threads in_threads en.1
 
     pub words_are : (after T (state_at T op es k) (Go t)).words ≡ the_step.words'
     words_are =
         let i : Known k = known k (omega arith) in
         let m = the_step in
-        ap (λ a. left_by (state_at T op es k).words a) the_step.acts
-        ∙ left_is T.marks (sizes op) (state_at T op es k).words (used_in (state_at T op es k)) i.memory t in_threads
-        the_step.action the_step.words' the_step.used' the_step.effect the_step.change
+        ap (λ a. left_by (state_at T op es k).words a) the_step.acts ∙ left_is _ _ _ _ i.memory t in_threads
+        _ _ _ _ the_step.change
 
     pub the_move : Move T.marks (view_of (sizes op) (state_at T op es k)) (view (sizes op) the_step.words' the_step.used')
         the_step.effect
     the_move =
         let i : Known k = known k (omega arith) in
-        moved T.marks (sizes op) (state_at T op es k).words (used_in (state_at T op es k)) i.memory t in_threads
-        the_step.action the_step.words' the_step.used' the_step.effect the_step.change
+        moved _ _ _ _ i.memory t in_threads _ _ _ _ the_step.change
 
     pub the_memory : Memory T.marks (sizes op) the_step.words' the_step.used'
     the_memory =
         let i : Known k = known k (omega arith) in
-        memory_after T.marks (sizes op) (state_at T op es k).words (used_in (state_at T op es k)) i.memory t in_threads
-        the_step.action the_step.words' the_step.used' the_step.effect the_step.change
+        memory_after _ _ _ _ i.memory t in_threads _ _ _ _ the_step.change
 
     pub the_keeping : KeepsNodes (view_of (sizes op) (state_at T op es k)) (view (sizes op) the_step.words' the_step.used')
     the_keeping =
         let i : Known k = known k (omega arith) in
-        goes_on T.marks (sizes op) (state_at T op es k).words (used_in (state_at T op es k)) i.memory t in_threads
-        the_step.action the_step.words' the_step.used' the_step.effect the_step.change
+        goes_on _ _ _ _ i.memory t in_threads _ _ _ _ the_step.change
 
   plain_next : (k : ℕ) → k < last → (e : Event) → Enabled (state_at T op es k) e → node_link (state_at T op es k).words 0 % 2 ≡ 0
       → node_link (after T (state_at T op es k) e).words 0 % 2 ≡ 0
   plain_next k l (Begin t call) en h = h
   plain_next k l (Go t) en h =
       let i : Known k = known k (omega arith) in
-      subst (λ ws. node_link ws 0 % 2 ≡ 0) (sym (words_are k l t en))
-      (plain_after T.marks (view_of (sizes op) (state_at T op es k))
-      (view (sizes op) (the_step k l t en).words' (the_step k l t en).used') (the_step k l t en).effect
+      subst (λ ws. node_link ws 0 % 2 ≡ 0) (sym (words_are k l t en)) (plain_after _ _ _ (the_step k l t en).effect
       i.memory.ordered.head_published h (the_move k l t en))
 
   plain_opens : node_link (state_at T op es 0).words 0 % 2 ≡ 0

@@ -157,7 +157,6 @@ module _ (T : Table) (law : Lawful T) (op : Opening) (es : ℕ → Event) (k t :
   pub others_wait : NoOtherHolds (sizes op) (state_at T op es k) t
       → NoOtherHolds (sizes op) (after T (state_at T op es k) (Go t)) t
   others_wait free u x un d h =
-      let old : slice_index (state_at T op es k).words x ≡ u + 1 =
-      others_keep x t u (slice_index (state_at T op es k).words x) (T.next (local_of (state_at T op es k) t)) d
+      let old : slice_index (state_at T op es k).words x ≡ u + 1 = others_keep x t u (slice_index _ x) (T.next _) d
       (sym (word_after x h.is_lock h.inside) ∙ h.mine) in
       free u x un d (record { is_lock = h.is_lock; inside = h.inside; mine = old })

@@ -366,8 +366,7 @@ module _ (T : Table) (law : Lawful T) (S : Shape) (most : Sizes → ℕ) (shows 
         let z : f.time 0 ≡ 0 = omega arith in
         elim (subst (λ n. Fits (sizes op) (state_at T op es k).words n (local_of (state_at T op es k) 0)) z (f.times 0 first)) [
           | inl g ↦ omega arith
-          | inr g ↦ no_time S (node_count (sizes op)) (node_key (state_at T op es k).words) (node_link (state_at T op es k).words)
-              (local_of (state_at T op es k) 0) g.2
+          | inr g ↦ no_time S (node_count _) (node_key _) (node_link _) _ g.2
         ]
 
     starts : (k : ℕ) → Phase (sizes op) (state_at T op es k) (lock_window most (sizes op))

@@ -301,8 +301,7 @@ module _ (reads : Bool) (op : Opening) (last k : ℕ) (es : ℕ → Event) (r : 
     disturbs mark leave less markers nodes = later (round size) mark leave
         (let m : price (sizes op) * (total leave size + total mark op.threads) + price (sizes op)
         ≤ price (sizes op) * (total f.may_leave size + total f.may_mark op.threads) =
-        one_price (price (sizes op)) (total leave size + total mark op.threads)
-        (total f.may_leave size + total f.may_mark op.threads)
+        one_price (price _) (total leave size + total mark op.threads) (total f.may_leave size + total f.may_mark op.threads)
         less in
         let a : total (time_then (round size)) op.threads + counted reads (local_of S t).call
         ≤ total f.time op.threads + price (sizes op) = total_then (round size) in
@@ -371,11 +370,9 @@ module _ (reads : Bool) (op : Opening) (last : ℕ) (es : ℕ → Event) (r : Ru
       + total f.time op.threads ≤ 0 = f.within in
       let z : f.time 0 ≡ 0 = omega arith in
       elim (subst (λ n. Fits reads (sizes op) f.key (state_at lock_free op es k).words n
-      (local_of (state_at lock_free op es k) 0)) z
-      (f.times 0 some)) [
+      (local_of (state_at lock_free op es k) 0)) z (f.times 0 some)) [
         | inl g ↦ omega arith
-        | inr g ↦ no_time shape (node_count (sizes op)) f.key (node_link (state_at lock_free op es k).words)
-            (local_of (state_at lock_free op es k) 0) g.2
+        | inr g ↦ no_time shape (node_count _) f.key (node_link _) _ g.2
       ]
 
   starts : (k : ℕ) → Phase reads (sizes op) (state_at lock_free op es k) (lock_free_window (sizes op))

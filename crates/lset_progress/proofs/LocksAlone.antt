@@ -109,8 +109,7 @@ module _ (T : Table) (law : Lawful T) (S : Shape) (most : Sizes → ℕ) (shows 
     steps = λ op last k t x es r l ee tn is inn before now.
         let s : State = state_at T op es k in
         let en : Enabled (state_at T op es k) (Go t) = subst (λ e. Enabled (state_at T op es k) e) ee (r.enabled k l) in
-        may_after S T (sizes op) (state_at T op es k).words t (local_of (state_at T op es k) t) x before
-        (T.next (local_of (state_at T op es k) t)) (shows.rows op last k t es r (omega arith) tn en.1).by now;
+        may_after S T _ _ t _ x before (T.next _) (shows.rows op last k t es r (omega arith) tn en.1).by now;
   }
 
   -- AT A MOMENT of a run, of a thread with a call
@@ -151,12 +150,11 @@ module _ (T : Table) (law : Lawful T) (S : Shape) (most : Sizes → ℕ) (shows 
 
   nears : Nears T Stage
   nears = record {
-    some = λ sz s t g. no_time S (node_count sz) (node_key s.words) (node_link s.words) (local_of s t) g.2;
+    some = λ sz s t g. no_time S (node_count sz) (node_key s.words) (node_link s.words) _ g.2;
     pending = λ sz s t n g. g.1;
     steps = λ op es k t n r ee tn g.
         elim (own_step op (suc k) k t es r (omega arith) tn g.1
-        (free_alone op (suc k) k t es r (omega arith) tn g.1 g.0 (T.next (local_of (state_at T op es k) t))
-        (row op (suc k) k t es r (omega arith) tn g.1))) [
+        (free_alone op (suc k) k t es r (omega arith) tn g.1 g.0 (T.next _) (row op (suc k) k t es r (omega arith) tn g.1))) [
           | inl a ↦ inl a
           | inr p ↦ inr (
             others_wait T law op es k t r ee g.0,

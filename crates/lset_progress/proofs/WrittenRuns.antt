@@ -84,8 +84,7 @@ module _ (T : Table) (e : Event) (es : List Event) where
       → test (state_in T e es s r j) (turn e es r j) ≡ true
   at_first test [] s so j l = absurd (omega arith)
   at_first test (x ∷ r) s so zero l = (both (test s x) (all_so test T (after T s x) r) so).0
-  at_first test (x ∷ r) s so (suc j) l =
-      at_first test r (after T s x) (both (test s x) (all_so test T (after T s x) r) so).1 j (omega arith)
+  at_first test (x ∷ r) s so (suc j) l = at_first test r _ (both (test s x) (all_so test T _ r) so).1 j (omega arith)
 
   -- and of the round, which leads back
   module _ (test : Test) (S0 : State) (round_so : all_so test T S0 (e ∷ es) ≡ true) (back : state_after T S0 (e ∷ es) ≡ S0) where
@@ -168,10 +167,8 @@ module _ (T : Table) (events : List Event) (e : Event) (es : List Event) (led : 
 
       pub rounds_never_end : (most : Sizes → ℕ) → EndsAmong count T most → ⊥
       rounds_never_end most law =
-          let all : steps_among count T op run m (most (sizes op)) ≡ most (sizes op) =
-          all_count (most (sizes op)) m (omega arith) in
-          let x : SomeEnds count T op run m (most (sizes op)) =
-          law op m (most (sizes op)) run (runs_on (m + most (sizes op))) (omega arith) in
+          let all : steps_among count T op run m (most (sizes op)) ≡ most (sizes op) = all_count (most _) m (omega arith) in
+          let x : SomeEnds count T op run m (most (sizes op)) = law op m (most _) run (runs_on (m + most _)) (omega arith) in
           no_reply x.at x.ends.0 x.from (ap (λ z. (told T (state_at T op run x.at) z).answer) x.own ∙ x.ends.1)
 
     -- nor are they if each thread has a turn in it

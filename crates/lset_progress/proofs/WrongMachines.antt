@@ -29,11 +29,9 @@ pub spinning_is_refused : NoCallsEndUnhindered spinning
 spinning_is_refused most law =
     let is = is_after spinning spins (Go 0) [] refl in
     let e = law op (length spins) 0 (run spinning spins (Go 0) [] refl) (is_run spinning spins (Go 0) [] refl) (omega arith)
-    (subst (λ s. IsPending s 0) (sym is) (λ z. omega arith))
-    (subst (λ s. IsCeiling (local_of s 0).call
+    (subst (λ s. IsPending s 0) (sym is) (λ z. omega arith)) (subst (λ s. IsCeiling (local_of s 0).call
     → NoMarkInChain (views spinning op (run spinning spins (Go 0) [] refl) (length spins))) (sym is) (λ z. absurd z)) in
-    never_ends_alone spinning 0 spinning_state 0 refl refl (most (sizes op))
-    (subst (λ s. EndsAlone spinning s 0 (most (sizes op))) is e)
+    never_ends_alone spinning 0 spinning_state 0 refl refl (most _) (subst (λ s. EndsAlone spinning s 0 (most (sizes op))) is e)
 
 pub spinning_is_not_lock_free : NotLockFree spinning
 spinning_is_not_lock_free reads most law = rounds_never_end spinning spins (Go 0) [] refl refl refl refl
@@ -74,8 +72,7 @@ keeping_is_refused most law =
     let is = is_after keeping keeps (Go 0) [] refl in
     let e = law op (length keeps) 0 (run keeping keeps (Go 0) [] refl) (is_run keeping keeps (Go 0) [] refl) (omega arith)
     (subst (λ s. IsPending s 0) (sym is) (λ z. omega arith)) (subst (λ s. NoOtherHolds (sizes op) s 0) (sym is) others) in
-    never_ends_alone keeping 0 keeping_state 0 refl refl (most (sizes op))
-    (subst (λ s. EndsAlone keeping s 0 (most (sizes op))) is e)
+    never_ends_alone keeping 0 keeping_state 0 refl refl (most _) (subst (λ s. EndsAlone keeping s 0 (most (sizes op))) is e)
 
 -- Both threads are between the head and the node of 5: thread 0, which adds 3, has the head, and thread 1, which removes 5, its
 -- node.
