@@ -9,18 +9,16 @@ use Rattle.lset_history.proofs.Raises.{CeilingAt}
 
 same_key_is : (a b : Option ℕ) → same_key a b ≡ true → a ≡ b
 same_key_is None None e = refl
-same_key_is None (Some b) e = absurd (cc)
-same_key_is (Some a) None e = absurd (cc)
 same_key_is (Some a) (Some b) e = ap Some (same_number a b e)
+same_key_is a b e = absurd cc
 
 same_key_same : (a b : Option ℕ) → a ≡ b → same_key a b ≡ true
 same_key_same None None e = refl
-same_key_same None (Some b) e = absurd (cc)
-same_key_same (Some a) None e = absurd (cc)
 same_key_same (Some a) (Some b) e = equal_test a b (some_is a b e)
   where
     some_is : (a b : ℕ) → Some a ≡ Some b → a ≡ b
     some_is a b e = cc
+same_key_same a b e = absurd cc
 
 module _ (changes : ℕ → List ℕ) (bounded : IsBounded changes) (key : ℕ) where
   from_first : (m : ℕ) (o : Option ℕ) → IsFirst (λ j. is_present changes j m ≡ true) key (key + (4294967295 - key)) o →

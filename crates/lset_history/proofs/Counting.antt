@@ -8,7 +8,8 @@ use Rattle.std.proofs.Math.Nat.{pow-suc}
 use Rattle.std.proofs.lemmas.Nat.{pow_pos}
 use Rattle.std.proofs.lemmas.Bool.{cases_Bool, le-ltb}
 use Rattle.std.proofs.lemmas.List.Elements.{All-contains, All-from_get_or, Contains-get_or}
-use Rattle.lset_words.proofs.Numbers.{same_number, equal_test, unequal_test}
+use Rattle.std.proofs.lemmas.List.Kept.{AllPairs-from_increasing}
+use Rattle.lset_words.proofs.Numbers.{below_or_not, same_number, equal_test, unequal_test}
 use Rattle.lset_words.specs.SequentialSet.{has_key}
 use Rattle.lset_history.proofs.Firsts.{first_same}
 use Rattle.lset_history.proofs.Keys.{has_true, has_false}
@@ -37,14 +38,10 @@ no_look_left (suc k) h =
     let p : 0 < 2 ^ k = pow_pos k in omega arith
 
 pub below_rises : (ms : List ℕ) → IsStrictlyIncreasing ms → (i j : ℕ) → i ≤ j → j < length ms → get_or ms i 0 ≤ get_or ms j 0
-below_rises ms rise i zero l below = let e : i ≡ 0 = omega arith in rw e (omega arith)
-below_rises ms rise i (suc j) l below = elim (last_or_before i j l) [
-  | inl e ↦ (rw e (omega arith))
-  | inr k ↦ grind (arith, below_rises ms rise i j k (omega arith))
+below_rises ms rise i j l below = elim (below_or_not i j) [
+  | inl less ↦ omega (arith, AllPairs-from_increasing ms rise i j 0 less below)
+  | inr same ↦ (let e : i ≡ j = omega (arith, l, same) in rw e (omega arith))
 ]
-  where
-    last_or_before : (i j : ℕ) → i ≤ suc j → (i ≡ suc j) ⊎ (i ≤ j)
-    last_or_before i j l = grind arith
 
 turned_not : (n : ℕ) (b : Bool) → turned n (not b) ≡ not (turned n b)
 turned_not zero b = refl
@@ -75,10 +72,9 @@ turned_from n true = differ (n % 2 == 1) true ∙ ap not (turned_is n) ∙ sym (
 turned_from n false = differ (n % 2 == 1) false ∙ turned_is n
 
 pub same_state : (a b : Bool) → beq a b ≡ true → a ≡ b
-same_state true true e = refl
 same_state true false e = absurd (cc)
 same_state false true e = absurd (cc)
-same_state false false e = refl
+same_state a b e = refl
 
 pub other_state : (a b : Bool) → beq a b ≡ false → a ≡ b → ⊥
 other_state true true e f = cc
@@ -87,10 +83,9 @@ other_state false true e f = cc
 other_state false false e f = cc
 
 other_turned : (a b : Bool) → (a ≡ b → ⊥) → not a ≡ b
-other_turned true true n = absurd (n refl)
 other_turned true false n = refl
 other_turned false true n = refl
-other_turned false false n = absurd (n refl)
+other_turned a b n = absurd (n refl)
 
 module _ (there : Bool) (ms : List ℕ) (rise : IsStrictlyIncreasing ms) (wanted : Bool) (from to count : ℕ) (order : from ≤ to)
     (h : IsCountUpTo ms from count) where

@@ -1,5 +1,5 @@
 -- The walk from the last place of an order to the first: the least end so far, and the calls that stand too early.
-use Rattle.std.proofs.Common.{rules, ◌≡◌, ℕ, ◌<◌, ◌≤◌, List, length, Option, Some, None, refl, sym, subst, ⊎_elim, inl, inr, ◌⊎◌}
+use Rattle.std.proofs.Common.{rules, ◌≡◌, ℕ, ◌<◌, ◌≤◌, List, length, Option, Some, None, refl, sym, subst, inl, inr, ◌⊎◌}
 use Rattle.std.proofs.Common.{suc, arith}
 use Rattle.std.proofs.lemmas.Bool.{cases_order, cases_lt}
 use Rattle.std.specs.Option.{IsSomeAnd, MatchOption}
@@ -41,10 +41,10 @@ FindsEarly calls order i early =
 first_or_later : (calls : List CallRecord) (order : List Placed) (j moment : ℕ) → EndsFrom calls order j moment
     → EndsBefore moment (placed_call calls order j).ended ⊎ EndsFrom calls order (suc j) moment
 first_or_later calls order j moment (k, from, inside, ends) =
-    ⊎_elim
-    (λ (e : k ≡ j). let P : ℕ → Type 0 = λ n. EndsBefore moment (placed_call calls order n).ended in inl (subst P e ends))
-    (λ (ne : (k < j) ⊎ (j < k)). inr (k, omega arith, inside, ends))
-    (cases_order k j)
+    elim (cases_order k j) [
+      | inl e ↦ inl (subst (λ n. EndsBefore moment (placed_call calls order n).ended) e ends)
+      | inr ne ↦ inr (k, omega arith, inside, ends)
+    ]
 
 later_from : (calls : List CallRecord) (order : List Placed) (j moment : ℕ) → EndsFrom calls order (suc j) moment
     → EndsFrom calls order j moment
@@ -56,17 +56,15 @@ least_by : (calls : List CallRecord) (order : List Placed) (j : ℕ) (least : Op
     → EndsLeast calls order (suc j) least → EndsLeast calls order j (least_with least ended)
 least_by calls order j least None own parts h = record {
   below = λ m low. later_from calls order j m (h.below m low);
-  ends = λ m from. ⊎_elim absurd (h.ends m) (parts m from);
+  ends = λ m from. elim (parts m from) [ inl here ↦ absurd here | inr later ↦ h.ends m later ];
 }
 least_by calls order j None (Some end) own parts h = record {
   below = own;
-  ends = λ m from. ⊎_elim (λ (here : end.0 < m). here) (λ later. absurd (h.ends m later)) (parts m from);
+  ends = λ m from. elim (parts m from) [ inl here ↦ here | inr later ↦ absurd (h.ends m later) ];
 }
 least_by calls order j (Some least) (Some end) own parts h = record {
-  below = λ m low. ⊎_elim (λ (b : least < m). later_from calls order j m (h.below m b)) (λ (a : m ≤ least). own m (omega arith))
-      (cases_lt least m);
-  ends = λ m from. ⊎_elim (λ (here : end.0 < m). omega arith) (λ later. let low : least < m = h.ends m later in omega arith)
-      (parts m from);
+  below = λ m low. elim (cases_lt least m) [ inl b ↦ later_from calls order j m (h.below m b) | inr a ↦ own m (omega arith) ];
+  ends = λ m from. elim (parts m from) [ inl here ↦ omega (arith, here) | inr later ↦ omega (arith, h.ends m later) ];
 }
 
 pub least_more : (calls : List CallRecord) (order : List Placed) (j : ℕ) (least : Option ℕ) (ended : Option (ℕ × Reply))
@@ -88,7 +86,7 @@ early_here calls order j moment least inside e h low = record {
   from = omega arith;
   inside = inside;
   names = refl;
-  refused = too_early_here calls order j (let P : ℕ → Type 0 = EndsFrom calls order (suc j) in subst P e (h.below moment low));
+  refused = too_early_here calls order j (rw e at (h.below moment low));
   first = λ earlier from before. absurd (omega arith);
 }
 
@@ -101,21 +99,20 @@ early_later calls order j moment least early e h other found = later early found
     here place at early = search rules
 
     later : (early : Option ℕ) → FindsEarly calls order (suc j) early → FindsEarly calls order j early
-    later None found = λ place from inside early.
-        ⊎_elim
-        (λ (at : place ≡ j). here place at early)
-        (λ (side : (place < j) ⊎ (j < place)). found place (omega arith) inside early)
-        (cases_order place j)
+    later None found = λ place from inside early. elim (cases_order place j) [
+      | inl at ↦ here place at early
+      | inr side ↦ found place (omega arith) inside early
+    ]
     later (Some n) found = record {
       place = found.place;
       from = let f = found.from in omega arith;
       inside = found.inside;
       names = found.names;
       refused = found.refused;
-      first = λ earlier from before early. ⊎_elim
-          (λ (at : earlier ≡ j). here earlier at early)
-          (λ (side : (earlier < j) ⊎ (j < earlier)). found.first earlier (omega arith) before early)
-          (cases_order earlier j);
+      first = λ earlier from before early. elim (cases_order earlier j) [
+        | inl at ↦ here earlier at early
+        | inr side ↦ found.first earlier (omega arith) before early
+      ];
     }
 
 -- the walk is at its end

@@ -4,10 +4,9 @@ use Rattle.std.specs.Prelude.{Option, Some, None}
 use Rattle.lset_history.specs.Changes.{IsFirst, is_same, first_passing}
 
 same_or_not : (asked b : Bool) → ((is_same asked b ≡ true) × (b ≡ asked)) ⊎ ((is_same asked b ≡ false) × (b ≡ asked → ⊥))
-same_or_not true true = inl (refl, refl)
 same_or_not true false = inr (refl, λ e. cc)
 same_or_not false true = inr (refl, λ e. cc)
-same_or_not false false = inl (refl, refl)
+same_or_not asked b = inl (refl, refl)
 
 first_or_after : (first m : ℕ) → first ≤ m → (m ≡ first) ⊎ (suc first ≤ m)
 first_or_after first m a = grind arith

@@ -7,11 +7,12 @@ use Rattle.std.proofs.Math.ListN.{set}
 use Rattle.std.proofs.lemmas.List.{get_or_append_left, get_or_push}
 use Rattle.std.proofs.lemmas.List.Elements.{All-cons, All-head, All-tail, All-push, All-set}
 use Rattle.std.proofs.lemmas.List.Quantifiers.{all_pairs_push}
+use Rattle.std.proofs.lemmas.List.Kept.{AllPairs-cons}
 use Rattle.lset_words.specs.declared.Reply.{Reply}
 use Rattle.lset_words.specs.declared.history.CallRecord.{CallRecord}
 use Rattle.lset_words.specs.History.{MayFollow, ContinuesHistory, IsHistory, call_numbered, no_call}
 use Rattle.lset_history.specs.History.{IsLater, IsOpen, ended_with}
-use Rattle.lset_history.proofs.Pairs.{pairs_cons, pairs_head, pairs_tail, pairs_set}
+use Rattle.lset_history.proofs.Pairs.{pairs_head, pairs_tail, pairs_set}
 
 pub record IsCall (threads : ℕ) (x : CallRecord) : Type 0 where
   pub of_a_thread : x.thread < threads
@@ -84,18 +85,16 @@ part_of threads earlier (x ∷ xs) h =
       calls = All-cons (IsCall threads) x xs (call_of threads earlier x h.0) rest.calls;
       after = All-cons (FollowsAll earlier) x xs (follows_of threads earlier x h.0)
           (λ k d b. without_last earlier x _ (rest.after k d b));
-      pairs = pairs_cons Follows x xs (λ k d b. last_of earlier x _ (rest.after k d b)) rest.pairs;
+      pairs = AllPairs-cons Follows x xs (λ k d b. last_of earlier x _ (rest.after k d b)) rest.pairs;
     }
   where
     without_last : (ys : List CallRecord) (x z : CallRecord) → All (λ y. Follows y z) (ys ++ x ∷ []) → All (λ y. Follows y z) ys
     without_last ys x z h k d b =
-        let P : CallRecord → Type 0 = λ y. Follows y z in
-        subst P (get_or_append_left ys (x ∷ []) d k b) (h k d (omega (arith, length-append ys (x ∷ []))))
+        subst (λ y. Follows y z) (get_or_append_left ys (x ∷ []) d k b) (h k d (omega (arith, length-append ys (x ∷ []))))
 
     last_of : (ys : List CallRecord) (x z : CallRecord) → All (λ y. Follows y z) (ys ++ x ∷ []) → Follows x z
     last_of ys x z h =
-        let P : CallRecord → Type 0 = λ y. Follows y z in
-        subst P (get_or_push ys x x (length ys) refl) (h (length ys) x (omega (arith, length-append ys (x ∷ []))))
+        subst (λ y. Follows y z) (get_or_push ys x x (length ys) refl) (h (length ys) x (omega (arith, length-append ys (x ∷ []))))
 
 pub continues : (threads : ℕ) (earlier xs : List CallRecord) → IsPart threads earlier xs → ContinuesHistory threads earlier xs
 continues threads earlier [] p = tt

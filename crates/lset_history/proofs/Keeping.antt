@@ -1,7 +1,7 @@
 -- What a history keeps of itself through a beginning and an end.
 use Rattle.std.proofs.Common.{◌≡◌, ℕ, suc, zero, ◌<◌, ◌≤◌, ◌^◌, ◌≢◌, ◌==◌, ◌&&◌, ◌||◌, Bool, true, false, List, [], ◌∷◌, ◌++◌}
 use Rattle.std.proofs.Common.{length, get_or, ◌+◌, max, Option, Some, None, is_none, is_some, not, refl, sym, ap, ◌∙◌, subst}
-use Rattle.std.proofs.Common.{arith, ⊎_elim, inl, inr, ◌⊎◌, replicate}
+use Rattle.std.proofs.Common.{arith, inl, inr, ◌⊎◌, replicate}
 use Rattle.std.proofs.Math.Bool.{or-false}
 use Rattle.lset_words.specs.declared.TheConstants.{MOST_THREADS}
 use Rattle.lset_words.specs.Words.{Opening, Opens}
@@ -118,10 +118,10 @@ begun_follows h x may e =
 
 -- the calls of a thread that may begin another have ended
 idle_thread : (threads : ℕ) (calls : List CallRecord) (x : CallRecord) → MayFollow threads calls x → has_open calls x.thread ≡ false
-idle_thread threads calls x may = list_any_none (is_open_of x.thread) calls (λ k d b. ⊎_elim
-    (λ (same : (get_or calls k d).thread ≡ x.thread). and_right _ _ (none_left _ _ (may.none_open k d b same)))
-    (λ (other : (get_or calls k d).thread ≢ x.thread). and_left _ _ (ne_eqb _ x.thread other))
-    (cases_eq (get_or calls k d).thread x.thread))
+idle_thread threads calls x may = list_any_none (is_open_of x.thread) calls (λ k d b. elim (cases_eq (get_or calls k d).thread x.thread) [
+  | inl same ↦ and_right _ _ (none_left _ _ (may.none_open k d b same))
+  | inr other ↦ and_left _ _ (ne_eqb _ x.thread other)
+])
 
 own_begun : (threads : ℕ) (calls : List CallRecord) (x : CallRecord) (t : ℕ) → MayFollow threads calls x → t ≡ x.thread
     → has_open (calls ++ x ∷ []) t ≡ is_none x.ended
@@ -173,12 +173,11 @@ kept_pushed h busy latest x kept may fits = record {
   opens = kept.opens;
   history = history;
   flags = let l = length-set busy x.thread (is_none x.ended) in let f = kept.flags in omega arith;
-  busy_if_open = λ t low. ⊎_elim
-      (λ (same : t ≡ x.thread). read_written busy x.thread t (is_none x.ended) false same (let f = kept.flags in omega arith)
-      ∙ sym (own_begun h.opening.threads h.calls x t may same))
-      (λ (other : t ≢ x.thread). get_or-set_other busy x.thread t (is_none x.ended) false other ∙ kept.busy_if_open t low
-      ∙ sym (others_begun h.calls x t other))
-      (cases_eq t x.thread);
+  busy_if_open = λ t low. elim (cases_eq t x.thread) [
+    | inl same ↦ read_written busy x.thread t (is_none x.ended) false same (let f = kept.flags in omega arith)
+        ∙ sym (own_begun h.opening.threads h.calls x t may same)
+    | inr other ↦ get_or-set_other busy x.thread t (is_none x.ended) false other ∙ kept.busy_if_open t low ∙ sym (others_begun h.calls x t other)
+  ];
   latest_is = latest_is;
   numbered = let few = few_calls h.opening.threads (h.calls ++ x ∷ []) history in let l = latest_is in omega arith;
   fits = fits;
@@ -192,10 +191,9 @@ kept_pushed h busy latest x kept may fits = record {
     latest_is = let l = kept.latest_is in let p = latest_pushed h.calls x in omega arith
 
 pub flag_is : (o : Option (ℕ × Reply)) (b : Bool) → is_some o ≡ not b → b ≡ is_none o
-flag_is None true e = refl
 flag_is None false e = e
 flag_is (Some x) true e = e
-flag_is (Some x) false e = refl
+flag_is o b e = refl
 
 -- the same calls, of a set that opens with other keys
 pub kept_reopened : (h : HistoryValue) (busy : List Bool) (latest : ℕ) (keys : List ℕ) → IsKept h busy latest
@@ -234,18 +232,18 @@ idle_ended threads calls n t at reply h still same = list_any_none (is_open_of t
 
     other : (k : ℕ) → (k < n) ⊎ (n < k) → k < length calls → IsIdle (call_numbered calls k)
     other k side low =
-        ⊎_elim
-        (λ (e : (call_numbered calls k).thread ≡ t). and_right _ _ (alone threads calls n k h still side low (e ∙ same)))
-        (λ (ne : (call_numbered calls k).thread ≢ t). and_left _ _ (ne_eqb _ t ne))
-        (cases_eq (call_numbered calls k).thread t)
+        elim (cases_eq (call_numbered calls k).thread t) [
+          | inl e ↦ and_right _ _ (alone threads calls n k h still side low (e ∙ same))
+          | inr ne ↦ and_left _ _ (ne_eqb _ t ne)
+        ]
 
     each : (k : ℕ) (d : CallRecord) → k < length (set calls n z) → IsIdle (get_or (set calls n z) k d)
     each k d b =
         let low : k < length calls = omega (arith, length-set calls n z) in
-        ⊎_elim
-        (λ (e : k ≡ n). subst IsIdle (sym (read_written calls n k z d e still.known)) (and_right (z.thread == t) false refl))
-        (λ (side : (k < n) ⊎ (n < k)). subst IsIdle (sym (read_other calls n k z d no_call (omega arith) low)) (other k side low))
-        (cases_order k n)
+        elim (cases_order k n) [
+          | inl e ↦ subst IsIdle (sym (read_written calls n k z d e still.known)) (and_right (z.thread == t) false refl)
+          | inr side ↦ subst IsIdle (sym (read_other calls n k z d no_call (omega arith) low)) (other k side low)
+        ]
 
 others_ended : (calls : List CallRecord) (n t at : ℕ) (reply : Reply) → n < length calls → t ≢ (call_numbered calls n).thread
     → has_open (set calls n (ended_with (call_numbered calls n) (at, reply))) t ≡ has_open calls t
@@ -261,12 +259,11 @@ kept_ended h busy latest n at reply kept still above fits = record {
   opens = kept.opens;
   history = history_ended h.opening.threads h.calls n at reply kept.history still (is_later h.calls at over);
   flags = let l = length-set busy x.thread false in let f = kept.flags in omega arith;
-  busy_if_open = λ t low. ⊎_elim
-      (λ (same : t ≡ x.thread). read_written busy x.thread t false false same (here t low same)
-      ∙ sym (idle_ended h.opening.threads h.calls n t at reply kept.history still same))
-      (λ (other : t ≢ x.thread). get_or-set_other busy x.thread t false false other ∙ kept.busy_if_open t low
-      ∙ sym (others_ended h.calls n t at reply still.known other))
-      (cases_eq t x.thread);
+  busy_if_open = λ t low. elim (cases_eq t x.thread) [
+    | inl same ↦ read_written busy x.thread t false false same (here t low same)
+        ∙ sym (idle_ended h.opening.threads h.calls n t at reply kept.history still same)
+    | inr other ↦ get_or-set_other busy x.thread t false false other ∙ kept.busy_if_open t low ∙ sym (others_ended h.calls n t at reply still.known other)
+  ];
   latest_is = sym (latest_ended h.calls n at _ still.known (begins_below h.calls at over n no_call still.known) refl over);
   numbered = let l = length-set h.calls n (ended_with x (at, reply)) in let k = kept.numbered in omega arith;
   fits = fits;
@@ -313,15 +310,11 @@ may_end h busy latest n at kept still above = record {
 pub kept_ended_read : (h : HistoryValue) (busy : List Bool) (latest n at : ℕ) (reply : Reply) (x : CallRecord)
     → x ≡ call_numbered h.calls n → IsKept h busy latest → IsOpen h.calls n → latest < at → at < 2 ^ 32
     → IsKept (record h { calls = set h.calls n (ended_with x (at, reply)) }) (set busy x.thread false) at
-kept_ended_read h busy latest n at reply x e kept still above fits =
-    let P : CallRecord → Type 0 = λ y. IsKept (record h { calls = set h.calls n (ended_with y (at, reply)) })
-    (set busy y.thread false) at in
-    subst P (sym e) (kept_ended h busy latest n at reply kept still above fits)
+kept_ended_read h busy latest n at reply x e kept still above fits = rw e (kept_ended h busy latest n at reply kept still above fits)
 
 pub thread_read : (h : HistoryValue) (busy : List Bool) (latest n : ℕ) (x : CallRecord)
     → IsKept h busy latest → n < length h.calls → x ≡ call_numbered h.calls n → x.thread < MOST_THREADS
-thread_read h busy latest n x kept inside e =
-    let P : CallRecord → Type 0 = λ y. y.thread < MOST_THREADS in subst P (sym e) (thread_of_call h busy latest n kept inside)
+thread_read h busy latest n x kept inside e = rw e (thread_of_call h busy latest n kept inside)
 
 -- a history without calls
 pub kept_new : (op : Opening) → Opens op → IsKept (record { opening = op; calls = [] }) (replicate MOST_THREADS false) 0

@@ -1,5 +1,5 @@
 -- The keys of the sequential set against those of a tree of std.
-use Rattle.std.proofs.Common.{◌≡◌, ℕ, ◌<◌, ◌==◌, ◌||◌, false, List, [], ◌∷◌, refl, sym, ap, ◌∙◌, ⊎_elim, ◌⊎◌, inl, inr, subst}
+use Rattle.std.proofs.Common.{◌≡◌, ℕ, ◌<◌, ◌==◌, ◌||◌, false, List, [], ◌∷◌, refl, sym, ap, ◌∙◌, inl, inr, subst}
 use Rattle.std.proofs.Common.{arith}
 use Rattle.std.specs.List.{list_any, AllByRecursion}
 use Rattle.std.specs.List.Sorted.{IsStrictlySortedBy}
@@ -24,14 +24,11 @@ pub greater : (k x : ℕ) → x < k → nat_cmp k x ≡ Greater
 greater k x h = sym (nat_cmp_is k x Greater h)
 
 pub same_test : (k x : ℕ) → (x == k) ≡ is_eq (nat_cmp k x)
-same_test k x =
-    ⊎_elim
-    (λ (e : k ≡ x). eq-eqb x k (sym e) ∙ sym (ap is_eq (equal k x e)))
-    (λ (ne : (k < x) ⊎ (x < k)). ⊎_elim
-    (λ (b : k < x). ne_eqb x k (λ e. omega arith) ∙ sym (ap is_eq (less k x b)))
-    (λ (a : x < k). ne_eqb x k (λ e. omega arith) ∙ sym (ap is_eq (greater k x a)))
-    ne)
-    (cases_order k x)
+same_test k x = elim (cases_order k x) [
+  | inl e ↦ eq-eqb x k (sym e) ∙ sym (ap is_eq (equal k x e))
+  | inr (inl b) ↦ ne_eqb x k (λ e. omega arith) ∙ sym (ap is_eq (less k x b))
+  | inr (inr a) ↦ ne_eqb x k (λ e. omega arith) ∙ sym (ap is_eq (greater k x a))
+]
 
 pub has_key_tree : (k : ℕ) (keys : List ℕ) → has_key k keys ≡ list_any (is_at (nat_cmp k)) keys
 has_key_tree k [] = refl
@@ -39,16 +36,11 @@ has_key_tree k (x ∷ xs) = ap (λ b. b || has_key k xs) (same_test k x) ∙ ap 
 
 pub with_key_tree : (k : ℕ) (keys : List ℕ) → has_key k keys ≡ false → with_key k keys ≡ insert_key nat_cmp keys k
 with_key_tree k [] h = refl
-with_key_tree k (x ∷ xs) h =
-    let parts = or_parts (x == k) (has_key k xs) h in
-    let rest = with_key_tree k xs parts.1 in
-    ⊎_elim
-    (λ (e : k ≡ x). absurd (false≢true (sym parts.0 ∙ eq-eqb x k (sym e))))
-    (λ (ne : (k < x) ⊎ (x < k)). ⊎_elim
-    (λ (b : k < x). rw (less k x b, lt-ltb k x b) refl)
-    (λ (a : x < k). rw (greater k x a, le-ltb k x (omega arith)) (ap (λ ys. x ∷ ys) rest))
-    ne)
-    (cases_order k x)
+with_key_tree k (x ∷ xs) h = let parts = or_parts (x == k) (has_key k xs) h in elim (cases_order k x) [
+  | inl e ↦ absurd (false≢true (sym parts.0 ∙ eq-eqb x k (sym e)))
+  | inr (inl b) ↦ rw (less k x b, lt-ltb k x b) refl
+  | inr (inr a) ↦ rw (greater k x a, le-ltb k x (omega arith)) (ap (λ ys. x ∷ ys) (with_key_tree k xs parts.1))
+]
 
 all_absent : (k : ℕ) (keys : List ℕ) → AllByRecursion (λ y. nat_cmp k y ≡ Less) keys → has_key k keys ≡ false
 all_absent k [] h = refl
@@ -68,8 +60,7 @@ without_key_tree k (x ∷ xs) h =
     elim (cases_Bool (x == k)) [
       | inl e ↦
           let same : x ≡ k = eqb-true x k e in
-          let P : ℕ → Type 0 = λ z. has_key z xs ≡ false in
-          let gone : without_key k xs ≡ xs = without_absent k xs (subst P same (all_absent x xs (sorted_head nat_cmp x xs h))) in
+          let gone : without_key k xs ≡ xs = without_absent k xs (subst (λ z. has_key z xs ≡ false) same (all_absent x xs (sorted_head nat_cmp x xs h))) in
           cond-true (x == k) _ _ e ∙ gone ∙ sym (cond-true (is_eq (nat_cmp k x)) xs _ (sym (same_test k x) ∙ e))
       | inr n ↦
           cond-false (x == k) _ _ n ∙ ap (λ ys. x ∷ ys) rest

@@ -1,9 +1,10 @@
 -- Lists of keys: their members, and what putting a key in and taking it out do to them.
-use Rattle.std.proofs.Common.{◌≡◌, ◌≢◌, ℕ, ◌+◌, ◌<◌, ◌≤◌, ◌⊎◌, true, false, inl, inr, List, [], ◌∷◌, sym, refl, arith}
+use Rattle.std.proofs.Common.{◌≡◌, ◌≢◌, ℕ, ◌+◌, ◌<◌, ◌≤◌, ◌⊎◌, true, false, inl, inr, List, [], ◌∷◌, sym, refl, ◌∙◌, arith}
 use Rattle.std.specs.Prelude.{Contains, nat_lt, ◌==◌}
 use Rattle.std.proofs.lemmas.Bool.Decides.{nat_tests}
 use Rattle.lset_words.proofs.RisingLists.{contains-cons, contains-head, contains-tail, contains-nil, RisesFrom, rises_less}
 use Rattle.lset_words.specs.SequentialSet.{has_key, with_key, without_key}
+use Rattle.lset_words.proofs.Numbers.{same_number, equal_test, unequal_test, same_or_not}
 use Rattle.std.proofs.lemmas.Bool.{cases_Bool}
 
 -- HAS
@@ -34,53 +35,56 @@ has_none k xs e c = let f : has_key k xs ≡ true = has_true k xs c in absurd (c
 pub member_or_not : (k : ℕ) (xs : List ℕ) → Contains xs k ⊎ (Contains xs k → ⊥)
 member_or_not k xs = elim (cases_Bool (has_key k xs)) [ inl e ↦ inl (has_from k xs e) | inr e ↦ inr (has_none k xs e) ]
 
--- WITH
+-- WITH AND WITHOUT, as tests
+pub has_with : (k : ℕ) (xs : List ℕ) → has_key k (with_key k xs) ≡ true
+has_with k [] = rw (equal_test k k refl) refl
+has_with k (x ∷ xs) = elim (cases_Bool (nat_lt k x)) [
+  | inl t ↦ rw t (rw (equal_test k k refl) refl)
+  | inr f ↦ rw f (elim (cases_Bool (x == k)) [ inl s ↦ rw s refl | inr n ↦ rw n (has_with k xs) ])
+]
+
+pub has_with_other : (k j : ℕ) (xs : List ℕ) → j ≢ k → has_key k (with_key j xs) ≡ has_key k xs
+has_with_other k j [] n = rw (unequal_test j k n) refl
+has_with_other k j (x ∷ xs) n = elim (cases_Bool (nat_lt j x)) [
+  | inl t ↦ rw t (rw (unequal_test j k n) refl)
+  | inr f ↦ rw f (rw (has_with_other k j xs n) refl)
+]
+
+pub has_without : (k : ℕ) (xs : List ℕ) → has_key k (without_key k xs) ≡ false
+has_without k [] = refl
+has_without k (x ∷ xs) = elim (cases_Bool (x == k)) [
+  | inl t ↦ rw t (has_without k xs)
+  | inr f ↦ rw f (rw f (has_without k xs))
+]
+
+pub has_without_other : (k j : ℕ) (xs : List ℕ) → j ≢ k → has_key k (without_key j xs) ≡ has_key k xs
+has_without_other k j [] n = refl
+has_without_other k j (x ∷ xs) n = elim (cases_Bool (x == j)) [
+  | inl t ↦ (let e : (x == k) ≡ false = unequal_test x k (λ q. n (sym (same_number x j t) ∙ q)) in
+      rw t (rw e (has_without_other k j xs n)))
+  | inr f ↦ rw f (rw (has_without_other k j xs n) refl)
+]
+
+-- and as members
 pub with_keeps : (k j : ℕ) (xs : List ℕ) → (j ≡ k) ⊎ Contains xs j → Contains (with_key k xs) j
-with_keeps k j [] (inl e) = contains-head k j [] (sym e)
-with_keeps k j [] (inr c) = absurd (contains-nil j c)
-with_keeps k j (x ∷ xs) h = elim (cases_Bool (nat_lt k x)) [
-  | inl f ↦ rw f (elim h [ inl e ↦ contains-head k j (x ∷ xs) (sym e) | inr c ↦ contains-tail k j (x ∷ xs) c ])
-  | inr f ↦ rw f (elim h [
-    | inl e ↦ contains-tail x j (with_key k xs) (with_keeps k j xs (inl e))
-    | inr c ↦ elim (contains-cons x j xs c) [
-      | inl g ↦ contains-head x j (with_key k xs) g
-      | inr d ↦ contains-tail x j (with_key k xs) (with_keeps k j xs (inr d))
-    ]
-  ])
+with_keeps k j xs h = elim (same_or_not k j) [
+  | inl e ↦ has_from j (with_key k xs) (rw e (has_with j xs))
+  | inr n ↦ has_from j (with_key k xs) (has_with_other j k xs n ∙ elim h [ inl e ↦ absurd (n (sym e)) | inr c ↦ has_true j xs c ])
 ]
 
 pub with_from : (k j : ℕ) (xs : List ℕ) → Contains (with_key k xs) j → (j ≡ k) ⊎ Contains xs j
-with_from k j [] c = elim (contains-cons k j [] c) [ inl e ↦ inl (sym e) | inr d ↦ inr d ]
-with_from k j (x ∷ xs) c = elim (cases_Bool (nat_lt k x)) [
-  | inl f ↦ elim (contains-cons k j (x ∷ xs) (rw f at c)) [ inl e ↦ inl (sym e) | inr d ↦ inr d ]
-  | inr f ↦ elim (contains-cons x j (with_key k xs) (rw f at c)) [
-    | inl e ↦ inr (contains-head x j xs e)
-    | inr d ↦ elim (with_from k j xs d) [ inl e ↦ inl e | inr g ↦ inr (contains-tail x j xs g) ]
-  ]
+with_from k j xs c = elim (same_or_not k j) [
+  | inl e ↦ inl (sym e)
+  | inr n ↦ inr (has_from j xs (sym (has_with_other j k xs n) ∙ has_true j (with_key k xs) c))
 ]
 
--- WITHOUT
 pub without_keeps : (k j : ℕ) (xs : List ℕ) → j ≢ k → Contains xs j → Contains (without_key k xs) j
-without_keeps k j [] n c = absurd (contains-nil j c)
-without_keeps k j (x ∷ xs) n c = elim (cases_Bool (x == k)) [
-  | inl f ↦ rw f (elim (contains-cons x j xs c) [
-    | inl e ↦ absurd (let g : x ≡ k = grind (arith, nat_tests) in n (omega arith))
-    | inr d ↦ without_keeps k j xs n d
-  ])
-  | inr f ↦ rw f (elim (contains-cons x j xs c) [
-    | inl e ↦ contains-head x j (without_key k xs) e
-    | inr d ↦ contains-tail x j (without_key k xs) (without_keeps k j xs n d)
-  ])
-]
+without_keeps k j xs n c = has_from j (without_key k xs) (has_without_other j k xs (λ e. n (sym e)) ∙ has_true j xs c)
 
 pub without_from : (k j : ℕ) (xs : List ℕ) → Contains (without_key k xs) j → Contains xs j × (j ≢ k)
-without_from k j [] c = absurd (contains-nil j c)
-without_from k j (x ∷ xs) c = elim (cases_Bool (x == k)) [
-  | inl f ↦ (let r : Contains xs j × (j ≢ k) = without_from k j xs (rw f at c) in (contains-tail x j xs r.0, r.1))
-  | inr f ↦ elim (contains-cons x j (without_key k xs) (rw f at c)) [
-    | inl e ↦ (contains-head x j xs e, λ g. let u : x ≢ k = grind (arith, nat_tests) in u (omega arith))
-    | inr d ↦ (let r : Contains xs j × (j ≢ k) = without_from k j xs d in (contains-tail x j xs r.0, r.1))
-  ]
+without_from k j xs c = elim (same_or_not k j) [
+  | inl e ↦ absurd (has_none j (without_key k xs) (rw e (has_without j xs)) c)
+  | inr n ↦ (has_from j xs (sym (has_without_other j k xs n) ∙ has_true j (without_key k xs) c), λ e. n (sym e))
 ]
 
 -- RISING LISTS

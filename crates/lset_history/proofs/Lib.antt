@@ -1,5 +1,4 @@
 pub mod CallSteps
-pub mod Ceilings
 pub mod Calls
 pub mod Firsts
 pub mod SetFitting
@@ -11,7 +10,6 @@ pub mod Placing
 pub mod RunHistories
 pub mod Standings
 pub mod States
-pub mod AtOneMoment
 pub mod Pairs
 pub mod Histories
 pub mod Keeping
@@ -25,4 +23,3 @@ pub mod Counting
 pub mod Noting
 pub mod Raises
 pub mod CeilingTests
-pub mod OpeningKeys

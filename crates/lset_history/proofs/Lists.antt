@@ -3,7 +3,7 @@ use Rattle.std.proofs.Common.{◌≡◌, ℕ, zero, suc, ◌<◌, ◌⊎◌, Boo
 use Rattle.std.proofs.Common.{refl, arith}
 use Rattle.std.specs.Prelude.{filter, Contains, AllPairs}
 use Rattle.std.specs.List.{AllByRecursion}
-use Rattle.std.proofs.lemmas.List.Elements.{All-from_recursion}
+use Rattle.std.proofs.lemmas.List.Elements.{All-from_recursion, recursion_from_All, filter_passes}
 use Rattle.std.proofs.lemmas.List.Kept.{AllPairs-cons}
 use Rattle.std.proofs.lemmas.Bool.{cases_Bool}
 
@@ -55,11 +55,6 @@ module _ {X Y : Type 0} (f : X → Y) where
   map_twice g h [] a = refl
   map_twice g h (x ∷ xs) a = let e : g (f x) ≡ h x = a.0 in let r : map g (map f xs) ≡ map h xs =
       map_twice g h xs a.1 in rw (e, r) refl
-
-  pub get_or_mapped : (xs : List X) (i : ℕ) (d : X) → get_or (map f xs) i (f d) ≡ f (get_or xs i d)
-  get_or_mapped [] i d = refl
-  get_or_mapped (x ∷ xs) zero d = refl
-  get_or_mapped (x ∷ xs) (suc i) d = get_or_mapped xs i d
 
 module _ {X : Type 0} (P : X → Type 0) where
   pub all_filter : (p : X → Bool) (xs : List X) → AllByRecursion P xs → AllByRecursion P (filter p xs)
@@ -179,8 +174,7 @@ filter_none p (x ∷ xs) a = let e : p x ≡ false = a.0 in rw e (filter_none p 
 
 -- what is left passes
 pub all_left : {X : Type 0} (p : X → Bool) (xs : List X) → AllByRecursion (λ x. p x ≡ true) (filter p xs)
-all_left p [] = tt
-all_left p (x ∷ xs) = elim (cases_Bool (p x)) [ inl b ↦ rw b (b, all_left p xs) | inr b ↦ rw b (all_left p xs) ]
+all_left p xs = recursion_from_All (λ x. p x ≡ true) (filter p xs) (filter_passes p xs)
 
 -- an element that passes is left
 pub some_filter : {X : Type 0} (P : X → Type 0) (p : X → Bool) (xs : List X) → SomeOf (λ x. P x × (p x ≡ true)) xs

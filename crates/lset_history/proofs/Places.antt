@@ -1,6 +1,6 @@
 -- Places of an order: which calls stand at the earlier ones, and what their replies come to.
 use Rattle.std.proofs.Common.{◌⊎◌, ◌≡◌, ◌≢◌, ℕ, zero, suc, ◌<◌, ◌≤◌, ◌+◌, ◌==◌, ◌||◌, Bool, true, false, List, [], ◌∷◌, length}
-use Rattle.std.proofs.Common.{get_or, take, map, Option, Some, None, refl, sym, ap, ◌∙◌, subst, ⊎_elim, inl, inr, arith, add-one}
+use Rattle.std.proofs.Common.{get_or, take, map, Option, Some, None, refl, sym, ap, ◌∙◌, subst, inl, inr, arith, add-one}
 use Rattle.std.specs.Prelude.{set}
 use Rattle.std.proofs.lemmas.List.{take-take, get_or-take, length-take, get_or-set_same, get_or-set_other}
 use Rattle.std.proofs.lemmas.List.Folds.{list_any_more}
@@ -22,8 +22,6 @@ use Rattle.lset_history.specs.Oracle.{OracleValue}
 pub stands_earlier : (order : List Placed) (i n : ℕ) → stands (take i order) n ≡ true
     → (k : ℕ) × (k < i) × (k < length order) × ((place_at order k).call ≡ n)
 stands_earlier [] zero n h = absurd (false≢true h)
-stands_earlier [] (suc i) n h = absurd (false≢true h)
-stands_earlier (p ∷ ps) zero n h = absurd (false≢true h)
 stands_earlier (p ∷ ps) (suc i) n h =
     elim (or_cases (p.call == n) (stands (take i ps) n) h) [
       | inl e ↦ (zero, omega arith, omega arith, eqb-true p.call n e)
@@ -31,6 +29,7 @@ stands_earlier (p ∷ ps) (suc i) n h =
           let rest : (k : ℕ) × (k < i) × (k < length ps) × ((place_at ps k).call ≡ n) = stands_earlier ps i n e in
           (suc rest.0, (let low = rest.1 in omega arith), (let low = rest.2 in omega arith), rest.3)
     ]
+stands_earlier order i n h = absurd (false≢true h)
 
 pub stands_nowhere : (order : List Placed) (i n : ℕ) → stands (take i order) n ≡ false → (k : ℕ) → k < i → k < length order
     → (place_at order k).call ≢ n
@@ -48,14 +47,12 @@ pub marks_more : (marks : List Bool) (order : List Placed) (i : ℕ) → i < len
 marks_more marks order i inside low holds q =
     let call = (place_at order i).call in
     let more = list_any_more (λ (p : Placed). p.call == q) order i (place_at [] 0) inside in
-    ⊎_elim
-    (λ (e : call ≡ q).
-    subst (λ n. get_or (set marks call true) n false ≡ true) e (get_or-set_same marks call true false low)
-    ∙ sym (more ∙ or_right _ _ (eq-eqb call q e)))
-    (λ (ne : call ≢ q).
-    get_or-set_other marks call q true false (λ e. ne (sym e))
-    ∙ holds q ∙ sym (more ∙ ap (λ b. stands (take i order) q || b) (ne_eqb call q ne) ∙ or-false _))
-    (cases_eq call q)
+    elim (cases_eq call q) [
+      | inl e ↦ subst (λ n. get_or (set marks call true) n false ≡ true) e (get_or-set_same marks call true false low)
+          ∙ sym (more ∙ or_right _ _ (eq-eqb call q e))
+      | inr ne ↦ get_or-set_other marks call q true false (λ e. ne (sym e))
+          ∙ holds q ∙ sym (more ∙ ap (λ b. stands (take i order) q || b) (ne_eqb call q ne) ∙ or-false _)
+    ]
 
 -- THE REPLIES
 -- the reply of the set after the earlier places
@@ -121,27 +118,17 @@ order_more o calls order i inside =
 pub reply_there : (o now : OracleValue) (calls : List CallRecord) (order : List Placed) (i : ℕ) (x : CallRecord)
     → now ≡ after_order o calls (take i order) → x ≡ placed_call calls order i → HasReply now x (place_at order i).reply
     → HasReply (after_order o calls (take i order)) (placed_call calls order i) (place_at order i).reply
-reply_there o now calls order i x e f h =
-    let F : OracleValue → Type 0 = λ v. HasReply v x (place_at order i).reply in
-    let G : CallRecord → Type 0 = λ y. HasReply (after_order o calls (take i order)) y (place_at order i).reply in
-    subst G f (subst F e h)
+reply_there o now calls order i x e f h = rw (e, f) at h
 
 pub other_reply_there : (o now : OracleValue) (calls : List CallRecord) (order : List Placed) (i : ℕ) (x : CallRecord)
     → now ≡ after_order o calls (take i order) → x ≡ placed_call calls order i → HasOtherReply now x (place_at order i).reply
     → HasWrongReply o.quota o.state calls order i
-other_reply_there o now calls order i x e f h =
-    let F : OracleValue → Type 0 = λ v. HasOtherReply v x (place_at order i).reply in
-    let G : CallRecord → Type 0 = λ y. HasOtherReply (after_order o calls (take i order)) y (place_at order i).reply in
-    subst G f (subst F e h)
+other_reply_there o now calls order i x e f h = rw (e, f) at h
 
 pub goes_on_there : (o now : OracleValue) (calls : List CallRecord) (order : List Placed) (i : ℕ) (x : CallRecord)
     → i < length order → now ≡ after_order o calls (take i order) → x ≡ placed_call calls order i
     → after_reply now x (place_at order i).reply ≡ after_order o calls (take (i + 1) order)
-goes_on_there o now calls order i x inside e f =
-    let reply = (place_at order i).reply in
-    ap (λ (v : OracleValue). after_reply v x reply) e
-    ∙ ap (λ (y : CallRecord). after_reply (after_order o calls (take i order)) y reply) f
-    ∙ sym (order_more o calls order i inside)
+goes_on_there o now calls order i x inside e f = rw (e, f) (sym (order_more o calls order i inside))
 
 -- no wrong reply
 other_end : (o : Option (ℕ × Reply)) (reply : Reply) → IfSome o (λ (end : ℕ × Reply). end.1 ≡ reply)
@@ -154,19 +141,11 @@ pub passes_replies : (o : OracleValue) (calls : List CallRecord) (order : List P
 passes_replies o calls order h place low (inl w) = other_end _ _ (h.recorded place (place_at [] 0) low) w
 passes_replies o calls order h place low (inr w) = w (legal_at o.quota calls order place o.state low h.legal)
 
--- the reply of a place is wrong behind these
-abbrev pub IsWrong : ℕ → SetState → List CallRecord → List Placed → Placed → Type 0
-IsWrong quota s calls front p =
-    IsSomeAnd (call_numbered calls p.call).ended (λ (end : ℕ × Reply). end.1 ≢ p.reply)
-    ⊎ (reply_to quota (set_left_by s calls front) (call_numbered calls p.call).thread (call_numbered calls p.call).call ≢ p.reply)
-
 -- a wrong reply of an earlier place shows in the first i places alone
 wrong_in_front : (quota : ℕ) (s : SetState) (calls : List CallRecord) (order : List Placed) (i k : ℕ) → k < i
     → HasWrongReply quota s calls order k → HasWrongReply quota s calls (take i order) k
 wrong_in_front quota s calls order i k low w =
-    let F : Placed → Type 0 = IsWrong quota s calls (take k order) in
-    let G : List Placed → Type 0 = λ front. IsWrong quota s calls front (place_at (take i order) k) in
-    subst G (sym (take-take k i order (omega arith))) (subst F (sym (get_or-take i order k (place_at [] 0) low)) w)
+    rw (take-take k i order (omega arith), get_or-take i order k (place_at [] 0) low) w
 
 pub right_before : (o : OracleValue) (calls : List CallRecord) (order : List Placed) (i : ℕ) → i ≤ length order
     → HasReplies o calls (take i order) → (k : ℕ) → k < i → HasWrongReply o.quota o.state calls order k → ⊥

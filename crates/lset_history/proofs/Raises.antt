@@ -2,6 +2,7 @@
 use Rattle.std.proofs.Common.{rules, ◌≡◌, ◌≢◌, ℕ, ◌+◌, ◌<◌, ◌≤◌, inl, inr, Bool, true, false, not, List, [], ◌∷◌, sym, refl}
 use Rattle.std.proofs.Common.{subst, ap, ◌∙◌, arith}
 use Rattle.std.specs.Prelude.{Option, Some, None, All, IsTrue, ◌==◌, nat_lt, if◌then◌else◌}
+use Rattle.std.proofs.lemmas.Bool.{both_ways}
 use Rattle.std.proofs.lemmas.List.Elements.{All-tail, All-nil, All-cons, All-weaker}
 use Rattle.lset_words.proofs.Numbers.{below_or_not, same_or_not, equal_test, unequal_test, if_below, if_not_below}
 use Rattle.lset_words.specs.Account.{IsCeiling}
@@ -29,10 +30,6 @@ quiet_state present (x ∷ ms) a b l q = elim (below_or_not b x) [
       ∙ quiet_state (not present) ms a b l (All-tail (λ m. a < m → m ≤ b → ⊥) x ms q)
       ∙ sym (if_not_below a x (quiet_upto x ms a b u q) present (state_at (not present) ms a))
 ]
-
-not_both : (b : Bool) → b ≡ true → b ≡ false → ⊥
-not_both true e f = cc
-not_both false e f = cc
 
 module _ (changes : ℕ → List ℕ) (key : ℕ) (found : Option ℕ) where
   against_same : (o : Option ℕ) (j m n : ℕ) → is_present changes j n ≡ is_present changes j m →
@@ -94,8 +91,8 @@ module _ (changes : ℕ → List ℕ) (key : ℕ) (found : Option ℕ) where
         stays = λ j m h l u. elim (below_or_not m note.0) [
           | inl a ↦ stays_before j m h l a
           | inr b ↦ subst (λ z. is_against changes key found j z ≡ true) (let e : note.0 ≡ m = omega arith in e)
-              (at_note j (λ e. not_both (is_against changes key found j moment) h
-              (subst (λ z. is_against changes key found z moment ≡ false) (sym e) n)) ∙ stays_at_last j h)
+              (at_note j (λ e. both_ways (is_against changes key found j moment)
+              (subst (λ z. is_against changes key found z moment ≡ false) (sym e) n) h) ∙ stays_at_last j h)
         ];
       }
 
@@ -160,7 +157,7 @@ module _ (changes : ℕ → List ℕ) (key : ℕ) (found : Option ℕ) (from mom
 
   absent_at_candidate : CameAfter changes key found moment → (j : ℕ) → key ≤ j → IsBelow j found →
       is_present changes j moment ≡ true → ⊥
-  absent_at_candidate came j l u e = not_both (is_present changes j moment) e (came j l u (stays_now j l u e))
+  absent_at_candidate came j l u e = both_ways (is_present changes j moment) (came j l u (stays_now j l u e)) e
 
   against_from_then : (to j : ℕ) → is_against changes key found j moment ≡ true →
       IsFirst (CeilingAt changes key found) from to None
@@ -235,7 +232,7 @@ one_more_came changes key k end next moment after absent came = λ j l u e now. 
   | inl b ↦ came j l b e now
   | inr g ↦ elim (same_or_not j k) [
     | inl s ↦ subst (λ z. is_present changes z moment ≡ false) (sym s) absent
-    | inr d ↦ absurd (not_both (is_present_now changes j) now (not_now_between changes k j next after (omega arith) u))
+    | inr d ↦ absurd (both_ways (is_present_now changes j) (not_now_between changes k j next after (omega arith) u) now)
   ]
 ]
 

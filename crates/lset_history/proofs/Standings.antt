@@ -62,8 +62,6 @@ IsStanding number x m s = (s.number ≡ number) × (s.traced ≡ x) × (s.moment
 standing_has : (n : ℕ) (xs : List TracedCall) (ps : List (Option ℕ)) (i m : ℕ) → i < length xs → place_at ps i ≡ Some m
     → SomeOf (IsStanding (n + i) (traced_at xs i) m) (standing n xs ps)
 standing_has n [] ps i m l e = absurd (omega arith)
-standing_has n (x ∷ xs) [] i m l e = absurd (cc)
-standing_has n (x ∷ xs) (None ∷ ps) zero m l e = absurd (cc)
 standing_has n (x ∷ xs) (Some p ∷ ps) zero m l e = inl (omega arith, refl, cc)
 standing_has n (x ∷ xs) (None ∷ ps) (suc i) m l e = let f : suc n + i ≡ n + suc i = omega arith in
     subst (λ z. SomeOf (IsStanding z (traced_at xs i) m) (standing (suc n) xs ps)) f
@@ -71,6 +69,7 @@ standing_has n (x ∷ xs) (None ∷ ps) (suc i) m l e = let f : suc n + i ≡ n 
 standing_has n (x ∷ xs) (Some p ∷ ps) (suc i) m l e = let f : suc n + i ≡ n + suc i = omega arith in
     inr (subst (λ z. SomeOf (IsStanding z (traced_at xs i) m) (standing (suc n) xs ps)) f
     (standing_has (suc n) xs ps i m (omega arith) e))
+standing_has n xs ps i m l e = absurd cc
 
 -- WHAT HOLDS OF A CALL THAT STANDS
 pub record Stood (r : Run) (last : ℕ) (calls : List TracedCall) (places : List (Option ℕ)) (s : Standing) : Type 0 where

@@ -78,9 +78,8 @@ rises_on (Some (k, true)) before after keys c h r = with_rises k.0 0 keys r (ome
 rises_on (Some (k, false)) before after keys c h r = without_rises k.0 0 keys r
 
 long_on : (t : ℕ) (change : Option Change) (counts : List ℕ) → length (counts_after t change counts) ≡ length counts
-long_on t None counts = refl
 long_on t (Some (k, true)) counts = length-set counts t (slice_index counts t + 1)
-long_on t (Some (k, false)) counts = refl
+long_on t change counts = refl
 
 shows_on : (threads quota : ℕ) (log : Log) (contents : Contents) (counts : Counts) (k : ℕ) (e : Entry) (s : SetState)
     → Enters threads quota log contents counts k e → Shows threads (contents k) (counts k) s

@@ -59,21 +59,15 @@ misses_first calls order marks n holds h = record {
 -- THE ORDER LINEARIZES THE HISTORY
 pairs_of_places : (R : Placed → Placed → Type 0) (order : List Placed)
     → ((i j : ℕ) → i < j → j < length order → R (place_at order i) (place_at order j)) → AllPairs R order
-pairs_of_places R order h i j d low inside =
-    let F : Placed → Type 0 = λ p. R p (get_or order j d) in
-    let G : Placed → Type 0 = λ r. R (place_at order i) r in
-    subst F (sym (read_place order i d (omega arith))) (subst G (sym (read_place order j d inside)) (h i j low inside))
+pairs_of_places R order h i j d low inside = rw (read_place order i d (omega arith), read_place order j d inside) (h i j low inside)
 
 reply_of_end : (o : Option (ℕ × Reply)) (end : ℕ) (reply other : Reply) → o ≡ Some (end, reply)
     → IfSome o (λ (e : ℕ × Reply). e.1 ≡ other) → reply ≡ other
-reply_of_end o end reply other e h =
-    let P : Option (ℕ × Reply) → Type 0 = λ v. IfSome v (λ (w : ℕ × Reply). w.1 ≡ other) in subst P e h
+reply_of_end o end reply other e h = rw e at h
 
 placed_as : (p : Placed) (number : ℕ) (reply : Reply) → p.call ≡ number → p.reply ≡ reply
     → p ≡ record { call = number; reply = reply }
-placed_as p number reply e f =
-    ap (λ (n : ℕ). let v : Placed = record { call = n; reply = p.reply } in v) e
-    ∙ ap (λ (r : Reply). let v : Placed = record { call = number; reply = r } in v) f
+placed_as p number reply e f = rw (← e, ← f) refl
 
 pub linearizes : (o : OracleValue) (calls : List CallRecord) (order : List Placed)
     → HasKnownCalls calls order → Passes (IsTwice order) order → MissesNone calls order → HasReplies o calls order → Passes
@@ -93,12 +87,11 @@ linearizes o calls order known once none replies early = record {
     stands_there number end reply low e (inr absent) =
         absurd (grind (arith, common_steps))
     stands_there number end reply low e (inl there) =
-        let Q : List Placed → Type 0 = λ ps. stands ps number ≡ true in
         let at : (k : ℕ) × (k < length order) × (k < length order) × ((place_at order k).call ≡ number) =
-        stands_earlier order (length order) number (subst Q (sym (take_all (length order) order (omega arith))) there) in
+        stands_earlier order (length order) number (subst (λ ps. stands ps number ≡ true) (sym (take_all (length order) order (omega arith))) there) in
         let k = at.0 in
-        let P : ℕ → Type 0 = λ n. IfSome (call_numbered calls n).ended (λ (w : ℕ × Reply). w.1 ≡ (place_at order k).reply) in
-        let recorded = subst P at.3 (replies.recorded k (place_at [] 0) at.1) in (
+        let recorded = subst (λ n. IfSome (call_numbered calls n).ended (λ (w : ℕ × Reply). w.1 ≡ (place_at order k).reply)) at.3
+        (replies.recorded k (place_at [] 0) at.1) in (
           k,
           at.1,
           read_place order k _ at.1 ∙ placed_as (place_at order k) number reply at.3 (sym
@@ -147,59 +140,40 @@ pub missing_fault : (h : HistoryValue) (calls : List CallRecord) (order : List P
     → IsLeftOut calls marks number × ((smaller : ℕ) → smaller < number → IsLeftOut calls marks smaller → ⊥)
     → IsFault h order keys (Missing number)
 missing_fault h calls order keys marks number s out =
-    let P : List CallRecord → Type 0 = λ xs. HasKnownCalls xs order in
-    let Q : List CallRecord → Type 0 = λ xs.
-    IsLeftOut xs marks number × ((smaller : ℕ) → smaller < number → IsLeftOut xs marks smaller → ⊥) in (
-      passes_known h.calls order (subst P s.calls_are s.known),
-      s.once,
-      misses_first h.calls order marks number s.holds (subst Q s.calls_are out),
-    )
+    (passes_known h.calls order (rw s.calls_are at s.known), s.once, misses_first h.calls order marks number s.holds (rw s.calls_are at out))
 
 -- the same facts of the calls of the history itself, from the opening of its set
 settled : (h : HistoryValue) (calls : List CallRecord) (order : List Placed) (marks : List Bool) (oracle : OracleValue)
     → LeavesNoneOut h calls order marks oracle → LeavesNoneOut h h.calls order marks (set_opened h.opening)
 settled h calls order marks oracle l =
-    let P : List CallRecord → Type 0 = λ xs. StandsOnce h xs order marks in
-    let Q : List CallRecord → Type 0 = λ xs. (number : ℕ) → IsLeftOut xs marks number → ⊥ in
-    record {
-      stands_once = subst P l.stands_once.calls_are l.stands_once;
-      none_out = subst Q l.stands_once.calls_are l.none_out;
-      opens = refl;
-    }
+    let same = l.stands_once.calls_are in record { stands_once = rw same at l.stands_once; none_out = rw same at l.none_out; opens = refl }
 
 pub wrong_reply_fault : (h : HistoryValue) (calls : List CallRecord) (order : List Placed) (keys : List ℕ) (marks : List Bool)
     (oracle : OracleValue) (number : ℕ)
     → LeavesNoneOut h calls order marks oracle → RefusesFirst (HasWrongReply oracle.quota oracle.state calls order) order number
     → IsFault h order keys (WrongReply number)
 wrong_reply_fault h calls order keys marks oracle number l w =
-    let own = settled h calls order marks oracle l in
-    let P : OracleValue → Type 0 = λ o. RefusesFirst (HasWrongReply o.quota o.state calls order) order number in
-    let Q : List CallRecord → Type 0 = λ xs. RefusesFirst (HasWrongReply h.opening.quota (opening_set h.opening) xs order) order
-    number in (
+    let own = settled h calls order marks oracle l in (
       passes_known h.calls order own.stands_once.known,
       own.stands_once.once,
       none_missing h order marks _ own,
-      subst Q l.stands_once.calls_are (subst P l.opens w),
+      rw (l.opens, l.stands_once.calls_are) at w,
     )
 
 own_replies : (h : HistoryValue) (calls : List CallRecord) (order : List Placed) (marks : List Bool) (oracle : OracleValue)
     → LeavesNoneOut h calls order marks oracle → HasReplies oracle calls order → HasReplies (set_opened h.opening) h.calls order
-own_replies h calls order marks oracle l r =
-    let P : OracleValue → Type 0 = λ o. HasReplies o calls order in
-    let Q : List CallRecord → Type 0 = λ xs. HasReplies (set_opened h.opening) xs order in
-    subst Q l.stands_once.calls_are (subst P l.opens r)
+own_replies h calls order marks oracle l r = rw (l.opens, l.stands_once.calls_are) at r
 
 pub too_early_fault : (h : HistoryValue) (calls : List CallRecord) (order : List Placed) (keys : List ℕ) (marks : List Bool)
     (oracle : OracleValue) (number : ℕ) → LeavesNoneOut h calls order marks oracle → HasReplies oracle calls order
     → RefusesFirst (IsTooEarly calls order) order number → IsFault h order keys (TooEarly number)
 too_early_fault h calls order keys marks oracle number l r e =
-    let own = settled h calls order marks oracle l in
-    let Q : List CallRecord → Type 0 = λ xs. RefusesFirst (IsTooEarly xs order) order number in (
+    let own = settled h calls order marks oracle l in (
       passes_known h.calls order own.stands_once.known,
       own.stands_once.once,
       none_missing h order marks _ own,
       passes_replies _ h.calls order (own_replies h calls order marks oracle l r),
-      subst Q l.stands_once.calls_are e,
+      rw l.stands_once.calls_are at e,
     )
 
 -- the keys that the set has after the order
@@ -215,13 +189,12 @@ pub wrong_set_fault : (h : HistoryValue) (calls : List CallRecord) (order : List
     → LeavesNoneOut h calls order marks oracle → HasReplies oracle calls order → Passes (IsTooEarly calls order) order
     → now ≡ after_order oracle calls order → now.state.keys ≢ keys → IsFault h order keys WrongSet
 wrong_set_fault h calls order keys marks oracle now l r e after other =
-    let own = settled h calls order marks oracle l in
-    let Q : List CallRecord → Type 0 = λ xs. Passes (IsTooEarly xs order) order in (
+    let own = settled h calls order marks oracle l in (
       passes_known h.calls order own.stands_once.known,
       own.stands_once.once,
       none_missing h order marks _ own,
       passes_replies _ h.calls order (own_replies h calls order marks oracle l r),
-      subst Q l.stands_once.calls_are e,
+      rw l.stands_once.calls_are at e,
       λ same. other (ap (λ (o : OracleValue). o.state.keys) after ∙ keys_after h calls order marks oracle l ∙ sym same),
     )
 
@@ -230,12 +203,10 @@ pub explained : (h : HistoryValue) (calls : List CallRecord) (order : List Place
     → LeavesNoneOut h calls order marks oracle → HasReplies oracle calls order → Passes (IsTooEarly calls order) order
     → now ≡ after_order oracle calls order → now.state.keys ≡ keys → IsStrictlyIncreasing now.state.keys → Explains h order keys
 explained h calls order keys marks oracle now l r e after same rising =
-    let own = settled h calls order marks oracle l in
-    let P : List CallRecord → Type 0 = λ xs. Passes (IsTooEarly xs order) order in
-    record {
+    let own = settled h calls order marks oracle l in record {
       linearizes = linearizes (set_opened h.opening) h.calls order own.stands_once.known own.stands_once.once
           (none_missing h order marks _ own)
-          (own_replies h calls order marks oracle l r) (subst P l.stands_once.calls_are e);
+          (own_replies h calls order marks oracle l r) (rw l.stands_once.calls_are at e);
       keys_left = sym same ∙ ap (λ (o : OracleValue). o.state.keys) after ∙ keys_after h calls order marks oracle l;
       rising = subst IsStrictlyIncreasing same rising;
     }

@@ -1,7 +1,6 @@
 pub mod Leading
 pub mod Placing
 pub mod EventLemmas
-pub mod KeyTests
 pub mod Orders
 pub mod Placed
 pub mod Building

@@ -25,7 +25,7 @@ use Rattle.lset_judge.specs.Rule.{Event, begins, looks, leaves, idle, opened, ch
 use Rattle.lset_judge.specs.Events.{Kind, changes, sees, nothing, kind_of, open_kind, kind_if, until_if, begin_event, end_event, event_at}
 use Rattle.lset_judge.specs.Events.{RulePasses}
 use Rattle.lset_judge.proofs.EventLemmas.{kind, until, begun_below, end_below, Begins, Ends, Told, of_nothing, of_begin, of_end, told, begins_at, if_some, none_or_some}
-use Rattle.lset_judge.proofs.KeyTests.{has_with, has_with_other, has_without, has_without_other}
+use Rattle.lset_history.proofs.Keys.{has_with, has_with_other, has_without, has_without_other}
 use Rattle.lset_judge.proofs.Placing.{In, Act, act, suits, becomes, TakeTurns, Apart, IsAct, AreEvents, Lists, Ready, succeeds, one_of}
 
 -- ---- what an answered call does to a key

@@ -17,9 +17,7 @@ loop-i-preserved c =
     let inside : j < length order = omega arith in
     let next : i ≡ suc j = omega arith in
     let read = get_or_default calls (place_at order j).call _ no_call (c.requires j (place_at [] 0) inside) in
-    let L : ℕ → Type 0 = λ n. EndsLeast calls order n c.loop-i.least_end in
-    let F : ℕ → Type 0 = λ n. FindsEarly calls order n c.loop-i.early in
-    let least = subst L next c.loop-i.invariant.least in
+    let least = subst (λ n. EndsLeast calls order n c.loop-i.least_end) next c.loop-i.invariant.least in
     let begun = ap (λ (x : CallRecord). x.begun) read in
     record {
       in_range = omega arith;
@@ -28,13 +26,12 @@ loop-i-preserved c =
         | then-is_below w ↦ rw w.early-is (early_here calls order j _ _ inside begun least
             (c.is_below.ensures.0 w.if-is_below.true))
         | else-is_below w ↦ rw w.early-is (early_later calls order j _ _ _ begun least
-            (λ h. both_ways _ w.if-is_below.false (c.is_below.ensures.1 h)) (subst F next c.loop-i.invariant.found))
+            (λ h. both_ways _ w.if-is_below.false (c.is_below.ensures.1 h)) (subst (λ n. FindsEarly calls order n c.loop-i.early) next c.loop-i.invariant.found))
       ];
     }
 
 pub returns : goal.returns
 returns c =
-    let i = c.loop-i.i in
-    let zero : i ≡ 0 = omega arith in
-    let F : ℕ → Type 0 = λ n. FindsEarly c.args.calls.now c.args.order.now n c.loop-i.early in
-    early_first c.args.calls.now c.args.order.now c.loop-i.early (subst F zero c.loop-i.invariant.found)
+    let zero : c.loop-i.i ≡ 0 = omega arith in
+    early_first c.args.calls.now c.args.order.now c.loop-i.early
+    (subst (λ n. FindsEarly c.args.calls.now c.args.order.now n c.loop-i.early) zero c.loop-i.invariant.found)

@@ -1,4 +1,6 @@
 use Rattle.std.proofs.Common.{rules, ◌≡◌, ◌≤◌, ℕ, Bool, true, false, Some, sym, subst, ◌∙◌}
+use Rattle.std.proofs.lemmas.Bool.{both_ways}
+use Rattle.std.proofs.lemmas.Option.{same_Some}
 use Rattle.lset_history.specs.Changes.{moments_of}
 use Rattle.lset_history.proofs.Raises.{past_the_end, some_there, none_is_least, it_is_least, it_is_absent, it_is_too_low}
 use Rattle.lset_history.proofs.changes.Changes.first_ceiling.Goals as goal
@@ -7,19 +9,12 @@ use Rattle.lset_history.proofs.changes.Changes.first_ceiling.Goals.{else-moment-
 use Rattle.lset_history.proofs.changes.Changes.first_ceiling.Goals.{else-moment-to-via-then-moment-to+else-is_there}
 use Rattle.lset_history.proofs.changes.Changes.first_ceiling.Goals.{else-moment-to-via-else-moment-to}
 
-no_two : {A : Type 0} (b : Bool) → b ≡ false → b ≡ true → A
-no_two true e f = absurd (cc)
-no_two false e f = absurd (cc)
-
-some_is : (a b : ℕ) → Some a ≡ Some b → a ≡ b
-some_is a b e = cc
-
 pub returns-then-came_after-clause-first : goal.returns-then-came_after-clause-first
 returns-then-came_after-clause-first c = elim c.match-found.branch [
-  | in-Some w ↦ no_two c.match-found.is_there w.is_there-is c.if-is_there.true
+  | in-Some w ↦ absurd (both_ways c.match-found.is_there w.is_there-is c.if-is_there.true)
   | in-Some-2 w ↦ it_is_least (moments_of c.args.self.now) c.args.key c.args.found c.args.from c.candidate-moment.result
       c.candidate-moment.ensures c.args.to w.in-Some-2.found w.in-Some-2.is
-      (subst (λ x. c.args.key ≤ x) (some_is w.in-Some.found w.in-Some-2.found (sym w.in-Some.is ∙ w.in-Some-2.is))
+      (subst (λ x. c.args.key ≤ x) (same_Some w.in-Some.found w.in-Some-2.found (sym w.in-Some.is ∙ w.in-Some-2.is))
       w.if-found-key.false)
       (sym w.was_present-is_there.ensures ∙ sym w.is_there-is ∙ c.if-is_there.true) c.if-moment-to.true
       (c.came_after.ensures.came c.if-came_after.true)
@@ -38,7 +33,7 @@ returns-else-moment-to-clause-first c = elim c.else-moment-to.branch [
     | in-Some-2 w ↦ it_is_absent (moments_of c.args.self.now) c.args.key c.args.found c.args.from c.candidate-moment.result
         c.candidate-moment.ensures c.args.to w.in-Some-2.found w.in-Some-2.is
         (sym w.was_present-is_there.ensures ∙ sym w.is_there-is ∙ v.if-is_there.false)
-    | in-None w ↦ no_two c.match-found.is_there v.if-is_there.false w.is_there-is
+    | in-None w ↦ absurd (both_ways c.match-found.is_there v.if-is_there.false w.is_there-is)
   ]
   | else-moment-to-via-else-moment-to v ↦ search (rules, past_the_end)
 ]

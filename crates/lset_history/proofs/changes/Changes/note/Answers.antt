@@ -2,6 +2,7 @@ use Rattle.std.proofs.Common.{◌≡◌, Bool, true, false, refl, sym, subst}
 use Rattle.std.specs.List.{list_any}
 use Rattle.std.specs.Ordering.{nat_cmp}
 use Rattle.std.specs.BTreeMap.{is_at}
+use Rattle.std.proofs.lemmas.Bool.{both_ways}
 use Rattle.std.proofs.lemmas.Result.{MatchResult-from_err}
 use Rattle.lset_history.specs.Changes.{changes_in, AreKept}
 use Rattle.lset_history.proofs.Noting.{kept_beside, kept_listed, kept_present, kept_noted, has_after, others_after}
@@ -30,10 +31,6 @@ invariant_of-self-in_err-push_moment c = subst (λ d. AreKept d c.insert.new.sel
     (kept_beside (changes_in c.self.inside.opening.items c.self.inside.moments) c.args.key c.args.at (rw (← c.self.view_is) at c.requires.later)
     c.self.inside.keys_at c.insert.new.self c.self.inside.keys_now c.in_ok-insert.ensures.updates c.self.invariant))
 
-no_two : {A : Type 0} (b : Bool) → b ≡ false → b ≡ true → A
-no_two true e f = absurd (cc)
-no_two false e f = absurd (cc)
-
 -- the change too
 pub invariant_of-self-then-not-present : goal.invariant_of-self-then-not-present
 invariant_of-self-then-not-present c = kept_noted (changes_in c.self.inside.opening.items c.self.inside.moments) c.args.key c.args.at
@@ -48,7 +45,7 @@ invariant_of-self-then-not-present c = kept_noted (changes_in c.self.inside.open
     c.self.inside.keys_at c.insert.new.self c.self.inside.keys_now c.in_ok-insert.ensures.updates c.self.invariant))
     c.in_ok-insert.ensures.updates.1 (rw (← c.self.view_is) at c.requires.turn)
     (others_after c.args.key c.insert-2.new.self c.remove.new.self c.remove.ensures.updates)
-    (no_two c.args.present c.if-not-present.true)
+    (λ e. absurd (both_ways c.args.present c.if-not-present.true e))
 
 pub invariant_of-self-else-not-present : goal.invariant_of-self-else-not-present
 invariant_of-self-else-not-present c = kept_noted (changes_in c.self.inside.opening.items c.self.inside.moments) c.args.key c.args.at
