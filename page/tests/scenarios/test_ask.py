@@ -15,7 +15,7 @@ def test_each_question_is_shown_changed_and_left(visitor):
         visitor.open(f"#ask={name}")
         visitor.click("[data-option]")
         hurried(visitor)
-        assert len(visitor.text(".reveal .you")) > 20 and len(visitor.text(".reveal .why")) > 40, name
+        assert visitor.text(".reveal .you").startswith("You said: ") and len(visitor.text(".reveal .why")) > 40, name
         if visitor.is_seen("[data-do=without]"):
             visitor.click("[data-do=without]")
             visitor.press("Right")
