@@ -148,7 +148,7 @@ typedef enum LISTSET_BYTE listset_fault {
   LISTSET_OK = 0,              /* it is not */
   LISTSET_BAD_SEATS = 10,      /* not 1 to 64 */
   LISTSET_BAD_QUOTA = 11,      /* above 16,384 */
-  LISTSET_BAD_KEYS = 12,       /* they do not rise, or are more than 1,048,576 */
+  LISTSET_BAD_KEYS = 12,       /* they do not increase, or are more than 1,048,576 */
   LISTSET_OUT_OF_MEMORY = 13,
   LISTSET_BAD_KIND = 14,
   LISTSET_IS_SEAT = 15,        /* `out` is full */
@@ -181,7 +181,7 @@ LISTSET_USED listset_fault listset_gather(listset_seat *into, listset_seat *from
 /* Ends the set: the seat then holds its keys. They take memory; where that is refused, nothing is closed. */
 LISTSET_USED listset_fault listset_close(listset_seat *seat);
 
-/* How many keys the closed set has; they are in `room`, rising, where it has places enough. SIZE_MAX where it is no closed set. */
+/* How many keys the closed set has; they are in `room`, in increasing order, where it has places enough. SIZE_MAX where it is no closed set. */
 size_t listset_keys(listset_seat *closed, uint32_t *room, size_t places);
 
 /* Lets go of what a seat holds, and empties it. Without all its seats a set is not closed any more. */

@@ -9,7 +9,7 @@ const char *listset_fault_text(unsigned char fault) {
   case 0: return "nothing is refused";
   case 10: return "the seats are not 1 to 64";
   case 11: return "the quota is above 16384";
-  case 12: return "the keys do not rise or are too many";
+  case 12: return "the keys do not increase or are too many";
   case 13: return "out of memory";
   case 14: return "there is no such list";
   case 15: return "the seat to be written is in use";

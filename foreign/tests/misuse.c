@@ -56,7 +56,7 @@ static void refused_openings(void) {
   expect("no seat", listset_open(LISTSET_LAZY, 0, 1, 0, KEYS, 3, &out), LISTSET_BAD_SEATS);
   expect("too many seats", listset_open(LISTSET_LAZY, 65, 1, 0, KEYS, 3, &out), LISTSET_BAD_SEATS);
   expect("too large a quota", listset_open(LISTSET_LAZY, 1, 16385, 0, KEYS, 3, &out), LISTSET_BAD_QUOTA);
-  expect("keys that do not rise", listset_open(LISTSET_LAZY, 1, 1, 0, FALLING, 2, &out), LISTSET_BAD_KEYS);
+  expect("keys that do not increase", listset_open(LISTSET_LAZY, 1, 1, 0, FALLING, 2, &out), LISTSET_BAD_KEYS);
   expect("too many keys", listset_open(LISTSET_LAZY, 1, 1, 0, many, MOST_KEYS + 1, &out), LISTSET_BAD_KEYS);
   expect("nothing was opened", out.full, false);
 }

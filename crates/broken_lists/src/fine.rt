@@ -27,7 +27,7 @@ fn with_one_lock(call: Call, local: Local) -> Local {
 }
 
 /// Without the second lock of `remove`: it holds only the lock of `pred`.
-pub fn fed_with_one_lock(local: &Local, seen: u64) -> Fed
+pub(crate) fn fed_with_one_lock(local: &Local, seen: u64) -> Fed
     requires { IsSmall local.now }
 {
     let fed = fed_by(local, seen);
@@ -46,7 +46,7 @@ fn through_row_14(local: Local) -> Local {
 }
 
 /// Without hand-over-hand locking: a walk releases the lock of `pred` before it takes that of `curr`.
-pub fn fed_pred_first(local: &Local, seen: u64) -> Fed
+pub(crate) fn fed_pred_first(local: &Local, seen: u64) -> Fed
     requires { IsSmall local.now }
 {
     if local.pc == 14 {

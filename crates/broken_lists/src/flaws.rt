@@ -38,7 +38,7 @@ pub fn begun(broken: BrokenList, call: Call, local: &Local) -> Local {
     }
 }
 
-pub fn next_action(broken: BrokenList, local: &Local) -> Action
+pub(crate) fn next_action(broken: BrokenList, local: &Local) -> Action
     requires { IsSmall local.now }
 {
     match broken {
@@ -53,7 +53,7 @@ pub fn next_action(broken: BrokenList, local: &Local) -> Action
     }
 }
 
-pub fn fed_by(broken: BrokenList, local: &Local, seen: u64) -> Fed
+pub(crate) fn fed_by(broken: BrokenList, local: &Local, seen: u64) -> Fed
     requires { IsSmall local.now }
 {
     match broken {
@@ -77,7 +77,7 @@ pub fn fed_by(broken: BrokenList, local: &Local, seen: u64) -> Fed
     }
 }
 
-pub fn effect_of(broken: BrokenList, local: &Local, seen: u64) -> Option<(Key, bool)>
+pub(crate) fn effect_of(broken: BrokenList, local: &Local, seen: u64) -> Option<(Key, bool)>
     requires { IsSmall local.now }
 {
     match broken {

@@ -13,7 +13,7 @@ fn marked_as_seen(node: u64, local: &Local) -> u64 {
 }
 
 /// Without the mark in `add`: it exchanges the link of `pred`, marked or not.
-pub fn next_whatever_mark(local: &Local) -> Action
+pub(crate) fn next_whatever_mark(local: &Local) -> Action
     requires { IsSmall local.now }
 {
     match local.pc {
@@ -27,7 +27,7 @@ pub fn next_whatever_mark(local: &Local) -> Action
     }
 }
 
-pub fn fed_whatever_mark(local: &Local, seen: u64) -> Fed
+pub(crate) fn fed_whatever_mark(local: &Local, seen: u64) -> Fed
     requires { IsSmall local.now }
 {
     match local.pc {
@@ -49,7 +49,7 @@ pub fn fed_whatever_mark(local: &Local, seen: u64) -> Fed
     }
 }
 
-pub fn effect_whatever_mark(local: &Local, seen: u64) -> Option<(Key, bool)>
+pub(crate) fn effect_whatever_mark(local: &Local, seen: u64) -> Option<(Key, bool)>
     requires { IsSmall local.now }
 {
     match local.pc {
@@ -61,7 +61,7 @@ pub fn effect_whatever_mark(local: &Local, seen: u64) -> Option<(Key, bool)>
 }
 
 /// Without marks: a `remove` unlinks its node and does not mark it first.
-pub fn fed_without_mark(local: &Local, seen: u64) -> Fed
+pub(crate) fn fed_without_mark(local: &Local, seen: u64) -> Fed
     requires { IsSmall local.now }
 {
     match local.pc {
@@ -76,7 +76,7 @@ pub fn fed_without_mark(local: &Local, seen: u64) -> Fed
     }
 }
 
-pub fn effect_without_mark(local: &Local, seen: u64) -> Option<(Key, bool)>
+pub(crate) fn effect_without_mark(local: &Local, seen: u64) -> Option<(Key, bool)>
     requires { IsSmall local.now }
 {
     match local.pc {

@@ -47,7 +47,7 @@ fn met_at(words: &[u64], node: u64) -> Option<Met> {
 /// Returns the keys of the nodes that a walk from the head reaches before the tail, each with whether its node is marked.
 /// The walk ends after as many nodes as there are, since a broken list may lead in a circle. Allocates; `AllocError` if that
 /// fails.
-pub fn chain_met(alloc: Global, words: &[u64]) -> Result<Vec<ChainKey>, AllocError> {
+pub(crate) fn chain_met(alloc: Global, words: &[u64]) -> Result<Vec<ChainKey>, AllocError> {
     let mut met = Vec::new(alloc);
     let mut node = word_at(words, link_index(0)) / 2;
     for _left in 0..words.len() / 3 {
@@ -64,7 +64,7 @@ pub fn chain_met(alloc: Global, words: &[u64]) -> Result<Vec<ChainKey>, AllocErr
 
 /// Returns the keys without a mark among those reached, each once, in increasing order. Allocates; `AllocError` if that
 /// fails.
-pub fn keys_of(alloc: Global, met: &[ChainKey]) -> Result<Vec<u32>, AllocError> {
+pub(crate) fn keys_of(alloc: Global, met: &[ChainKey]) -> Result<Vec<u32>, AllocError> {
     let mut keys = BTreeSet::new(alloc);
     for place in met {
         if !place.marked {

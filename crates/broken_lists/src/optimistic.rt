@@ -13,7 +13,7 @@ fn past_the_walk(local: Local) -> Local {
 }
 
 /// Without the second walk: the validation sees only that `pred` leads to `curr`.
-pub fn fed_without_walk(local: &Local, seen: u64) -> Fed
+pub(crate) fn fed_without_walk(local: &Local, seen: u64) -> Fed
     requires { IsSmall local.now }
 {
     let fed = fed_by(local, seen);
@@ -24,7 +24,7 @@ pub fn fed_without_walk(local: &Local, seen: u64) -> Fed
 }
 
 /// Without the comparison of nodes: the second walk ends at the key of `pred`, in whatever node.
-pub fn arrived_by_key(seen: u64, local: &Local) -> Local {
+pub(crate) fn arrived_by_key(seen: u64, local: &Local) -> Local {
     if local.pkey < seen {
         Local {
             pc: 14,

@@ -84,7 +84,7 @@ fn put_order(out: &mut String, refusal: &OrderRefusal) -> Result<(), AllocError>
 
 fn put_claim(out: &mut String, claim: Claim) -> Result<(), AllocError> {
     match claim {
-        Claim::NotRising => out.push_str("verdict none\n"),
+        Claim::NotIncreasing => out.push_str("verdict none\n"),
         Claim::NotLinearizable(refusal, window) => put_none(out, refusal, window),
         Claim::Explained => out.push_str("verdict another\n"),
         Claim::Unknown => out.push_str("verdict unknown\n"),

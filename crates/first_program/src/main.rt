@@ -28,7 +28,7 @@ use std::thread::{Threads, join};
 const SCHEDULE: &str =
     "listset-schedule 1\nlist coarse\nthreads 1\nquota 1\nbegin 0 add 5\ngo 0 7\n";
 
-/// One thread alone, on a LazyList with two slots: what its calls return.
+/// One thread alone, on a LazyList with a quota of two: what its calls return.
 fn one_thread<R: Wait + Print>(rt: &R, alloc: Global) -> Result<()> {
     let (set, mut seats) = open::<LazyList>(alloc, 1, 2)?;
     let mut seat = seats.pop().context("the set has no seat")?;
@@ -43,7 +43,7 @@ fn one_thread<R: Wait + Print>(rt: &R, alloc: Global) -> Result<()> {
     Ok(())
 }
 
-/// What two threads make of a list that opens with these keys, with two slots for each: the replies to each one's calls, and the
+/// What two threads make of a list that opens with these keys, with a quota of two for each: the replies to each one's calls, and the
 /// keys that are left.
 fn two_threads<M: Running + Send + Sync + Drop, R: Threads + Wait + Sync>(
     rt: &R,
@@ -89,7 +89,7 @@ fn add_and_tell<M: Running, R: Wait>(
     (seat, receipt)
 }
 
-/// Two threads add a key each, to a LazyList with a slot for each. Seat one then looks for the key of seat zero, whose receipt it has
+/// Two threads add a key each, to a LazyList with a quota of one for each. Seat one then looks for the key of seat zero, whose receipt it has
 /// taken: so each order that `close` promises has that `add` before.
 fn started_threads<R: Threads + Wait + Sync + Print>(rt: &R, alloc: Global) -> Result<()> {
     let (set, mut seats) = open::<LazyList>(alloc, 2, 1)?;

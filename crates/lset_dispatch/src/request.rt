@@ -13,7 +13,7 @@ use tool_show::{Show, read_show};
 
 /// What a command line asks for, whatever the file is that the command reads.
 #[derive(Clone, Copy)]
-pub enum Request {
+pub(crate) enum Request {
     Replay(Option<BrokenList>),
     Judge,
     Check,
@@ -86,7 +86,7 @@ fn read_serve(words: &Words) -> Result<Request, ValueName>
 
 /// Reads what the words ask for: numbers are read, and names are found. The error is the first value or option that is
 /// missing or wrong.
-pub fn read_request(words: &Words) -> Result<Request, ValueName>
+pub(crate) fn read_request(words: &Words) -> Result<Request, ValueName>
     ensures asked { IfSome (asked (choice_in words.now)) (λ r. result ≡ r) }
     ensures known { IfOk result IsKnown }
 {

@@ -36,7 +36,7 @@ fn replay<R: Read, W: Write, E: Write>(
 /// Runs a request, and returns the exit status. Writes the result to `output`, or one line about an error to `stderr`.
 /// Whether `input` is read, the request says. Allocates. `run` and `serve` start threads on `rt` and block until they end;
 /// `serve` listens on it.
-pub fn run_request<
+pub(crate) fn run_request<
     H: Net<Listener = TcpListener, Stream = TcpStream> + Threads + Wait + Clock + Sync,
     R: Read,
     W: Write,

@@ -1,11 +1,11 @@
--- A test of whether a key, or none, is the least one at or above another at a moment, where all keys are below 2^32.
+-- A test of whether a key, or none, is the smallest one at or above another at a moment, where all keys are below 2^32.
 use Rattle.std.proofs.Common.{rules, ◌≡◌, ℕ, ◌+◌, ◌-◌, ◌<◌, ◌≤◌, ◌⊎◌, inl, inr, true, List, refl, subst, ap, arith}
 use Rattle.std.specs.Prelude.{Option, Some, None}
 use Rattle.lset_words.proofs.Numbers.{same_number, equal_test}
 use Rattle.lset_words.specs.Account.{Content, IsCeiling}
-use Rattle.lset_history.specs.Changes.{IsFirst, is_present, IsBounded, first_passing, same_key, least_present, has_ceiling}
-use Rattle.lset_history.proofs.Firsts.{first_passing_is, one_first}
-use Rattle.lset_history.proofs.Raises.{CeilingAt}
+use Rattle.lset_history.specs.Changes.{IsFirst, is_present, IsBounded, first_passing, same_key, smallest_present, has_ceiling}
+use Rattle.lset_history.proofs.FirstMoments.{first_passing_is, one_first}
+use Rattle.lset_history.proofs.CeilingSearch.{CeilingAt}
 
 same_key_is : (a b : Option ℕ) → same_key a b ≡ true → a ≡ b
 same_key_is None None e = refl
@@ -26,8 +26,8 @@ module _ (changes : ℕ → List ℕ) (bounded : IsBounded changes) (key : ℕ) 
   from_first m None h = search rules
   from_first m (Some x) h = (h.0, h.2, h.3)
 
-  least_is : (m : ℕ) → CeilingAt changes key (least_present changes key m) m
-  least_is m = from_first m (least_present changes key m)
+  smallest_is : (m : ℕ) → CeilingAt changes key (smallest_present changes key m) m
+  smallest_is m = from_first m (smallest_present changes key m)
       (first_passing_is true (λ j. is_present changes j m) key (4294967295 - key) (key + (4294967295 - key)) refl)
 
   one_ceiling : (m : ℕ) (o p : Option ℕ) → CeilingAt changes key o m → CeilingAt changes key p m → o ≡ p
@@ -44,11 +44,11 @@ module _ (changes : ℕ → List ℕ) (bounded : IsBounded changes) (key : ℕ) 
 
   -- the test tells it
   pub tested : (found : Option ℕ) (m : ℕ) → has_ceiling changes key found m ≡ true → CeilingAt changes key found m
-  tested found m e = subst (λ o. CeilingAt changes key o m) (same_key_is (least_present changes key m) found e) (least_is m)
+  tested found m e = subst (λ o. CeilingAt changes key o m) (same_key_is (smallest_present changes key m) found e) (smallest_is m)
 
   pub passes_test : (found : Option ℕ) (m : ℕ) → CeilingAt changes key found m → has_ceiling changes key found m ≡ true
-  passes_test found m h = same_key_same (least_present changes key m) found
-      (one_ceiling m (least_present changes key m) found (least_is m) h)
+  passes_test found m h = same_key_same (smallest_present changes key m) found
+      (one_ceiling m (smallest_present changes key m) found (smallest_is m) h)
 
   first_tested : (found : Option ℕ) (from to : ℕ) (o : Option ℕ) → IsFirst (CeilingAt changes key found) from to o
       → IsFirst (λ m. has_ceiling changes key found m ≡ true) from to o

@@ -20,7 +20,7 @@ pub record IsCall (threads : ℕ) (x : CallRecord) : Type 0 where
   pub ends_later : IfSome x.ended (λ (e : ℕ × Reply). x.begun < e.0)
 
 pub record Follows (y x : CallRecord) : Type 0 where
-  pub rising : y.begun < x.begun
+  pub increasing : y.begun < x.begun
   pub begins_alone : IfSome y.ended (λ (e : ℕ × Reply). e.0 ≢ x.begun)
   pub ends_alone : IfSome x.ended (λ (e : ℕ × Reply). (e.0 ≢ y.begun) × IfSome y.ended (λ (d : ℕ × Reply). e.0 ≢ d.0))
   pub none_open : y.thread ≡ x.thread → IsSomeAnd y.ended (λ (e : ℕ × Reply). e.0 < x.begun)
@@ -45,7 +45,7 @@ call_of threads earlier x m = record { of_a_thread = m.of_a_thread; counted = m.
 pub follows_of : (threads : ℕ) (earlier : List CallRecord) (x : CallRecord) → MayFollow threads earlier x
     → All (λ y. Follows y x) earlier
 follows_of threads earlier x m k d b = record {
-  rising = m.rising k d b;
+  increasing = m.increasing k d b;
   begins_alone = m.begins_alone k d b;
   ends_alone = end_last Apart x.ended earlier m.ends_alone k d b;
   none_open = m.none_open k d b;
@@ -56,7 +56,7 @@ pub may_follow : (threads : ℕ) (earlier : List CallRecord) (x : CallRecord) �
 may_follow threads earlier x c f = record {
   of_a_thread = c.of_a_thread;
   counted = c.counted;
-  rising = λ k d b. (f k d b).rising;
+  increasing = λ k d b. (f k d b).increasing;
   ends_later = c.ends_later;
   begins_alone = λ k d b. (f k d b).begins_alone;
   ends_alone = end_first Apart x.ended earlier (λ k d b. (f k d b).ends_alone);
@@ -177,7 +177,7 @@ history_ended threads calls n at reply h still later =
         let low : k < length calls = omega arith in
         let begun = later.begins k no_call low in
         record {
-          rising = f.rising;
+          increasing = f.increasing;
           begins_alone = f.begins_alone;
           ends_alone = (λ same. omega arith, later_than _ at (later.ends k no_call low));
           none_open = f.none_open;
@@ -188,7 +188,7 @@ history_ended threads calls n at reply h still later =
         let f : Follows x (get_or calls k no_call) = pairs_of threads calls h n k no_call b low in
         let begun = later.begins k no_call low in
         record {
-          rising = f.rising;
+          increasing = f.increasing;
           begins_alone = λ same. omega arith;
           ends_alone = no_longer _ _ at (later.ends k no_call low) (not_begun _ _ _ f.ends_alone);
           none_open = λ same. absurd (never_ended x.ended _ still.not_ended (f.none_open same));

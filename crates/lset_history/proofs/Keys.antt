@@ -2,7 +2,7 @@
 use Rattle.std.proofs.Common.{◌≡◌, ◌≢◌, ℕ, ◌+◌, ◌<◌, ◌≤◌, ◌⊎◌, true, false, inl, inr, List, [], ◌∷◌, sym, refl, ◌∙◌, arith}
 use Rattle.std.specs.Prelude.{Contains, nat_lt, ◌==◌}
 use Rattle.std.proofs.lemmas.Bool.Decides.{nat_tests}
-use Rattle.lset_words.proofs.RisingLists.{contains-cons, contains-head, contains-tail, contains-nil, RisesFrom, rises_less}
+use Rattle.lset_words.proofs.IncreasingLists.{contains-cons, contains-head, contains-tail, contains-nil, IncreasesFrom, increases_less}
 use Rattle.lset_words.specs.SequentialSet.{has_key, with_key, without_key}
 use Rattle.lset_words.proofs.Numbers.{same_number, equal_test, unequal_test, same_or_not}
 use Rattle.std.proofs.lemmas.Bool.{cases_Bool}
@@ -87,22 +87,22 @@ without_from k j xs c = elim (same_or_not k j) [
   | inr n ↦ (has_from j xs (sym (has_without_other j k xs n) ∙ has_true j (without_key k xs) c), λ e. n (sym e))
 ]
 
--- RISING LISTS
-pub with_rises : (k lo : ℕ) (xs : List ℕ) → RisesFrom lo xs → lo ≤ k → (Contains xs k → ⊥) → RisesFrom lo (with_key k xs)
-with_rises k lo [] r l h = (l, tt)
-with_rises k lo (x ∷ xs) r l h = elim (cases_Bool (nat_lt k x)) [
+-- INCREASING LISTS
+pub with_increases : (k lo : ℕ) (xs : List ℕ) → IncreasesFrom lo xs → lo ≤ k → (Contains xs k → ⊥) → IncreasesFrom lo (with_key k xs)
+with_increases k lo [] r l h = (l, tt)
+with_increases k lo (x ∷ xs) r l h = elim (cases_Bool (nat_lt k x)) [
   | inl f ↦ rw f (let g : k < x = grind (arith, nat_tests) in (l, ((omega arith), r.1)))
   | inr f ↦ rw f (let g : x ≤ k = grind (arith, nat_tests) in
       let n : x ≢ k = λ e. h (contains-head x k xs e) in
-      (r.0, with_rises k (x + 1) xs r.1 (omega arith) (λ c. h (contains-tail x k xs c))))
+      (r.0, with_increases k (x + 1) xs r.1 (omega arith) (λ c. h (contains-tail x k xs c))))
 ]
 
-pub without_rises : (k lo : ℕ) (xs : List ℕ) → RisesFrom lo xs → RisesFrom lo (without_key k xs)
-without_rises k lo [] r = tt
-without_rises k lo (x ∷ xs) r =
+pub without_increases : (k lo : ℕ) (xs : List ℕ) → IncreasesFrom lo xs → IncreasesFrom lo (without_key k xs)
+without_increases k lo [] r = tt
+without_increases k lo (x ∷ xs) r =
     let a : lo ≤ x = r.0 in
-    let i : RisesFrom (x + 1) (without_key k xs) = without_rises k (x + 1) xs r.1 in
+    let i : IncreasesFrom (x + 1) (without_key k xs) = without_increases k (x + 1) xs r.1 in
     elim (cases_Bool (x == k)) [
-      | inl f ↦ rw f (rises_less lo (x + 1) (without_key k xs) (omega arith) i)
+      | inl f ↦ rw f (increases_less lo (x + 1) (without_key k xs) (omega arith) i)
       | inr f ↦ rw f (r.0, i)
     ]

@@ -54,7 +54,7 @@ module _ (r : Run) (k : ℕ) where
   may_follow x earlier t h = record {
     of_a_thread = t.of_a_thread;
     counted = (let b : x.begun ≡ suc t.begins.before = t.begins.is in omega arith);
-    rising = each (λ y. y.begun < x.begun) (λ y b. b.1.begins);
+    increasing = each (λ y. y.begun < x.begun) (λ y b. b.1.begins);
     ends_later = later x.ended t.ends;
     begins_alone = each (λ y. IfSome y.ended (λ (e : ℕ × Reply). e.0 ≢ x.begun)) (λ y b. begins_alone x y t b);
     ends_alone = alone x.ended t.ends;

@@ -8,19 +8,19 @@ use Rattle.lset_words.specs.declared.Reply.{Reply}
 use Rattle.lset_words.specs.declared.Reply.TheVariants.{At, Nothing, True, False, Full}
 use Rattle.lset_words.specs.SequentialSet.{ceiling_in, SetState, has_key, with_key, without_key, count_of, reply_to, after_call}
 use Rattle.lset_words.proofs.Numbers.{lower_number, not_lower_number, same_or_not}
-use Rattle.lset_words.proofs.RisingLists.{contains-cons, contains-head, contains-tail, contains-nil, RisesFrom, rises_from_increasing, increasing_from_rises}
+use Rattle.lset_words.proofs.IncreasingLists.{contains-cons, contains-head, contains-tail, contains-nil, IncreasesFrom, increases_from_increasing, increasing_from_increases}
 use Rattle.lset_words.specs.declared.Call.{Call}
 use Rattle.lset_words.specs.declared.Call.TheVariants as call
 use Rattle.lset_words.specs.declared.Reply.TheVariants as reply
 use Rattle.lset_words.specs.Account.{Content, Fits}
-use Rattle.lset_history.specs.Laws.{RisesFor}
+use Rattle.lset_history.specs.Laws.{IncreasesFor}
 use Rattle.lset_history.proofs.Keys.{has_true, has_from, has_false, has_none, with_keeps, without_from, member_or_not}
 
 -- it is in the list, and no other one lies between
 abbrev pub IsCeilingIn : ℕ → List ℕ → ℕ → Type 0
 IsCeilingIn k xs x = (k ≤ x) × Contains xs x × ((j : ℕ) → k ≤ j → j < x → Contains xs j → ⊥)
 
-no_lower : (lo y : ℕ) (xs : List ℕ) → RisesFrom lo xs → Contains xs y → lo ≤ y
+no_lower : (lo y : ℕ) (xs : List ℕ) → IncreasesFrom lo xs → Contains xs y → lo ≤ y
 no_lower lo y [] r c = absurd (contains-nil y c)
 no_lower lo y (x ∷ xs) r c = elim (contains-cons x y xs c) [
   | inl e ↦ (let a : lo ≤ x = r.0 in omega arith)
@@ -30,7 +30,7 @@ no_lower lo y (x ∷ xs) r c = elim (contains-cons x y xs c) [
 key_is : (a b : Key) → At a ≡ At b → a ≡ b
 key_is a b e = cc
 
-pub ceiling_found : (k lo : ℕ) (x : Key) (xs : List ℕ) → RisesFrom lo xs → IsCeilingIn k xs x.0 → ceiling_in k xs ≡ At x
+pub ceiling_found : (k lo : ℕ) (x : Key) (xs : List ℕ) → IncreasesFrom lo xs → IsCeilingIn k xs x.0 → ceiling_in k xs ≡ At x
 ceiling_found k lo x [] r c = absurd (contains-nil x.0 c.1)
 ceiling_found k lo x (y ∷ ys) r c = elim (cases_Bool (nat_lt y k)) [
   | inl f ↦ rw f (elim (contains-cons y x.0 ys c.1) [
@@ -44,7 +44,7 @@ ceiling_found k lo x (y ∷ ys) r c = elim (cases_Bool (nat_lt y k)) [
   ])
 ]
 
-pub found_ceiling : (k lo : ℕ) (x : Key) (xs : List ℕ) → RisesFrom lo xs → ceiling_in k xs ≡ At x → IsCeilingIn k xs x.0
+pub found_ceiling : (k lo : ℕ) (x : Key) (xs : List ℕ) → IncreasesFrom lo xs → ceiling_in k xs ≡ At x → IsCeilingIn k xs x.0
 found_ceiling k lo x [] r e = absurd (cc)
 found_ceiling k lo x (y ∷ ys) r e = elim (cases_Bool (nat_lt y k)) [
   | inl f ↦
@@ -107,9 +107,9 @@ key_told reply = 0
 abbrev pub SameKeys : Content → List ℕ → Type 0
 SameKeys content keys = (j : ℕ) → (content j → Contains keys j) × (Contains keys j → content j)
 
-pub rises_for : (call : Call) (keys : List ℕ) → RisesFrom 0 keys → RisesFor call keys
-rises_for (call.Ceiling k) keys r = increasing_from_rises 0 keys r
-rises_for call keys r = tt
+pub increases_for : (call : Call) (keys : List ℕ) → IncreasesFrom 0 keys → IncreasesFor call keys
+increases_for (call.Ceiling k) keys r = increasing_from_increases 0 keys r
+increases_for call keys r = tt
 
 -- the set gives that reply, and stays as it is
 abbrev pub Replies : ℕ → SetState → ℕ → Call → Reply → Type 0
@@ -129,39 +129,39 @@ module _ (quota : ℕ) (content : Content) (s : SetState) (same : SameKeys conte
   is_none k e h = has_none k s.keys e ((same k).0 h)
 
   -- a reply that fits is the set's
-  pub replies_from_fits : (thread count : ℕ) (call : Call) (reply : Reply) → RisesFor call s.keys → count_of s thread ≡ count
+  pub replies_from_fits : (thread count : ℕ) (call : Call) (reply : Reply) → IncreasesFor call s.keys → count_of s thread ≡ count
       → Fits quota content count call reply → Replies quota s thread call reply
-  replies_from_fits t n (call.Add k) False rising e f = let a : has_key k.0 s.keys ≡ true = member k.0 f in (rw a refl, refl)
-  replies_from_fits t n (call.Add k) Full rising e f =
+  replies_from_fits t n (call.Add k) False increasing e f = let a : has_key k.0 s.keys ≡ true = member k.0 f in (rw a refl, refl)
+  replies_from_fits t n (call.Add k) Full increasing e f =
       let a : has_key k.0 s.keys ≡ false = no_member k.0 f.0 in
       let m : n ≡ quota = f.1 in
       let b : (count_of s t == quota) ≡ true = grind (arith, nat_tests) in
       (rw (a, b) refl, refl)
-  replies_from_fits t n (call.Remove k) False rising e f =
+  replies_from_fits t n (call.Remove k) False increasing e f =
       let a : has_key k.0 s.keys ≡ false = no_member k.0 f in
       (rw a refl, refl)
-  replies_from_fits t n (call.Contains k) True rising e f = let a : has_key k.0 s.keys ≡ true = member k.0 f in (rw a refl, refl)
-  replies_from_fits t n (call.Contains k) False rising e f =
+  replies_from_fits t n (call.Contains k) True increasing e f = let a : has_key k.0 s.keys ≡ true = member k.0 f in (rw a refl, refl)
+  replies_from_fits t n (call.Contains k) False increasing e f =
       let a : has_key k.0 s.keys ≡ false = no_member k.0 f in
       (rw a refl, refl)
-  replies_from_fits t n (call.Ceiling k) (reply.At x) rising e f = (
-    ceiling_found k.0 0 x s.keys (rises_from_increasing s.keys rising) (
+  replies_from_fits t n (call.Ceiling k) (reply.At x) increasing e f = (
+    ceiling_found k.0 0 x s.keys (increases_from_increasing s.keys increasing) (
       f.0,
       (same x.0).0 f.1,
       λ j lo hi m. f.2 j lo hi ((same j).1 m),
     ),
     refl,
   )
-  replies_from_fits t n (call.Ceiling k) reply.Nothing rising e f = (
+  replies_from_fits t n (call.Ceiling k) reply.Nothing increasing e f = (
     ceiling_none k.0 s.keys (λ j lo m. f j lo ((same j).1 m)),
     refl,
   )
-  replies_from_fits t n call reply rising e f = absurd f
+  replies_from_fits t n call reply increasing e f = absurd f
 
   -- and the set's reply fits, where the set stays as it is
-  pub fits_from_replies : (thread count : ℕ) (call : Call) (reply : Reply) → RisesFor call s.keys → count_of s thread ≡ count
+  pub fits_from_replies : (thread count : ℕ) (call : Call) (reply : Reply) → IncreasesFor call s.keys → count_of s thread ≡ count
       → Replies quota s thread call reply → Fits quota content count call reply
-  fits_from_replies t n (call.Add k) y rising e f = elim (cases_Bool (has_key k.0 s.keys)) [
+  fits_from_replies t n (call.Add k) y increasing e f = elim (cases_Bool (has_key k.0 s.keys)) [
     | inl a ↦ subst (Fits quota content n (call.Add k)) (let g : False ≡ y = rw a at f.0 in g) (is_member k.0 a)
     | inr a ↦ elim (cases_Bool (count_of s t == quota)) [
       | inl b ↦ subst (Fits quota content n (call.Add k)) (let g : Full ≡ y = rw (a, b) at f.0 in g)
@@ -173,7 +173,7 @@ module _ (quota : ℕ) (content : Content) (s : SetState) (same : SameKeys conte
           absurd (has_none k.0 s.keys a (subst (λ z. Contains z k.0) h (with_keeps k.0 k.0 s.keys (inl refl))))
     ]
   ]
-  fits_from_replies t n (call.Remove k) y rising e f = elim (cases_Bool (has_key k.0 s.keys)) [
+  fits_from_replies t n (call.Remove k) y increasing e f = elim (cases_Bool (has_key k.0 s.keys)) [
     | inl a ↦
         let g : True ≡ y = rw a at f.0 in
         let h : without_key k.0 s.keys ≡ s.keys =
@@ -181,15 +181,15 @@ module _ (quota : ℕ) (content : Content) (s : SetState) (same : SameKeys conte
         absurd ((without_from k.0 k.0 s.keys (subst (λ z. Contains z k.0) (sym h) (has_from k.0 s.keys a))).1 refl)
     | inr a ↦ subst (Fits quota content n (call.Remove k)) (let g : False ≡ y = rw a at f.0 in g) (is_none k.0 a)
   ]
-  fits_from_replies t n (call.Contains k) y rising e f = elim (cases_Bool (has_key k.0 s.keys)) [
+  fits_from_replies t n (call.Contains k) y increasing e f = elim (cases_Bool (has_key k.0 s.keys)) [
     | inl a ↦ subst (Fits quota content n (call.Contains k)) (let g : True ≡ y = rw a at f.0 in g) (is_member k.0 a)
     | inr a ↦ subst (Fits quota content n (call.Contains k)) (let g : False ≡ y = rw a at f.0 in g) (is_none k.0 a)
   ]
-  fits_from_replies t n (call.Ceiling k) (reply.At x) rising e f =
-      let c = found_ceiling k.0 0 x s.keys (rises_from_increasing s.keys rising) f.0 in
+  fits_from_replies t n (call.Ceiling k) (reply.At x) increasing e f =
+      let c = found_ceiling k.0 0 x s.keys (increases_from_increasing s.keys increasing) f.0 in
       (c.0, (same x.0).1 c.1, λ j lo hi m. c.2 j lo hi ((same j).0 m))
-  fits_from_replies t n (call.Ceiling k) reply.Nothing rising e f = λ j lo m. none_ceiling k.0 s.keys f.0 j lo ((same j).0 m)
-  fits_from_replies t n (call.Ceiling k) y rising e f = ceiling_not k.0 s.keys y f.0 (λ x g. cc) (λ g. cc)
+  fits_from_replies t n (call.Ceiling k) reply.Nothing increasing e f = λ j lo m. none_ceiling k.0 s.keys f.0 j lo ((same j).0 m)
+  fits_from_replies t n (call.Ceiling k) y increasing e f = ceiling_not k.0 s.keys y f.0 (λ x g. cc) (λ g. cc)
 
   -- a content with a list of its keys decides of each reply whether it is correct
   present : (k : ℕ) → content k ⊎ (content k → ⊥)
@@ -198,32 +198,32 @@ module _ (quota : ℕ) (content : Content) (s : SetState) (same : SameKeys conte
   absent : (k : ℕ) → (content k → ⊥) ⊎ ((content k → ⊥) → ⊥)
   absent k = elim (present k) [ inl h ↦ inr (λ n. n h) | inr h ↦ inl h ]
 
-  pub fits_or_not : RisesFrom 0 s.keys → (count : ℕ) (call : Call) (reply : Reply) → Fits quota content count call reply
+  pub fits_or_not : IncreasesFrom 0 s.keys → (count : ℕ) (call : Call) (reply : Reply) → Fits quota content count call reply
       ⊎ (Fits quota content count call reply → ⊥)
-  fits_or_not rising n (call.Add k) False = present k.0
-  fits_or_not rising n (call.Add k) Full = elim (present k.0) [
+  fits_or_not increasing n (call.Add k) False = present k.0
+  fits_or_not increasing n (call.Add k) Full = elim (present k.0) [
     | inl h ↦ inr (λ f. f.0 h)
     | inr h ↦ elim (same_or_not n quota) [ inl e ↦ inl (h, e) | inr e ↦ inr (λ f. e f.1) ]
   ]
-  fits_or_not rising n (call.Remove k) False = absent k.0
-  fits_or_not rising n (call.Contains k) True = present k.0
-  fits_or_not rising n (call.Contains k) False = absent k.0
-  fits_or_not rising n (call.Ceiling k) (reply.At x) = elim (ceiling_cases k.0 s.keys) [
+  fits_or_not increasing n (call.Remove k) False = absent k.0
+  fits_or_not increasing n (call.Contains k) True = present k.0
+  fits_or_not increasing n (call.Contains k) False = absent k.0
+  fits_or_not increasing n (call.Ceiling k) (reply.At x) = elim (ceiling_cases k.0 s.keys) [
     | inl e ↦ inr (λ f. let g : reply.Nothing ≡ reply.At x = sym e
-        ∙ (replies_from_fits 0 (count_of s 0) (call.Ceiling k) (reply.At x) (increasing_from_rises 0 s.keys rising) refl f).0 in
+        ∙ (replies_from_fits 0 (count_of s 0) (call.Ceiling k) (reply.At x) (increasing_from_increases 0 s.keys increasing) refl f).0 in
         absurd (cc))
     | inr p ↦ elim (same_or_not p.0.0 x.0) [
-      | inl y ↦ inl (fits_from_replies 0 (count_of s 0) (call.Ceiling k) (reply.At x) (increasing_from_rises 0 s.keys rising) refl
+      | inl y ↦ inl (fits_from_replies 0 (count_of s 0) (call.Ceiling k) (reply.At x) (increasing_from_increases 0 s.keys increasing) refl
           (p.1 ∙ ap (λ z. reply.At (record { 0 = z })) y, refl))
       | inr y ↦ inr (λ f. y (ap key_told (sym p.1
-          ∙ (replies_from_fits 0 (count_of s 0) (call.Ceiling k) (reply.At x) (increasing_from_rises 0 s.keys rising) refl f).0)))
+          ∙ (replies_from_fits 0 (count_of s 0) (call.Ceiling k) (reply.At x) (increasing_from_increases 0 s.keys increasing) refl f).0)))
     ]
   ]
-  fits_or_not rising n (call.Ceiling k) reply.Nothing = elim (ceiling_cases k.0 s.keys) [
-    | inl e ↦ inl (fits_from_replies 0 (count_of s 0) (call.Ceiling k) reply.Nothing (increasing_from_rises 0 s.keys rising) refl
+  fits_or_not increasing n (call.Ceiling k) reply.Nothing = elim (ceiling_cases k.0 s.keys) [
+    | inl e ↦ inl (fits_from_replies 0 (count_of s 0) (call.Ceiling k) reply.Nothing (increasing_from_increases 0 s.keys increasing) refl
         (e, refl))
     | inr p ↦ inr (λ f. let g : reply.At p.0 ≡ reply.Nothing = sym p.1
-        ∙ (replies_from_fits 0 (count_of s 0) (call.Ceiling k) reply.Nothing (increasing_from_rises 0 s.keys rising) refl f).0 in
+        ∙ (replies_from_fits 0 (count_of s 0) (call.Ceiling k) reply.Nothing (increasing_from_increases 0 s.keys increasing) refl f).0 in
         absurd (cc))
   ]
-  fits_or_not rising n call reply = inr (λ f. f)
+  fits_or_not increasing n call reply = inr (λ f. f)

@@ -63,14 +63,14 @@ pub removed : (quota : ℕ) (s : SetState) (t : ℕ) (k : Key) (found : Bool) �
     → IsStrictlyIncreasing s.keys → Answers (set_of quota s.keys s.counts)
     (set_of quota (remove_key (is_at (nat_cmp k.0)) s.keys) s.counts)
     t (Remove k) (cond found True False)
-removed quota s t k true e rising = record {
+removed quota s t k true e increasing = record {
   reply_is = sym (cond-true (has_key k.0 s.keys) True False (has_key_tree k.0 s.keys ∙ sym e));
-  state_is = rw (← without_key_tree k.0 s.keys (sorted_from_strictly_increasing s.keys rising)) refl;
+  state_is = rw (← without_key_tree k.0 s.keys (sorted_from_strictly_increasing s.keys increasing)) refl;
 }
-removed quota s t k false e rising = record {
+removed quota s t k false e increasing = record {
   reply_is = sym (cond-false (has_key k.0 s.keys) True False (has_key_tree k.0 s.keys ∙ sym e));
   state_is = rw (
-    ← without_key_tree k.0 s.keys (sorted_from_strictly_increasing s.keys rising),
+    ← without_key_tree k.0 s.keys (sorted_from_strictly_increasing s.keys increasing),
     without_absent k.0 s.keys
         (has_key_tree k.0 s.keys ∙ sym e),
   ) refl;
@@ -87,7 +87,7 @@ contained o t k false e = record {
   state_is = refl;
 }
 
--- the first key of a range of the tree is the least one
+-- the first key of a range of the tree is the smallest one
 abbrev from_on : ℕ → List ℕ → List ℕ
 from_on k keys = filter (range_contains nat_cmp (Included k) Unbounded) keys
 

@@ -5,7 +5,7 @@ use Rattle.std.specs.Prelude.{Option, Some, None, IfSome}
 use Rattle.std.specs.List.{AllByRecursion}
 use Rattle.lset_words.specs.declared.Reply.{Reply}
 use Rattle.lset_words.specs.Log.{TracedCall}
-use Rattle.lset_words.specs.Placement.{StandsBy, StandsAt, IsLeastFit, Standing, makes_change, reply_by, standing, traced_at}
+use Rattle.lset_words.specs.Placement.{StandsBy, StandsAt, IsSmallestFit, Standing, makes_change, reply_by, standing, traced_at}
 use Rattle.lset_words.specs.Placement.{place_at}
 use Rattle.lset_history.proofs.Lists.{Pairs, SomeOf, all_imply, all_at}
 use Rattle.lset_history.proofs.Calls.{Run, ChangeAt, ChangedBy, EndedBy, Traced, Later, Calls}
@@ -40,7 +40,7 @@ standing_above P n (x ∷ xs) (Some m ∷ ps) a = (
       (standing_above P (suc n) xs ps a.1),
 )
 
--- numbers rise
+-- numbers increase
 abbrev pub Follows : Standing → Standing → Type 0
 Follows s r = (s.number < r.number) × Later s.traced r.traced
 
@@ -155,7 +155,7 @@ pub record Reading (r : Run) (s : Standing) : Type 0 where
   pub no_change : s.traced.changed ≡ None
   pub end : ℕ × Reply
   pub ended : s.traced.ended ≡ Some end
-  pub fit : IsLeastFit r.quota r.contents r.counts s.traced end.0 end.1 s.moment
+  pub fit : IsSmallestFit r.quota r.contents r.counts s.traced end.0 end.1 s.moment
 
 pub reading : (r : Run) (last : ℕ) (calls : List TracedCall) (places : List (Option ℕ)) (s : Standing)
     → Stood r last calls places s → makes_change s ≡ false → Reading r s
@@ -168,7 +168,7 @@ reading r last calls places s h t = by_change s.traced.changed refl
       no_change = n;
       end = end;
       ended = e;
-      fit = subst (IsLeastFit r.quota r.contents r.counts s.traced end.0 end.1) (sym (some_is s.moment p.0 p.1)) p.2;
+      fit = subst (IsSmallestFit r.quota r.contents r.counts s.traced end.0 end.1) (sym (some_is s.moment p.0 p.1)) p.2;
     }
       where
         some_is : (a b : ℕ) → Some a ≡ Some b → a ≡ b

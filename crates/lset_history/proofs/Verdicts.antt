@@ -22,7 +22,7 @@ use Rattle.lset_history.specs.Faults.{Explains, IsFault, Passes, RefusesFirst, M
 use Rattle.lset_history.specs.Faults.{IsTwice, HasWrongReply, IsTooEarly, place_at, set_left_by}
 use Rattle.lset_history.specs.Checks.{HasKnownCalls, stands, MarksCalls, IsLeftOut, HasReplies, after_order}
 use Rattle.lset_history.proofs.Histories.{calls_of}
-use Rattle.lset_history.proofs.Places.{stands_earlier, legal_at, passes_replies}
+use Rattle.lset_history.proofs.EarlierPlaces.{stands_earlier, legal_at, passes_replies}
 
 -- a place, read with any default
 read_place : (order : List Placed) (i : ℕ) (d : Placed) → i < length order → get_or order i d ≡ place_at order i
@@ -53,7 +53,7 @@ pub misses_first : (calls : List CallRecord) (order : List Placed) (marks : List
     → IsLeftOut calls marks n × ((k : ℕ) → k < n → IsLeftOut calls marks k → ⊥) → MissesFirst calls order n
 misses_first calls order marks n holds h = record {
   missing = record { known = h.0.known; ended = h.0.ended; absent = stands_absent order n (sym (holds n) ∙ h.0.absent) };
-  least = λ k low m. h.1 k low (left_out calls order marks k holds m);
+  smallest = λ k low m. h.1 k low (left_out calls order marks k holds m);
 }
 
 -- THE ORDER LINEARIZES THE HISTORY
@@ -202,13 +202,13 @@ pub explained : (h : HistoryValue) (calls : List CallRecord) (order : List Place
     (oracle now : OracleValue)
     → LeavesNoneOut h calls order marks oracle → HasReplies oracle calls order → Passes (IsTooEarly calls order) order
     → now ≡ after_order oracle calls order → now.state.keys ≡ keys → IsStrictlyIncreasing now.state.keys → Explains h order keys
-explained h calls order keys marks oracle now l r e after same rising =
+explained h calls order keys marks oracle now l r e after same increasing =
     let own = settled h calls order marks oracle l in record {
       linearizes = linearizes (set_opened h.opening) h.calls order own.stands_once.known own.stands_once.once
           (none_missing h order marks _ own)
           (own_replies h calls order marks oracle l r) (rw l.stands_once.calls_are at e);
       keys_left = sym same ∙ ap (λ (o : OracleValue). o.state.keys) after ∙ keys_after h calls order marks oracle l;
-      rising = subst IsStrictlyIncreasing same rising;
+      increasing = subst IsStrictlyIncreasing same increasing;
     }
 
 -- A FAULT IS NONE OF AN ORDER THAT EXPLAINS THE HISTORY

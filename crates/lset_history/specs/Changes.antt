@@ -79,18 +79,18 @@ same_key None (Some b) = false
 same_key (Some a) None = false
 same_key (Some a) (Some b) = a == b
 
-abbrev pub least_present : (ℕ → List ℕ) → ℕ → ℕ → Option ℕ
-least_present changes key m = first_passing true (λ j. is_present changes j m) key (4294967295 - key)
+abbrev pub smallest_present : (ℕ → List ℕ) → ℕ → ℕ → Option ℕ
+smallest_present changes key m = first_passing true (λ j. is_present changes j m) key (4294967295 - key)
 
 abbrev pub has_ceiling : (ℕ → List ℕ) → ℕ → Option ℕ → ℕ → Bool
-has_ceiling changes key found m = same_key (least_present changes key m) found
+has_ceiling changes key found m = same_key (smallest_present changes key m) found
 
 -- what is kept
 abbrev pub changes_in : List ℕ → BTreeMap ℕ (Vec ℕ Global) → ChangesValue
 changes_in opening kept = record { opening = opening; entries = map (λ (e : ℕ × Vec ℕ Global). (e.0, e.1.items)) kept.entries }
 
-abbrev pub Rise : ChangesValue → Type 0
-Rise c = (key : ℕ) → IsStrictlyIncreasing (moments_of c key)
+abbrev pub Increase : ChangesValue → Type 0
+Increase c = (key : ℕ) → IsStrictlyIncreasing (moments_of c key)
 
 -- no key from 2^32 on has changes
 abbrev pub IsBounded : (ℕ → List ℕ) → Type 0
@@ -103,7 +103,7 @@ IsListed keys_at key moment = 0 < moment → get nat_cmp keys_at moment ≡ Some
 -- these changes, each of their moments with its key, and each key that is there now
 pub record AreKept (c : ChangesValue) (keys_at : BTreeMap ℕ ℕ) (keys_now : BTreeSet ℕ) : Type 0 where
   pub opening : IsStrictlyIncreasing c.opening
-  pub rise : Rise c
+  pub increase : Increase c
   pub bounded : IsBounded (moments_of c)
   pub listed : (key : ℕ) → All (IsListed keys_at key) (moments_of c key)
   pub present : (key : ℕ) → is_present_now (moments_of c) key ≡ true → IsTrue (contains nat_cmp keys_now key)

@@ -66,8 +66,8 @@ abbrev pub PutsInSome : OracleValue → List CallRecord → List Placed → Type
 PutsInSome o calls order = (place : ℕ) × (place < length order)
     × PutsIn (after_order o calls (take place order)) (placed_call calls order place).thread (placed_call calls order place).call
 
--- the least end, with that of one more call
-abbrev pub least_with : Option ℕ → Option (ℕ × Reply) → Option ℕ
-least_with least None = least
-least_with None (Some end) = Some end.0
-least_with (Some least) (Some end) = Some (min least end.0)
+-- the smallest end, with that of one more call
+abbrev pub smallest_with : Option ℕ → Option (ℕ × Reply) → Option ℕ
+smallest_with smallest None = smallest
+smallest_with None (Some end) = Some end.0
+smallest_with (Some smallest) (Some end) = Some (min smallest end.0)

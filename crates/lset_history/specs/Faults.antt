@@ -20,7 +20,7 @@ set_left_by start calls order = set_left start (map (answered calls) order)
 pub record Explains (h : HistoryValue) (order : List Placed) (keys : List ℕ) : Type 0 where
   pub linearizes : Linearizes h.opening.quota (opening_set h.opening) h.calls order
   pub keys_left : keys ≡ (set_left_by (opening_set h.opening) h.calls order).keys
-  pub rising : IsStrictlyIncreasing keys
+  pub increasing : IsStrictlyIncreasing keys
 
 -- THE CHECKS of a place in the order
 abbrev pub place_at : List Placed → ℕ → Placed
@@ -75,7 +75,7 @@ MissesNone calls order = (number : ℕ) → IsMissing calls order number → ⊥
 
 pub record MissesFirst (calls : List CallRecord) (order : List Placed) (number : ℕ) : Type 0 where
   pub missing : IsMissing calls order number
-  pub least : (smaller : ℕ) → smaller < number → IsMissing calls order smaller → ⊥
+  pub smallest : (smaller : ℕ) → smaller < number → IsMissing calls order smaller → ⊥
 
 -- this is the fault, and no earlier check failed
 abbrev pub IsFault : HistoryValue → List Placed → List ℕ → OrderFault → Type 0

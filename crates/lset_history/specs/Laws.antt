@@ -21,7 +21,7 @@ contents_of_lists lists m = content_of (lists m)
 
 -- A set has the keys of a content, in strictly increasing order, and no other such list has them.
 pub record HasKeysOf (s : SetState) (content : List ℕ) : Type 0 where
-  pub rising : IsStrictlyIncreasing s.keys
+  pub increasing : IsStrictlyIncreasing s.keys
   pub members : (j : ℕ) → Contains content j ↔ Contains s.keys j
   pub alone : (keys : List ℕ) → IsStrictlyIncreasing keys → ((j : ℕ) → Contains content j ↔ Contains keys j) → s.keys ≡ keys
 
@@ -48,16 +48,16 @@ LogsTellHistories = (op : Opening) (last : ℕ) (log : Log) (lists : ℕ → Lis
     → Account op last log (contents_of_lists lists) counts → (k : ℕ) → k ≤ last → IsHistory op.threads (history_at log k)
 
 -- the keys of a set in turn, if the reply to the call is the first of them
-abbrev pub RisesFor : Call → List ℕ → Type 0
-RisesFor (call.Add k) keys = Unit {0}
-RisesFor (call.Remove k) keys = Unit {0}
-RisesFor (call.Contains k) keys = Unit {0}
-RisesFor (call.Ceiling k) keys = IsStrictlyIncreasing keys
+abbrev pub IncreasesFor : Call → List ℕ → Type 0
+IncreasesFor (call.Add k) keys = Unit {0}
+IncreasesFor (call.Remove k) keys = Unit {0}
+IncreasesFor (call.Contains k) keys = Unit {0}
+IncreasesFor (call.Ceiling k) keys = IsStrictlyIncreasing keys
 
 -- A reply is correct exactly if the sequential set gives it and does not change.
 abbrev pub FitsAreReplies : Type 0
 FitsAreReplies = (quota thread count : ℕ) (keys : List ℕ) (s : SetState) (call : Call) (reply : Reply)
-    → ((j : ℕ) → Contains keys j ↔ Contains s.keys j) → RisesFor call s.keys → count_of s thread ≡ count
+    → ((j : ℕ) → Contains keys j ↔ Contains s.keys j) → IncreasesFor call s.keys → count_of s thread ≡ count
     → Fits quota (content_of keys) count call reply
     ↔ ((reply_to quota s thread call ≡ reply) × (after_call s thread call reply ≡ s))
 

@@ -35,5 +35,5 @@ PutsIn o thread (Ceiling k) = ⊥
 
 -- what a set keeps of itself
 pub record KeepsCounts (quota : ℕ) (s : SetState) : Type 0 where
-  pub rising : IsStrictlyIncreasing s.keys
+  pub increasing : IsStrictlyIncreasing s.keys
   pub few : All (λ count. count ≤ quota) s.counts

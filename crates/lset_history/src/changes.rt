@@ -199,7 +199,7 @@ impl Changes {
     /// The moments above 0 at which a key was put in and taken out.
     fn noted(&self, key: u32) -> &[u32]
         ensures value { result.now ≡ noted_of self.now key }
-        ensures rises { IsStrictlyIncreasing result.now }
+        ensures increases { IsStrictlyIncreasing result.now }
     {
         match self.moments.get(&key) {
             Some(moments) => moments,

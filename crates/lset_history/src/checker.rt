@@ -2,7 +2,7 @@ ghost use Rattle.std.specs.Prelude.{◌≡◌, ◌≢◌, ◌<◌, ◌^◌, Bool
 ghost use Rattle.lset_words.specs.declared.history.CallRecord.{CallRecord};
 ghost use Rattle.lset_words.specs.declared.history.Placed.{Placed};
 ghost use Rattle.lset_history.specs.Faults.{Explains, IsFault, Passes, RefusesFirst, IsUnknown, IsTwice, HasWrongReply, IsTooEarly};
-ghost use Rattle.lset_history.specs.Checks.{HasKnownCalls, MarksCalls, LeavesNoneOut, LeavesOutFirst, HasReply, HasOtherReply, after_reply, HasReplies, PutsInSome, after_order, least_with};
+ghost use Rattle.lset_history.specs.Checks.{HasKnownCalls, MarksCalls, LeavesNoneOut, LeavesOutFirst, HasReply, HasOtherReply, after_reply, HasReplies, PutsInSome, after_order, smallest_with};
 ghost use Rattle.lset_history.specs.Oracle.{PutsIn};
 ghost use Rattle.lset_history.specs.declared.fault.OrderFault.TheVariants.{Memory};
 
@@ -44,7 +44,7 @@ fn first_twice(order: &[Placed], placed: &mut [bool]) -> Option<u32>
     None
 }
 
-/// The least number of an ended call without a mark in `placed`, which has one element for each call.
+/// The smallest number of an ended call without a mark in `placed`, which has one element for each call.
 fn first_missing(calls: &[CallRecord], placed: &[bool]) -> Option<u32>
     requires few { length calls.now < 2 ^ 32 }
     requires each { length placed.now ≡ length calls.now }
@@ -105,14 +105,14 @@ fn is_below(end: Option<u32>, moment: u32) -> bool
     end.is_some_and(|end| end < moment)
 }
 
-/// The lesser of the least end so far and the end of a call, if it has ended.
-fn lesser(least: Option<u32>, ended: Option<(u32, Reply)>) -> Option<u32>
-    ensures { result ≡ least_with least ended }
+/// The lesser of the smallest end so far and the end of a call, if it has ended.
+fn lesser(smallest: Option<u32>, ended: Option<(u32, Reply)>) -> Option<u32>
+    ensures { result ≡ smallest_with smallest ended }
 {
-    match (least, ended) {
-        (Some(least), Some((end, _))) => Some(least.min(end)),
+    match (smallest, ended) {
+        (Some(smallest), Some((end, _))) => Some(smallest.min(end)),
         (None, Some((end, _))) => Some(end),
-        (_, None) => least,
+        (_, None) => smallest,
     }
 }
 
@@ -124,14 +124,14 @@ fn first_too_early(calls: &[CallRecord], order: &[Placed]) -> Option<u32>
         (RefusesFirst (IsTooEarly calls.now order.now) order.now) }
 {
     let mut early = None;
-    let mut least_end: Option<u32> = None;
+    let mut smallest_end: Option<u32> = None;
     for i in (0..order.len()).rev() {
         let number = order[i].call;
         let record = calls[number as usize];
-        if is_below(least_end, record.begun) {
+        if is_below(smallest_end, record.begun) {
             early = Some(number);
         }
-        least_end = lesser(least_end, record.ended);
+        smallest_end = lesser(smallest_end, record.ended);
     }
     early
 }

@@ -66,7 +66,7 @@ fn last_moment(call_record: &CallRecord) -> u32
 }
 
 impl History {
-    /// Returns a history without calls of a set that opens empty, for `threads` threads, 1 to 64, with `quota` slots each, 0
+    /// Returns a history without calls of a set that opens empty, for `threads` threads, 1 to 64, with a quota of `quota` each, 0
     /// to 16,384. Does not allocate; `alloc` is for later calls.
     pub fn new(alloc: Global, threads: u32, quota: u32) -> History
         requires { IsWithin (record { threads = threads; quota = quota; opening = 0 }) }
@@ -215,7 +215,7 @@ impl History {
         self.threads
     }
 
-    /// Returns the number of slots of each thread, 0 to 16,384.
+    /// Returns the quota of each thread, 0 to 16,384.
     pub fn quota(&self) -> u32
         ensures value { result ≡ self.now.opening.quota }
         ensures opens { Opens self.now.opening }

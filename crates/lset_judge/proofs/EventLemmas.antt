@@ -158,7 +158,7 @@ begins_at last k zero (x ∷ xs) l pairs own = rw (equal_test (key_of x.call).0 
 begins_at last k (suc n) (x ∷ xs) l pairs own =
     let y : CallRecord = get_or xs n no_call in
     let f : Follows x y = pairs_head Follows x xs pairs n no_call (omega arith) in
-    let low = f.rising in
+    let low = f.increasing in
     passed_over last k y.begun x xs (λ t. (unequal_test x.begun y.begun (omega (arith, low)), ends_not y.begun x.ended f.begins_alone))
     ∙ begins_at last k n xs (omega arith) (pairs_tail Follows x xs pairs) own
 

@@ -19,11 +19,11 @@ use Rattle.lset_judge.specs.Rule.{idle, Event, may_leave}
 use Rattle.lset_judge.specs.Events.{event_at, rule_explains, RulePasses}
 use Rattle.lset_judge.specs.Locality.{calls_in, keys_in, part_of}
 use Rattle.lset_judge.proofs.EventLemmas.{IsSilent, event_filter, event_none, latest_filter}
-use Rattle.lset_judge.proofs.States.{any_key}
+use Rattle.lset_judge.proofs.KeyStates.{any_key}
 use Rattle.lset_judge.specs.Verdict.{IsExplained, IsJudged, is_plain, may_add, adds_of}
-use Rattle.lset_judge.proofs.After.{left_alike, idle_key}
-use Rattle.lset_judge.proofs.Deciding.{explained}
-use Rattle.lset_judge.proofs.Orders.{rule_refutes}
+use Rattle.lset_judge.proofs.StatesAfter.{left_alike, idle_key}
+use Rattle.lset_judge.proofs.RuleDecides.{explained}
+use Rattle.lset_judge.proofs.TimelineFromOrder.{rule_refutes}
 
 -- ---- the events of a key among the calls of some keys, and among all calls
 

@@ -5,9 +5,9 @@ use Rattle.std.specs.declared.cmp.Ordering.{Ordering}
 use Rattle.std.specs.declared.cmp.Reverse.{Reverse}
 use Rattle.lset_judge.specs.Rule.{put_in}
 
-abbrev pub rising_of : List (Reverse ℕ) → List ℕ
-rising_of [] = []
-rising_of (x ∷ xs) = put_in x.0 (rising_of xs)
+abbrev pub increasing_of : List (Reverse ℕ) → List ℕ
+increasing_of [] = []
+increasing_of (x ∷ xs) = put_in x.0 (increasing_of xs)
 
 -- the nearest end is the greatest in the heap
 abbrev pub later_first : Reverse ℕ → Reverse ℕ → Ordering

@@ -16,7 +16,7 @@ all_pending few many = few ++ map pending_at many
 -- the place has the nearest of the ends
 pub record IsFirst (place : ℕ) (few : List Pending) : Type 0 where
   pub inside : 0 < length few → place < length few
-  pub least : (d : Pending) → All (λ (p : Pending). (slice_index_or few place d).end ≤ p.end) few
+  pub smallest : (d : Pending) → All (λ (p : Pending). (slice_index_or few place d).end ≤ p.end) few
 
 -- the nearest of the few has its place, and the thread of each of the others is known
 pub record AreHeld {S : Type 0} (few : List Pending) (next : ℕ) (many : List (ℕ × StreamCall)) (busy : HashMap ℕ ℕ S) : Type 0 where
@@ -32,4 +32,4 @@ end_or moment (Some e) = e.0
 pub record IsNext (moment : ℕ) (old : List Pending) (next : Pending) (new : List Pending) : Type 0 where
   pub early : next.end < moment
   pub is : IsPermutation old (next ∷ new)
-  pub least : All (λ (p : Pending). next.end ≤ p.end) old
+  pub smallest : All (λ (p : Pending). next.end ≤ p.end) old

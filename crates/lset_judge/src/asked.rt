@@ -60,7 +60,7 @@ impl Part {
 /// The key, if it is there.
 fn key_if(alloc: Global, there: bool, key: u32) -> Result<Vec<u32>, AllocError>
     ensures are { IfOk result (λ keys. keys.items ≡ key_if there key) }
-    ensures rising { IfOk result (λ keys. IsStrictlyIncreasing keys.items) }
+    ensures increasing { IfOk result (λ keys. IsStrictlyIncreasing keys.items) }
 {
     let mut keys = Vec::new(alloc);
     if there {

@@ -17,11 +17,11 @@ pub(crate) struct Ends {
 impl Model for Ends {
     ghost use Rattle.std.specs.Prelude.{ℕ, List};
     ghost use Rattle.std.specs.BinaryHeap.{IsHeap, heap_items};
-    ghost use Rattle.lset_judge.specs.Heaped.{rising_of, later_first};
+    ghost use Rattle.lset_judge.specs.Heaped.{increasing_of, later_first};
 
     ghost Value = { List ℕ };
 
-    ghost view = { λ e. rising_of (heap_items e.heap) };
+    ghost view = { λ e. increasing_of (heap_items e.heap) };
 
     ghost invariant = { λ e. IsHeap later_first (heap_items e.heap) };
 }

@@ -98,7 +98,7 @@ fn add_next(judge: &mut Judge, call: StreamCall) -> Result<(), AllocError>
 
 /// Whether some order linearizes the calls of a history from its opening keys, and leaves these keys, of a set without a quota: decided for
 /// each history of which the ended calls answered true or false, and none is a `ceiling`. Of any other it says `NotLinearizable` only if
-/// none does, and else `Undecided`. It fails only if memory is refused.
+/// none does, and else `Undecided`. It fails only if an allocation fails.
 pub fn judge(alloc: Global, history: &History, keys: &[u32]) -> Result<Judged, AllocError>
     requires { IsStrictlyIncreasing keys.now }
     ensures { IfOk result (IsJudged history.now keys.now) }

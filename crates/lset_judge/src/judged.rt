@@ -69,7 +69,7 @@ fn has_room(history: &History) -> bool
 }
 
 /// Whether each call of a history that has ended answered true or false, and none of them is a `ceiling`: the judge decides it, if each
-/// thread has quota for its adds. It takes no memory.
+/// thread has quota for its adds. It does not allocate.
 pub fn is_plain(history: &History) -> bool
     ensures { IsTrue result ↔ IsPlain history.now.calls }
 {
@@ -77,7 +77,7 @@ pub fn is_plain(history: &History) -> bool
 }
 
 /// Whether the judge decides a history, so that `judge` does not answer `Undecided`: if each call that has ended answered true or false,
-/// and none is a `ceiling`; and if each thread has quota for all its `add`s that answered true or have not ended. It takes no memory.
+/// and none is a `ceiling`; and if each thread has quota for all its `add`s that answered true or have not ended. It does not allocate.
 pub fn is_judged(history: &History) -> bool
     ensures { IsTrue result ↔ IsJudged history.now }
 {

@@ -60,7 +60,7 @@ fn window_for(
 }
 
 impl Judge {
-    /// No calls yet, of a set that opens with these keys; they rise.
+    /// No calls yet, of a set that opens with these keys; they increase.
     pub fn new(alloc: Global, opening: &[u32]) -> Result<Judge, AllocError>
         requires { IsStrictlyIncreasing opening.now }
         ensures opened { IfOk result (λ j. (threads : ℕ) → IsJudgeOf threads opening.now [] j) }
@@ -70,7 +70,7 @@ impl Judge {
         Ok(Judge { alloc, stream })
     }
 
-    /// Judges a call that begins after all calls before it, so far as it tells something already.
+    /// Judges a call that begins after all calls before it, as far as it decides anything yet.
     ///
     /// An error but `Memory` says why the call cannot come next, and changes nothing. After `Memory` the judge is of no more use.
     pub fn add(&mut self, call: StreamCall) -> Result<(), StreamFault>
@@ -87,7 +87,7 @@ impl Judge {
     /// Whether some order linearizes all calls, from the opening keys, and leaves these keys: the answer is `Linearizable` exactly if one
     /// does, and `NotLinearizable` exactly if none does. The set has no quota.
     ///
-    /// `keys` are the keys left; they rise. It fails only if memory is refused.
+    /// `keys` are the keys left; they increase. It fails only if an allocation fails.
     pub fn close(self, keys: &[u32]) -> Result<Verdict, AllocError>
         requires { IsStrictlyIncreasing keys.now }
         ensures { IfOk result (λ verdict. (threads : ℕ) (opening : List ℕ) (calls : List RecordedCall) → IsJudgeOf threads opening calls self
@@ -105,7 +105,7 @@ impl Judge {
         }
     }
 
-    /// As `close`, of a recording that was cut off, so that the keys left are not known.
+    /// As `close`, for a recording that was cut off, so without its final keys.
     pub fn close_cut_off(self) -> Result<Verdict, AllocError>
         ensures { IfOk result (λ verdict. (threads : ℕ) (opening : List ℕ) (calls : List RecordedCall) → IsJudgeOf threads opening calls self
             → IsVerdictCutOff threads opening calls verdict) }

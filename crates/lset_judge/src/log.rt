@@ -225,16 +225,16 @@ impl Log {
     fn last_rest(&self, pending: &[StreamCall]) -> Option<Rest>
         ensures { IfSome result (IsRestIn (log_of self.now) pending.now) }
     {
-        let mut least = earliest_begin(pending);
+        let mut smallest = earliest_begin(pending);
         for place in (0..self.ended.len()).rev() {
             let call = self.ended[place].call;
-            if has_ended(call, least.saturating_sub(1)) {
+            if has_ended(call, smallest.saturating_sub(1)) {
                 if let Some(rest) = self.rest_after(place, pending) {
                     return Some(rest);
                 }
             }
             if may_turn(call) {
-                least = least.min(call.begun);
+                smallest = smallest.min(call.begun);
             }
         }
         None

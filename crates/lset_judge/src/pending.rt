@@ -111,7 +111,7 @@ fn next_with(few: &[Pending], next: usize, pending: Pending) -> usize
 /// The nearest of these ends, if there is one.
 fn end_of_few(few: &[Pending], next: usize) -> u64
     requires { IsFirst next few.now }
-    ensures least { All (λ p. result ≤ p.end) few.now }
+    ensures smallest { All (λ p. result ≤ p.end) few.now }
     ensures first { result < 2 ^ 64 - 1 → (next < length few.now) × ((d : Pending) → (slice_index_or few.now next d).end ≡ result) }
 {
     if next < few.len() {
@@ -123,7 +123,7 @@ fn end_of_few(few: &[Pending], next: usize) -> u64
 
 /// The nearest of these ends, if there is one.
 fn end_of_many(many: &BTreeMap<u64, StreamCall>) -> u64
-    ensures least { All (λ p. result ≤ p.end) (map pending_at many.now.entries) }
+    ensures smallest { All (λ p. result ≤ p.end) (map pending_at many.now.entries) }
     ensures first { MatchOption (slice_get many.now.entries 0) (result ≡ 2 ^ 64 - 1) (λ e. e.0 ≡ result) }
 {
     match many.first_key_value() {

@@ -76,7 +76,7 @@ impl From<AllocError> for StreamFault {
 
 /// What the stream says.
 #[derive(Clone, Copy, Debug, PartialEq, Eq)]
-pub enum StreamVerdict {
+pub(crate) enum StreamVerdict {
     /// Some order explains the calls, from the opening keys, and leaves the keys.
     Linearizable,
     /// No order does.
@@ -311,7 +311,7 @@ impl Failed {
 }
 
 /// The lesser of a key and another one, if there is one.
-fn least(key: u32, other: Option<u32>) -> u32
+fn smallest(key: u32, other: Option<u32>) -> u32
     ensures { (result ≡ key) ⊎ (other ≡ Some result) }
 {
     match other {
@@ -339,7 +339,7 @@ fn verdict_of_key(key: Option<u32>) -> StreamVerdict
 /// Calls come in the order of their begins. Whether some order explains them is told by `close`, or by `close_cut_off`. (The rule is that
 /// of `judge`: it goes over the moments of each key once, so it needs no moment again.)
 #[derive(Drop)]
-pub struct Stream {
+pub(crate) struct Stream {
     alloc: Global,
     states: HashMap<u32, KeyState>,
     pending: PendingCalls,
@@ -348,7 +348,7 @@ pub struct Stream {
 }
 
 impl Stream {
-    /// No calls yet, of a set that opens with these keys; they rise.
+    /// No calls yet, of a set that opens with these keys; they increase.
     pub fn new(alloc: Global, opening: &[u32]) -> Result<Stream, AllocError>
         requires { IsStrictlyIncreasing opening.now }
         ensures opened { IfOk result (λ s. (threads : ℕ) → IsStreamKept threads opening.now [] s) }
@@ -495,7 +495,7 @@ impl Stream {
         Ok(())
     }
 
-    /// Judges a call that begins after all calls before it, so far as it tells something already.
+    /// Judges a call that begins after all calls before it, as far as it decides anything yet.
     ///
     /// An error but `Memory` says why the call cannot come next, and changes nothing. After `Memory` the stream is of no more use.
     pub fn add(&mut self, call: StreamCall) -> Result<(), StreamFault>
@@ -513,7 +513,7 @@ impl Stream {
         Ok(())
     }
 
-    /// The least key with a state that is not left as its calls may leave it.
+    /// The smallest key with a state that is not left as its calls may leave it.
     fn wrongly_left(&self, keys: &[u32]) -> Option<u32>
         requires { IsStrictlyIncreasing keys.now }
         ensures { MatchOption result
@@ -523,7 +523,7 @@ impl Stream {
         let mut wrong: Option<u32> = None;
         for (key, state) in &self.states {
             if !state.may_be_left(is_among(keys, *key)) {
-                wrong = Some(least(*key, wrong));
+                wrong = Some(smallest(*key, wrong));
             }
         }
         wrong
@@ -566,7 +566,7 @@ impl Stream {
     /// Whether some order linearizes all calls of a stream that has come to its end, from the opening keys, and leaves these keys: the
     /// answer is `Linearizable` exactly if one does, and `NotLinearizable` exactly if none does. The set has no quota.
     pub(crate) fn verdict(&self, keys: &[u32]) -> StreamVerdict
-        requires rise { IsStrictlyIncreasing keys.now }
+        requires increase { IsStrictlyIncreasing keys.now }
         requires met { All (λ p. behind_all ≤ p.end) (pending_in self.now) }
         ensures said { (threads : ℕ) (opening : List ℕ) (calls : List RecordedCall) → IsStreamOf threads opening calls self.now
             → IsStreamVerdict (stream_history threads opening calls) keys.now result }
@@ -578,7 +578,7 @@ impl Stream {
         }
     }
 
-    /// As `verdict`, of a recording that was cut off, so that the keys left are not known: the answer is `Linearizable` exactly if there are
+    /// As `verdict`, for a recording that was cut off, so without its final keys: the answer is `Linearizable` exactly if there are
     /// keys left with which some order explains the calls, and `NotLinearizable` exactly if none does whatever keys are left.
     pub(crate) fn verdict_cut_off(&self) -> StreamVerdict
         requires { All (λ p. behind_all ≤ p.end) (pending_in self.now) }

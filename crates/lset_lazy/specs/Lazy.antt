@@ -50,7 +50,7 @@ at_pred seen l = if seen == 2 * l.curr then record l { pc = 7 } else gives_up l
 abbrev pub at_curr : ℕ → Local → Local
 at_curr seen l = if seen % 2 == 0 then decided_on targets l.ckey (record l { succ = seen / 2 }) else gives_up l
 
--- with the last lock given back: the reply, or the walk again
+-- with the last lock released: the reply, or the walk again
 abbrev pub released : Option Reply → Local → Fed
 released None l = continued (record l { pc = 1 })
 released (Some r) l = leaves_with r l

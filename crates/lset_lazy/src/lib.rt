@@ -120,7 +120,7 @@ fn at_curr(local: &Local, seen: u64) -> Local
     }
 }
 
-/// The call has done its work: it gives its locks back and answers True.
+/// The call has done its work: it releases its locks and answers True.
 #[inline(always)]
 fn succeeds(local: Local) -> Local
     ensures { result ≡ record local { pc = 13; reply = Some True } }
@@ -132,7 +132,7 @@ fn succeeds(local: Local) -> Local
     }
 }
 
-/// With the last lock given back the call answers, or walks again.
+/// With the last lock released the call answers, or walks again.
 #[inline(always)]
 fn released(local: &Local) -> Fed
     ensures { result ≡ released local.now.reply local.now }

@@ -5,8 +5,8 @@ use Rattle.lset_words.specs.Words.{Opening}
 use Rattle.lset_words.specs.Log.{calls_at}
 use Rattle.lset_words.specs.Account.{Account}
 use Rattle.lset_history.proofs.RunHistories.{is_history}
-use Rattle.lset_history.proofs.Linearizing.{linearizes, leaves_keys}
-use Rattle.lset_history.proofs.Placing.{has_placement, placement_once}
+use Rattle.lset_history.proofs.PlacementTheorem.{linearizes, leaves_keys}
+use Rattle.lset_history.proofs.UniquePlacement.{has_placement, placement_once}
 use Rattle.lset_steps.specs.declared.Event.{Event}
 use Rattle.lset_steps.specs.Steps.{Table, log_of}
 use Rattle.lset_steps.specs.Chain.{contents_of, counts_of}
@@ -28,9 +28,9 @@ module _ (T : Table) (op : Opening) (last : ℕ) (es : ℕ → Event)
         (counts_of (views T op es)) order account placed;
     content = subst (λ keys. IsContent (views T op es last) keys)
         (sym (leaves_keys op last (log_of T op es) (contents_of (views T op es))
-        (counts_of (views T op es)) order account placed listed.keys listed.rising.1
+        (counts_of (views T op es)) order account placed listed.keys listed.increasing.1
         (λ j. (listed.member j, listed.only j))))
-        listed.rising;
+        listed.increasing;
   }
 
   the_placement : (order : List Placed) → IsPlacedBy T op es last order → IsThePlacement T op es last order

@@ -27,7 +27,7 @@ pub record ExplainsRun (T : Table) (op : Opening) (es : ℕ → Event) (last : �
   pub history : IsHistory op.threads (history_of T op es last)
   -- the order linearizes it from the opening set,
   pub linearizes : Linearizes op.quota (opening_set op) (history_of T op es last) order
-  -- and the keys that it leaves are the content of the last world, rising.
+  -- and the keys that it leaves are the content of the last world, in increasing order.
   pub content : IsContent (views T op es last) (keys_left op (history_of T op es last) order)
 
 -- THE HEADLINE: every run has such an order.

@@ -23,7 +23,7 @@ use Rattle.lset_rule.specs.Runs.{end_of, history_of}
 use Rattle.lset_rule.specs.Views.{Stands}
 use Rattle.lset_rule.specs.Rule.{Holds}
 use Rattle.atomic_table.specs.Table.{Final, Seen}
-use Rattle.lset_rule.proofs.Stepped.{end_laws}
+use Rattle.lset_rule.proofs.OneMoreEvent.{end_laws}
 use Rattle.lset_rule.proofs.Counts.{has_all, closes}
 use Rattle.lset_words.specs.Records.{Keeps}
 use Rattle.lset_live.specs.Dated.{record_of}

@@ -29,7 +29,7 @@ use Rattle.lset_rule.specs.Runs.{Here, log_by, at_end, IsRunOf, history_of}
 use Rattle.lset_rule.specs.Views.{Stands, AreIdle, HasAside, HasThread}
 use Rattle.lset_rule.specs.Calls.{Makes}
 use Rattle.lset_rule.specs.Seats.{IsSeat, TableSeat}
-use Rattle.lset_rule.proofs.Stepped.{Tied, tied}
+use Rattle.lset_rule.proofs.OneMoreEvent.{Tied, tied}
 use Rattle.lset_words.specs.Records.{Keeps, thread_of}
 use Rattle.lset_live.specs.Dated.{record_of}
 use Rattle.lset_live.specs.Explained.{HasAnswered, IsAnswered, SeenIsLinearizable}

@@ -23,7 +23,7 @@ use Rattle.lset_rule.specs.Calls.{Makes}
 use Rattle.lset_rule.specs.Seats.{TableSeat}
 use Rattle.lset_rule.specs.Pasts.{calls_of, root}
 use Rattle.lset_rule.specs.Runs.{Here, done_at, done_next, ending, own, under_after, under_at, under_next}
-use Rattle.lset_rule.proofs.Stepped.{Tied, tied}
+use Rattle.lset_rule.proofs.OneMoreEvent.{Tied, tied}
 use Rattle.lset_live.specs.Dated.{record_of}
 use Rattle.lset_live.proofs.Dated.{root_is}
 use Rattle.lset_live.proofs.Explained.{seat_at}

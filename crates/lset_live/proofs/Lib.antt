@@ -1,5 +1,5 @@
 pub mod Records
-pub mod Handing
+pub mod ListsHandedOn
 mod Dated
 mod Histories
 mod PastCalls
@@ -9,5 +9,5 @@ mod FewSteps
 mod Closing
 pub mod Receipts
 mod TypedReplies
-mod Walking
+mod KeysWalk
 pub mod NewSeats

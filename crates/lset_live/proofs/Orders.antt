@@ -8,7 +8,7 @@ use Rattle.std.proofs.lemmas.List.Elements.{recursion_from_All, All-contains_its
 use Rattle.std.proofs.lemmas.List.{get_or_default}
 use Rattle.std.proofs.lemmas.Bool.{cases_order}
 use Rattle.lset_words.proofs.Numbers.{same_or_not, below_or_not, equal_test, unequal_test, same_number}
-use Rattle.lset_words.proofs.RisingLists.{RisesFrom, same_rising, contains-cons, contains-head, contains-tail, contains-nil}
+use Rattle.lset_words.proofs.IncreasingLists.{IncreasesFrom, same_increasing, contains-cons, contains-head, contains-tail, contains-nil}
 use Rattle.lset_words.specs.declared.Reply.{Reply}
 use Rattle.lset_words.specs.declared.Reply.TheVariants.{True}
 use Rattle.lset_words.specs.declared.history.CallRecord.{CallRecord}
@@ -40,13 +40,13 @@ abbrev numbers_of : ℕ → ℕ → List CallRecord → List ℕ
 numbers_of u n [] = []
 numbers_of u n (x ∷ xs) = cond (x.thread == u) (n ∷ numbers_of u (suc n) xs) (numbers_of u (suc n) xs)
 
-numbers_rise : (u n m : ℕ) (xs : List CallRecord) → m ≤ n → RisesFrom m (numbers_of u n xs)
-numbers_rise u n m [] l = tt
-numbers_rise u n m (x ∷ xs) l = by_test (x.thread == u) (numbers_rise u (suc n) (n + 1) xs (omega arith))
-    (numbers_rise u (suc n) m xs (omega arith))
+numbers_increase : (u n m : ℕ) (xs : List CallRecord) → m ≤ n → IncreasesFrom m (numbers_of u n xs)
+numbers_increase u n m [] l = tt
+numbers_increase u n m (x ∷ xs) l = by_test (x.thread == u) (numbers_increase u (suc n) (n + 1) xs (omega arith))
+    (numbers_increase u (suc n) m xs (omega arith))
   where
-    by_test : (b : Bool) → RisesFrom (n + 1) (numbers_of u (suc n) xs) → RisesFrom m (numbers_of u (suc n) xs) →
-        RisesFrom m (cond b (n ∷ numbers_of u (suc n) xs) (numbers_of u (suc n) xs))
+    by_test : (b : Bool) → IncreasesFrom (n + 1) (numbers_of u (suc n) xs) → IncreasesFrom m (numbers_of u (suc n) xs) →
+        IncreasesFrom m (cond b (n ∷ numbers_of u (suc n) xs) (numbers_of u (suc n) xs))
     by_test true h k = (l, h)
     by_test false h k = k
 
@@ -162,12 +162,12 @@ map_answered : (H : List CallRecord) (F : List Placed) →
 map_answered H [] a = refl
 map_answered H (p ∷ F) a = λ i. a.0 i ∷ map_answered H F a.1 i
 
-rises_by : (lo : ℕ) (F : List Placed) → AllByRecursion (λ (p : Placed). lo ≤ p.call) F →
-    Pairs (λ (p r : Placed). p.call < r.call) F → RisesFrom lo (map (λ (p : Placed). p.call) F)
-rises_by lo [] a b = tt
-rises_by lo (p ∷ F) a b = (
+increases_by : (lo : ℕ) (F : List Placed) → AllByRecursion (λ (p : Placed). lo ≤ p.call) F →
+    Pairs (λ (p r : Placed). p.call < r.call) F → IncreasesFrom lo (map (λ (p : Placed). p.call) F)
+increases_by lo [] a b = tt
+increases_by lo (p ∷ F) a b = (
   a.0,
-  rises_by (p.call + 1) F (all_imply (λ (r : Placed). p.call < r.call) (λ (r : Placed). p.call + 1 ≤ r.call)
+  increases_by (p.call + 1) F (all_imply (λ (r : Placed). p.call < r.call) (λ (r : Placed). p.call + 1 ≤ r.call)
       (λ r l. omega arith) F b.0) b.1,
 )
 
@@ -256,8 +256,8 @@ module _ (q : ℕ) (s : SetState) (H : List CallRecord) (P : List Placed) (L : L
         (λ i. record { thread = (rec_of p).thread; call = (rec_of p).call; reply = (is i).reply })
         ∙ (λ i. record { thread = (rec_of p).thread; call = (rec_of p).call; reply = reply_in (sym e.1 i) })
 
-    rising : RisesFrom 0 (map (λ (p : Placed). p.call) F)
-    rising = rises_by 0 F (all_zero F) (pairs_imply (λ p. There p × (of_placed H u p ≡ true)) Ordered
+    increasing : IncreasesFrom 0 (map (λ (p : Placed). p.call) F)
+    increasing = increases_by 0 F (all_zero F) (pairs_imply (λ p. There p × (of_placed H u p ≡ true)) Ordered
         (λ (p r : Placed). p.call < r.call) ordered F (all_passing There (of_placed H u) P all_there)
         (pairs_filter Ordered (of_placed H u) P all_ordered))
       where
@@ -268,7 +268,7 @@ module _ (q : ℕ) (s : SetState) (H : List CallRecord) (P : List Placed) (L : L
             ∙ sym (same_number (rec_of p).thread u a.1))))) (below_or_not p.call r.call)
 
     numbers : map (λ (p : Placed). p.call) F ≡ numbers_of u 0 H
-    numbers = same_rising 0 0 (map (λ (p : Placed). p.call) F) (numbers_of u 0 H) rising (numbers_rise u 0 0 H (omega arith))
+    numbers = same_increasing 0 0 (map (λ (p : Placed). p.call) F) (numbers_of u 0 H) increasing (numbers_increase u 0 0 H (omega arith))
         there back
       where
         there : (j : ℕ) → Contains (map (λ (p : Placed). p.call) F) j → Contains (numbers_of u 0 H) j

@@ -22,7 +22,7 @@ use Rattle.lset_steps.specs.declared.Event.TheVariants.{Begin, Go}
 use Rattle.lset_steps.specs.Steps.{Table, state_at, event_at, entry_of}
 use Rattle.lset_steps.proofs.MoreEvents.{state_agree}
 use Rattle.lset_rule.specs.Runs.{StartsWith, log_by, history_of}
-use Rattle.lset_rule.proofs.Stepped.{event_of_first}
+use Rattle.lset_rule.proofs.OneMoreEvent.{event_of_first}
 use Rattle.lset_live.specs.Explained.{IsAnswered, StandsBefore}
 
 -- AN ENDED CALL STAYS

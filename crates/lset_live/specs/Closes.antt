@@ -24,7 +24,7 @@ pub record IsLast (c : LastWords) : Type 0 where
   pub run : IsRunOf machine opening events
   pub words : c.words ≡ (end_of machine opening events).words
 
--- [Content] of the words: the keys of the unmarked nodes of the chain, rising
+-- [Content] of the words: the keys of the unmarked nodes of the chain, in increasing order
 abbrev pub HasKeys : LastWords → List ℕ → Type 0
 HasKeys c keys = IsContent (view c.sizes c.words (λ t. 0)) keys
 

@@ -40,14 +40,14 @@ new_seat set t = record { set = set; past = fresh t; held = 1; events = [] }
 abbrev pub IsOpened : SetValue → Opening → List SeatValue → Type 0
 IsOpened set opening seats = (set.shape ≡ opening) × (seats ≡ map (new_seat set) (range_with_len 0 opening.threads))
 
--- why a set is not opened; want of memory, within the limits, is not told apart
+-- why a set is not opened; a failed allocation, within the limits, is not told apart
 abbrev pub RefusesSeats : Sizes → OpenFault → Type 0
 RefusesSeats s fault.Seats = RefusesSizes s layout.Threads
 RefusesSeats s fault.Quota = RefusesSizes s layout.Quota
 RefusesSeats s fault.Memory = IsWithin s
 RefusesSeats s fault.Opening = ⊥
 
--- the same of a set that is to open with keys: they do not rise strictly, or are too many
+-- the same of a set that is to open with keys: they do not increase strictly, or are too many
 abbrev pub RefusesOpening : Opening → OpenFault → Type 0
 RefusesOpening o fault.Seats = RefusesSizes (sizes o) layout.Threads
 RefusesOpening o fault.Quota = RefusesSizes (sizes o) layout.Quota

@@ -1,4 +1,4 @@
-//! Calls with no handle to wait by, as a function that may not wait makes them: each loop of theirs has a bound.
+//! Calls with no handle to block by, as a function that may not wait makes them: each loop of theirs has a bound.
 ghost use Rattle.std.specs.Prelude.{IfSome};
 ghost use Rattle.lset_rule.specs.Seats.{HasCalled, MayCall};
 
@@ -18,7 +18,7 @@ use lset_words::{Call, Reply};
 /// loops here.
 ///
 /// - It asks `MayCall`: the place is a seat of the table with no call under way, and the slots are those in its view.
-/// - It owes `HasCalled`: the place is still that of this seat and table, the slots given back are those in its view, and
+/// - It owes `HasCalled`: the place is still that of this seat and table, the slots returned are those in its view, and
 ///   the record grew by just this call (`Makes`), which began after all that the seat had seen and has answered. After `None`
 ///   it owes nothing.
 pub trait Bounded: Machine {

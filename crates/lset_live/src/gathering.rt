@@ -10,7 +10,7 @@ use crate::set::LiveSet;
 use lset_steps::Machine;
 
 impl<M: Machine> LiveSet<M> {
-    /// Answers whether the seats hold all seats of the set, as many as there are.
+    /// Returns whether the seats hold all seats of the set, as many as there are.
     pub fn is_held_by(&self, seats: &[Seat<M>]) -> bool
         ensures all { IsTrue result ↔ (sum_by (λ s. s.held) seats.now ≡ self.now.shape.threads) }
         ensures few { IsTrue result → (0 < length seats.now) × (length seats.now ≤ MOST_THREADS) }

@@ -11,7 +11,7 @@ use crate::set::LiveSet;
 use atomic_table::Table;
 use lset_rule::{Opened, OwnSlots};
 use lset_steps::{Machine, opening_words};
-use lset_words::{Layout, LayoutFault, layout, layout_opening, rises};
+use lset_words::{Layout, LayoutFault, increases, layout, layout_opening};
 use std::alloc::{AllocError, Global};
 use std::marker::PhantomData;
 
@@ -21,7 +21,7 @@ fn open_on<M: Machine>(
     keys: &[u32],
 ) -> Result<(LiveSet<M>, Vec<Seat<M>>), AllocError>
     requires many { length keys.now ≡ layout.opening }
-    requires rising { IsStrictlyIncreasing keys.now }
+    requires increasing { IsStrictlyIncreasing keys.now }
     ensures { IfOk result (λ r. IsOpened r.0 (opening_of layout keys.now) r.1.items) }
 {
     let threads = layout.threads();
@@ -60,10 +60,10 @@ fn open_on<M: Machine>(
     Ok((set, seats))
 }
 
-/// Opens a set with 1 to `MOST_THREADS` seats, seat `t` for thread `t`, and a quota of 0 to `MOST_QUOTA` slots for each.
+/// Opens a set with 1 to `MOST_THREADS` seats, seat `t` for thread `t`, and a quota of 0 to `MOST_QUOTA` for each.
 /// All memory that a set takes is taken here, but for that of `Closed::keys`.
 /// `OpenFault::Seats` where the seats are outside their limits, else `OpenFault::Quota` where the quota is, and
-/// `OpenFault::Memory` where memory was refused.
+/// `OpenFault::Memory` if an allocation failed.
 pub fn open<M: Machine>(
     alloc: Global,
     seats: u32,
@@ -84,8 +84,8 @@ pub fn open<M: Machine>(
     }
 }
 
-/// Opens a set that has these keys, 0 to `MOST_OPENING` of them, rising strictly, and else as `open` does: with 1 to
-/// `MOST_THREADS` seats and a quota of 0 to `MOST_QUOTA` slots for each. The opening keys take no slot and count as nobody's
+/// Opens a set that has these keys, 0 to `MOST_OPENING` of them, in strictly increasing order, and else as `open` does: with 1 to
+/// `MOST_THREADS` seats and a quota of 0 to `MOST_QUOTA` for each. The opening keys use up no quota and count as nobody's
 /// adds, and each seat may take them out; the keys of a closed set open the next one, of the same list or another. (This
 /// project's own: the lists of the book open empty.)
 /// `OpenFault::Seats` where the seats are outside their limits, else `OpenFault::Quota` where the quota is, else
@@ -104,7 +104,7 @@ pub fn open_with<M: Machine>(
 {
     let many = u32::try_from(keys.len()).unwrap_or(u32::MAX);
     match layout_opening(seats, quota, many) {
-        Ok(layout) if rises(keys) => match open_on::<M>(alloc, layout, keys) {
+        Ok(layout) if increases(keys) => match open_on::<M>(alloc, layout, keys) {
             Ok(opened) => Ok(opened),
             Err(_) => Err(OpenFault::Memory),
         },

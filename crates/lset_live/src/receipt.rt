@@ -34,7 +34,7 @@ impl<M: Machine> Model for Receipt<M> {
 
 impl<M: Machine> LiveSet<M> {
     /// Gives a receipt of what the seat, which is one of this set, has seen so far: its own calls, and all that it has gathered or
-    /// been given. The seat stays as it is. It waits for nobody and allocates nothing.
+    /// been given. The seat stays as it is. It neither blocks nor allocates.
     pub fn receipt(&self, seat: &mut Seat<M>) -> Receipt<M>
         requires { seat.old.set ≡ self.now }
         ensures seat { seat.new ≡ seat.old }
@@ -47,7 +47,7 @@ impl<M: Machine> LiveSet<M> {
         }
     }
 
-    /// Gives a second receipt of the same, of this set. It waits for nobody and allocates nothing.
+    /// Gives a second receipt of the same, of this set. It neither blocks nor allocates.
     pub fn copied(&self, receipt: &mut Receipt<M>) -> Receipt<M>
         requires { receipt.old.set ≡ self.now }
         ensures same { receipt.new ≡ receipt.old }
@@ -62,7 +62,7 @@ impl<M: Machine> LiveSet<M> {
 
     /// From now on the seat has seen what the receipt stands for; both are of this set. The calls that the seat makes from now on
     /// begin after all calls that the seat which gave the receipt had made by then, and each order that explains them has those
-    /// calls before (`receipts_keep_order`). The seat's record and the seats that it holds stay. It waits for nobody and allocates
+    /// calls before (`receipts_keep_order`). The seat's record and the seats that it holds stay. It does not block and allocates
     /// nothing.
     pub fn after(&self, seat: &mut Seat<M>, receipt: Receipt<M>)
         requires seat { seat.old.set ≡ self.now }

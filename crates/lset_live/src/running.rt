@@ -1,4 +1,4 @@
-//! Calls that may wait, over table, seat and pause, and a `contains` that waits for nobody.
+//! Calls that may wait, over table, seat and pause, and a `contains` that does not block.
 ghost use Rattle.lset_words.specs.declared.Call.TheVariants.{Contains};
 ghost use Rattle.lset_rule.specs.Seats.{HasCalled, MayCall};
 
@@ -45,11 +45,11 @@ impl Running for LazyList {}
 
 impl Running for LockFreeList {}
 
-/// A machine whose `contains` waits for nobody, on shared words too.
+/// A machine whose `contains` does not block, on shared words too.
 ///
 /// A list with bounded reads (`OpenReads`) meets it with no body.
 pub trait RunningReads: Running + OpenReads {
-    /// Makes a `contains` that waits for nobody. It has no handle to wait by, and makes at most `OpenReads::bound` steps.
+    /// Makes a `contains` that does not block. It has no handle to block by, and makes at most `OpenReads::bound` steps.
     fn contains_now_on(
         table: &Words<Self>,
         place: &mut TableSeat,

@@ -141,7 +141,7 @@ impl<M: Running> LiveSet<M> {
         self.call(rt, seat, Call::Remove(key), &Spin::new())
     }
 
-    /// Answers whether the key is there. As `call` with `Spin`.
+    /// Returns whether the key is there. As `call` with `Spin`.
     pub fn contains<R: Wait>(&self, rt: &R, seat: &mut Seat<M>, key: Key) -> Reply
         requires { seat.old.set ≡ self.now }
         ensures { HasAnswered M.table self.now seat.old (Contains key) result seat.new }
@@ -149,7 +149,7 @@ impl<M: Running> LiveSet<M> {
         self.call(rt, seat, Call::Contains(key), &Spin::new())
     }
 
-    /// Answers the least key at or above this one, or that there is none. As `call` with `Spin`.
+    /// Returns the smallest key at or above this one, or that there is none. As `call` with `Spin`.
     pub fn ceiling<R: Wait>(&self, rt: &R, seat: &mut Seat<M>, key: Key) -> Reply
         requires { seat.old.set ≡ self.now }
         ensures { HasAnswered M.table self.now seat.old (Ceiling key) result seat.new }
@@ -159,8 +159,8 @@ impl<M: Running> LiveSet<M> {
 }
 
 impl<M: Bounded> LiveSet<M> {
-    /// Makes the call from the seat, which is one of this set, with no handle to wait by: each of its loops makes at most
-    /// `N::MOST` rounds, but for the walk of a `contains` of LazyList and LockFreeList, which waits for nobody and makes as many
+    /// Makes the call from the seat, which is one of this set, with no handle to block by: each of its loops makes at most
+    /// `N::MOST` rounds, but for the walk of a `contains` of LazyList and LockFreeList, which does not block and makes as many
     /// as it needs. The answer is the seat and the reply, and of both is so what `call` says.
     ///
     /// `None` where a loop has made all its rounds, as at a lock that is held. The call is still under way, with the locks that
@@ -200,7 +200,7 @@ impl<M: Bounded> LiveSet<M> {
 }
 
 impl<M: Machine> LiveSet<M> {
-    /// `into` takes `from` in: its record, the seats that it holds, and what it has seen. A call that follows is explained
+    /// Merges `from` into `into`: its record, the seats that it holds, and what it has seen. A call that follows is explained
     /// with all gathered calls before it.
     pub fn gather(&self, into: &mut Seat<M>, from: Seat<M>)
         requires into { into.old.set ≡ self.now }
@@ -223,7 +223,7 @@ impl<M: Machine> LiveSet<M> {
         into.held += held;
     }
 
-    /// Closes the set, where the seat holds all seats of it; else `SeatsOut` gives both back unchanged. One legal order of
+    /// Closes the set if the seat holds all its seats; else `SeatsOut` returns both unchanged. One legal order of
     /// calls keeps the seat's record, has no other call, and leaves just the keys that are left.
     pub fn close(self, seat: Seat<M>) -> Result<Closed, SeatsOut<M>>
         requires { seat.set ≡ self }

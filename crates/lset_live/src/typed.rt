@@ -19,17 +19,17 @@ pub enum Added {
     New,
     /// The key was in the set already. Nothing changed. The reply `False`.
     Already,
-    /// The key was not in the set, and is not: the seat's thread has used all of its slots, as many as the quota. Nothing
+    /// The key was not in the set, and is not: the seat's thread has used up its quota. Nothing
     /// changed. The reply `Full`.
     Full,
 }
 
 impl<M: Running> Seat<M> {
-    /// Adds `key` to `set`, and returns whether the key is new, was there already, or found no slot. This seat must be one of
+    /// Adds `key` to `set`, and returns whether the key is new, was there already, or exceeds the quota. This seat must be one of
     /// the set's.
     ///
     /// The seat's record grows by the call of `LiveSet::add`, with the reply that the result stands for. A key that is removed
-    /// gives no slot back. May block while another thread holds a lock that the call needs. Does not allocate.
+    /// frees no slot. May block while another thread holds a lock that the call needs. Does not allocate.
     ///
     /// For example:
     ///

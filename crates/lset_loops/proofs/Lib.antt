@@ -1,2 +1,2 @@
-mod Calling
-mod Reading
+mod StepsOfCall
+mod ContainsRows

@@ -22,6 +22,6 @@ abbrev pub StopsAt : Begun → OwnSlots → Found → TableSeat → Type 0
 StopsAt b own f s = (j : Rest) × Holds coarse b (decided_on targets f.word (row own b.call 3 None f.pred.number f.curr.number j))
     s
 
--- It is about to give the lock back, with these slots and this reply.
+-- It is about to release the lock, with these slots and this reply.
 abbrev pub Leaves : Begun → OwnSlots × Reply → TableSeat → Type 0
 Leaves b answer s = (p : ℕ) × (x : ℕ) × (j : Rest) × Holds coarse b (row answer.0 b.call 10 (Some answer.1) p x j) s

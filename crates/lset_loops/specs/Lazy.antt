@@ -28,7 +28,7 @@ AreNeighbours b own f n s = (j : Rest)
     × Holds lazy b (decided_on targets f.word
     (row own b.call 7 None f.pred.number f.curr.number (record j { ckey = f.word; succ = n.number }))) s
 
--- It is about to give both locks back: with this reply, or with none, to start over.
+-- It is about to release both locks: with this reply, or with none, to start over.
 abbrev pub GivesBack : Begun → Found → OwnSlots → Option Reply → TableSeat → Type 0
 GivesBack b f own r s = (j : Rest) × Holds lazy b (row own b.call 13 r f.pred.number f.curr.number j) s
 

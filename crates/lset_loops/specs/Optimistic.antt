@@ -51,7 +51,7 @@ AreNeighbours b own f s = (j : Rest)
     × Holds optimistic b (decided_on targets f.word
     (row own b.call 8 None f.pred.number f.curr.number (record j { ckey = f.word }))) s
 
--- It is about to give both locks back: with this reply, or with none, to start over.
+-- It is about to release both locks: with this reply, or with none, to start over.
 abbrev pub GivesBack : Begun → Found → OwnSlots → Option Reply → TableSeat → Type 0
 GivesBack b f own r s = (j : Rest) × Holds optimistic b (row own b.call 14 r f.pred.number f.curr.number j) s
 

@@ -14,7 +14,7 @@ use std::snapshot::Snapshot;
 
 /// Which call is under way, and the seat as it was when the call began.
 #[derive(Drop)]
-pub struct Origin {
+pub(crate) struct Origin {
     call: Call,
     place: Snapshot<TableSeat>,
 }
@@ -34,7 +34,7 @@ impl Model for Origin {
 /// The thread that makes a call: the words of its list, whom it asks between two steps, its slots, the call and the key word
 /// of the call's key.
 #[derive(Drop)]
-pub struct Caller<'a, M: Machine, P: Pause> {
+pub(crate) struct Caller<'a, M: Machine, P: Pause> {
     pub table: &'a Words<M>,
     pub pause: &'a P,
     pub slots: OwnSlots,

@@ -55,7 +55,7 @@ fn act<P: Pause>(
     }
 }
 
-/// Makes a whole call: it takes the lock, walks to its key, acts there, and gives the lock back. (Herlihy and Shavit's
+/// Makes a whole call: it takes the lock, walks to its key, acts there, and releases the lock. (Herlihy and Shavit's
 /// coarse-grained list.) `None` where a loop of it has made `N::MOST` rounds.
 pub fn coarse_within<P: Pause, N: Rounds>(
     table: &Words<CoarseList>,

@@ -12,7 +12,7 @@ use lset_words::{Call, Reply, slot_node};
 
 /// Where the walk has stopped: at the first node `curr` whose key word is not below that of the call, and `pred` before it.
 #[derive(Clone, Copy)]
-pub struct Found {
+pub(crate) struct Found {
     pub pred: Node,
     pub curr: Node,
     pub word: u64,
@@ -20,7 +20,7 @@ pub struct Found {
 
 /// What a call is to do.
 #[derive(Clone, Copy)]
-pub enum Decision {
+pub(crate) enum Decision {
     PutIn,
     TakeOut,
     Answer(Reply),
@@ -45,7 +45,7 @@ pub fn decide(call: Call, word: u64, slots: OwnSlots) -> Decision
 }
 
 /// The slots, of which one more is used.
-pub fn one_more(slots: OwnSlots) -> OwnSlots
+pub(crate) fn one_more(slots: OwnSlots) -> OwnSlots
     requires { slots.used < slots.quota }
     ensures { result ≡ one_more slots }
 {

@@ -84,7 +84,7 @@ fn act<P: Pause>(
 }
 
 /// Makes a whole `add` or `remove` on a LazyList: it walks to its place without a lock, locks the two nodes there, looks
-/// whether they are still neighbours in the list, and acts, or gives them back and starts over. (Herlihy and Shavit's lazy
+/// whether they are still neighbours in the list, and acts, or releases them and starts over. (Herlihy and Shavit's lazy
 /// list, after Heller and others.) `None` where a loop of it has made `N::MOST` rounds.
 pub fn lazy_change_within<P: Pause, N: Rounds>(
     table: &Words<LazyList>,

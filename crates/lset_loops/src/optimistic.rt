@@ -122,7 +122,7 @@ fn act<P: Pause>(
 }
 
 /// Makes a whole call: it walks to its key without a lock, locks the two nodes there, looks by a second walk whether they
-/// are still neighbours in the list, and acts, or gives them back and starts over. (Herlihy and Shavit's optimistic list.)
+/// are still neighbours in the list, and acts, or releases them and starts over. (Herlihy and Shavit's optimistic list.)
 /// `None` where a loop of it has made `N::MOST` rounds.
 pub fn optimistic_within<P: Pause, N: Rounds>(
     table: &Words<OptimisticList>,

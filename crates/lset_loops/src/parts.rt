@@ -8,7 +8,7 @@ use lset_steps::rows::{key_index, link_index, lock_index};
 
 /// A word of a node.
 #[derive(Clone, Copy)]
-pub enum Part {
+pub(crate) enum Part {
     Key(Node),
     Link(Node),
     Lock(Node),
@@ -30,7 +30,7 @@ impl Part {
 
 /// What the link of a node says: the next node, and whether the node itself is marked.
 #[derive(Clone, Copy)]
-pub enum Link {
+pub(crate) enum Link {
     To(Node),
     Marked(Node),
 }

@@ -43,7 +43,7 @@ fn reply_by_mark(link: u64) -> Reply
 /// that has it. (Herlihy and Shavit's wait-free `contains`.)
 ///
 /// `place` is the place of an idle seat of these words, and `slots` are those of its thread. The answer is the slots and the
-/// reply. `pause` is asked after each step that does not answer. It waits for nobody, and returns.
+/// reply. `pause` is asked after each step that does not answer. It does not block, and returns.
 pub fn contains_on<M: ReadsByRows, P: Pause>(
     table: &Words<M>,
     place: &mut TableSeat,

@@ -1,4 +1,4 @@
--- How many nodes have a key above a given one: what is left of a walk at most, since the keys that it meets rise.
+-- How many nodes have a key above a given one: what is left of a walk at most, since the keys that it meets increase.
 use Rattle.std.specs.Prelude.{◌≡◌, ℕ, ◌+◌, ◌<◌, ◌≤◌, if◌then◌else◌, nat_lt}
 use Rattle.std.proofs.Common.{arith, inl, inr, ap, zero, suc}
 use Rattle.lset_words.proofs.Numbers.{same_or_not, below_or_not, if_below, if_not_below}

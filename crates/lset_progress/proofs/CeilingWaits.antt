@@ -11,7 +11,7 @@ use Rattle.lset_progress.proofs.WrittenRuns.{op, run, is_run, is_after, state_af
 use Rattle.lset_progress.specs.Progress.{IsPending, IsCeiling, EndsAlone, SomeCeilingNeverEnds}
 
 -- Thread 0 puts in 5, and is about to put 3 before it; thread 1 marks the node of 5, and does not get it out, since 3 has come
--- before it; then thread 0 asks for the least key from 4 on, and makes its first five steps.
+-- before it; then thread 0 asks for the smallest key from 4 on, and makes its first five steps.
 abbrev events : List Event
 events = Begin 0 (Add (record { 0 = 5 })) ∷ Go 0 ∷ Go 0 ∷ Go 0 ∷ Go 0 ∷ Go 0 ∷ Go 0
     ∷ Begin 0 (Add (record { 0 = 3 })) ∷ Go 0 ∷ Go 0 ∷ Go 0 ∷ Go 0 ∷ Go 0

@@ -99,7 +99,7 @@ left size key l = get_or (0 ∷ (2 * size + 6) ∷ (2 * ahead key size (key l.cu
     ∷ (then_again size l.reply) ∷ []) l.pc (reads_left size key l)
 
 -- A walk is valid if pred is in the chain, and curr comes after it; from its locks on neither is marked. Behind its decision a
--- thread has a reply where it gives its locks back. Where a ceiling walks no node of the chain may be marked.
+-- thread has a reply where it releases its locks. Where a ceiling walks no node of the chain may be marked.
 abbrev pub shape : Shape
 shape = record {
   may = NodeLocks (within 5 14) (within 6 13);

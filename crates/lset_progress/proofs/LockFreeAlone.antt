@@ -203,10 +203,10 @@ module _ {sz : Sizes} {ws : List ℕ} {used : ℕ → ℕ} {t : ℕ} {vs : ℕ �
 
     -- the key of an unmarked curr: the walk goes on, or the call decides
     from_4 : (l.curr ≢ 1 → rest_by size key l.succ < rest_by size key l.curr) → Row (record l { pc = 4 })
-    from_4 rises = (
+    from_4 increases = (
       inr (omega arith),
       by_below (From 4 ws) (node_key ws l.curr) (target l.call)
-          (λ lt. let less : rest_by size key l.succ < rest_by size key l.curr = rises (inside_chain l.curr lt) in
+          (λ lt. let less : rest_by size key l.succ < rest_by size key l.curr = increases (inside_chain l.curr lt) in
           to tt (omega arith) (λ v. at_pred (node_link ws) (record l { pc = 2; pred = l.curr; curr = l.succ })
           (omega arith, omega arith, λ z. omega arith) (v.unmarked refl)) (omega arith))
           (λ ge. by_decision (λ k. From 4 ws (decision_of k)) targets (node_key ws l.curr) (record l { pc = 4 })
@@ -300,16 +300,16 @@ module _ {sz : Sizes} {ws : List ℕ} {used : ℕ → ℕ} {t : ℕ} {vs : ℕ �
         (from_25 h key agrees (round size) (omega arith))))
 
     -- succ comes after curr
-    rises_at : Was vs first now l.curr l.succ t (used t) (λ v. v.link l.curr % 2 ≡ 0) → l.curr ≢ 1
+    increases_at : Was vs first now l.curr l.succ t (used t) (λ v. v.link l.curr % 2 ≡ 0) → l.curr ≢ 1
         → rest_by size key l.succ < rest_by size key l.curr
-    rises_at o user =
+    increases_at o user =
         let ord : IsOrdered (vs o.at) = h.ordered o.at o.upto in
         let was : (vs o.at).published l.curr = in_chain_published (vs o.at) ord l.curr o.in_chain in
         let is = h.later o.at l.curr o.upto was in
         let next : (vs o.at).published l.succ = subst (λ x. (vs o.at).published x) o.next (ord.next_published l.curr was user) in
         let is' = h.later o.at l.succ o.upto next in
         let up : (vs o.at).key l.curr < (vs o.at).key l.succ =
-        subst (λ x. (vs o.at).key l.curr < (vs o.at).key x) o.next (ord.rises l.curr was user) in
+        subst (λ x. (vs o.at).key l.curr < (vs o.at).key x) o.next (ord.increases l.curr was user) in
         let k : node_key ws l.curr ≡ (vs o.at).key l.curr = is.1 in let k' : node_key ws l.succ ≡ (vs o.at).key l.succ = is'.1 in
         let here : key l.curr ≡ node_key ws l.curr = agrees l.curr is.0 in
         let there : key l.succ ≡ node_key ws l.succ = agrees l.succ is'.0 in
@@ -332,7 +332,7 @@ module _ {sz : Sizes} {ws : List ℕ} {used : ℕ → ℕ} {t : ℕ} {vs : ℕ �
     row (at2 e d s k) = at_row Row l 2 e (from_2 s.curr_published)
     row (at2_now e d s f i x) = at_row Row l 2 e (from_2 s.curr_published)
     row (at3 e d s p o) = at_row Row l 3 e (from_3 s o)
-    row (at4 e d s p k o b) = at_row Row l 4 e (from_4 (rises_at o))
+    row (at4 e d s p k o b) = at_row Row l 4 e (from_4 (increases_at o))
     row (at5 e d s a) = at_row Row l 5 e from_5
     row (at6 e d s a x) = at_row Row l 6 e (from_6 s.pred_published a.room)
     row (at7 e d s a x y) = at_row Row l 7 e from_7

@@ -128,9 +128,9 @@ module _ (T : Table) (At : Outline) (follows : Discipline T T.marks At) (rows : 
         let half' : node_link S.words L.curr / 2 ≡ L.succ = omega arith in
         let up : node_key S.words L.pred < node_key S.words L.curr =
         subst (λ z. node_key S.words L.pred < node_key S.words z) half
-        (i.memory.ordered.rises L.pred b.walk.held.published b.walk.inner) in
+        (i.memory.ordered.increases L.pred b.walk.held.published b.walk.inner) in
         let up' : node_key S.words L.curr < node_key S.words L.succ =
-        subst (λ z. node_key S.words L.curr < node_key S.words z) half' (i.memory.ordered.rises L.curr b.walk.next user) in
+        subst (λ z. node_key S.words L.curr < node_key S.words z) half' (i.memory.ordered.increases L.curr b.walk.next user) in
         let links : (a : ℕ) → a ≢ L.pred → node_link step.words' a ≡ node_link S.words a =
         λ a d. ap (λ w. node_link w a) is ∙ link_after_link S.words L.pred (2 * L.succ) a d in
         let keys : (a : ℕ) → node_key step.words' a ≡ node_key S.words a =

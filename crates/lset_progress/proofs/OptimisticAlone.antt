@@ -50,7 +50,7 @@ left size key l = slice_index (0 ∷ (4 * size + 3) ∷ (2 * ahead key size (key
     ∷ (1 + then_again size l.reply) ∷ (then_again size l.reply) ∷ []) l.pc
 
 -- A walk is valid if pred is in the chain, curr comes after it, and the second walk is on its way to pred. Behind its decision a
--- thread has a reply where it gives its locks back.
+-- thread has a reply where it releases its locks.
 abbrev shape : Shape
 shape = record {
   may = NodeLocks (within 5 14) (within 6 15);

@@ -33,11 +33,11 @@ path_from link i j d p = leads_from link i j p.0 d p.1
 leads_up : (v : View) → IsOrdered v → (i j : ℕ) (ns : List ℕ) → v.published i → Leads v.link i ns j → v.key i ≤ v.key j
 leads_up v ord i j [] m p = let e : v.key i ≡ v.key j = ap v.key p in omega arith
 leads_up v ord i j (a ∷ ns) m p =
-    let h : v.key i < v.key (v.link i / 2) = ord.rises i m p.0 in
+    let h : v.key i < v.key (v.link i / 2) = ord.increases i m p.0 in
     let r : v.key (v.link i / 2) ≤ v.key j = leads_up v ord (v.link i / 2) j ns (ord.next_published i m p.0) p.1 in
     omega arith
 
--- keys rise along a path
+-- keys increase along a path
 pub path_up : (v : View) → IsOrdered v → (i j : ℕ) → v.published i → Path v.link i j → v.key i ≤ v.key j
 path_up v ord i j m p = leads_up v ord i j p.0 m p.1
 

@@ -34,7 +34,7 @@ module _ (marks : Bool) (sz : Sizes) (ws : List ℕ) (used : ℕ → ℕ) (m : M
       → rest_by (node_count sz) key (node_link ws a / 2) < rest_by (node_count sz) key a
   fewer_by key same a p d =
       let next : V.published (node_link ws a / 2) = m.ordered.next_published a p d in
-      let up : node_key ws a < node_key ws (node_link ws a / 2) = m.ordered.rises a p d in
+      let up : node_key ws a < node_key ws (node_link ws a / 2) = m.ordered.increases a p d in
       let here : key a ≡ node_key ws a = same a p in
       let there : key (node_link ws a / 2) ≡ node_key ws (node_link ws a / 2) = same (node_link ws a / 2) next in
       ahead_less key (node_count sz) (key a) (node_link ws a / 2) (inside marks sz ws used m (node_link ws a / 2) next)

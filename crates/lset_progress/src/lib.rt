@@ -211,7 +211,7 @@ pub fn crossed_locks_are_refused()
 {}
 
 /// Lemma: the laws of freedom from livelock and from deadlock refuse a LazyList whose `remove` takes its two locks in the
-/// other order, and in which a thread that finds its second lock taken gives the first back and starts again: two threads can
+/// other order, and in which a thread that finds its second lock taken releases the first and starts again: two threads can
 /// do so for ever, in a run that is fair.
 pub fn two_that_yield_are_not_deadlock_free()
     ensures bounded { (reads : Bool) → NotLivelockFree (counted reads) yielding }

@@ -1,7 +1,7 @@
-pub mod Pieces
+pub mod FieldCounts
 pub mod LineKinds
 pub mod NumbersBefore
-pub mod Followed
-pub mod Judged
+pub mod NextCalls
+pub mod KeptByLine
 pub mod ReadLaws
 pub mod TextFound

@@ -29,9 +29,9 @@ IsJudgeKept opening calls None = calls ≡ []
 IsJudgeKept opening calls (Some j) =
     IsJudgeOf all_threads opening calls j × IsLatest calls (moment_of j.stream) × (length calls ≤ moment_of j.stream)
 
--- keys that rise; there are no more than numbers below the next one, and so few enough to be counted
+-- keys that increase; there are no more than numbers below the next one, and so few enough to be counted
 pub record AreKeys (keys : List ℕ) : Type 0 where
-  pub rise : IsStrictlyIncreasing keys
+  pub increase : IsStrictlyIncreasing keys
   pub below : (k : ℕ) → is_above keys k ≡ true → length keys ≤ k
   pub few : length keys ≤ 2 ^ 32
 

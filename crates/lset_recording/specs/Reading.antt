@@ -148,7 +148,7 @@ nothing_told = record {
   told = record { opening = []; calls = []; keys = []; cut_off = false };
 }
 
--- a line goes on with those above it: keys rise, and calls are a history in the order of their begins
+-- a line goes on with those above it: keys increase, and calls are a history in the order of their begins
 abbrev pub GoesOn : Recording → RecordingLine → Type 0
 GoesOn c told.Title = Unit {0}
 GoesOn c (told.Opening k) = is_above c.opening k ≡ true

@@ -25,7 +25,7 @@ pub record Recording : Type 0 where
 abbrev pub all_threads : ℕ
 all_threads = 2 ^ 32
 
--- WHAT A RECORDING IS: keys that rise, and a history of calls that ended with true or false, with moments below 2^63
+-- WHAT A RECORDING IS: keys that increase, and a history of calls that ended with true or false, with moments below 2^63
 pub record IsRecording (c : Recording) : Type 0 where
   pub opening : IsStrictlyIncreasing c.opening
   pub calls : IsHistory all_threads c.calls

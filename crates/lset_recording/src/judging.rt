@@ -74,10 +74,10 @@ fn add_call(judge: &mut Judge, call: StreamCall) -> Result<(), Cause>
     }
 }
 
-/// Puts a key behind keys that rise, if it is above them.
+/// Puts a key behind keys that increase, if it is above them.
 fn add_key(keys: &mut Vec<u32>, key: u32) -> Result<(), Cause>
     requires { IsStrictlyIncreasing keys.old.items }
-    ensures rise { IsStrictlyIncreasing keys.new.items }
+    ensures increase { IsStrictlyIncreasing keys.new.items }
     ensures added { OnOk result ((keys.new.items ≡ keys.old.items ++ key ∷ []) × (is_above keys.old.items key ≡ true)) }
     ensures refused { IfErr result (λ cause. cause ≢ Cause.Memory
         → (cause ≡ Cause.Opening) × (is_above keys.old.items key ≡ false)) }

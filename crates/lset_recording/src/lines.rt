@@ -251,7 +251,7 @@ fn title_told(line: &[u8]) -> Result<Line, Cause>
 }
 
 /// What a line says in a text that has come to a section.
-pub fn line_told(section: Section, line: &[u8]) -> Result<Line, Cause>
+pub(crate) fn line_told(section: Section, line: &[u8]) -> Result<Line, Cause>
     ensures { result ≡ line_told section line.now }
 {
     if section.is_title() {

@@ -35,7 +35,7 @@ pub struct RecordingReader {
 }
 
 impl RecordingReader {
-    /// Returns a reader that was given no byte yet. Does not allocate.
+    /// Returns a reader that has read nothing yet. Does not allocate.
     pub fn new(alloc: Global) -> RecordingReader
         ensures { IsRead [] result }
     {

@@ -17,8 +17,8 @@ use Rattle.lset_replay.specs.Trace.{trace_of, trace_after, entry_told, MayRecord
 use Rattle.lset_replay.specs.Follows.{HasFollowed, ComesNext}
 use Rattle.lset_history.specs.Changes.{moments_of}
 use Rattle.lset_replay.proofs.KeyChanges.{HoldsKeys}
-use Rattle.lset_replay.proofs.Followed.{TellsKeys, holds_keys, shown}
-use Rattle.lset_replay.proofs.Ready.{may_begin, may_step}
+use Rattle.lset_replay.proofs.FollowedRuns.{TellsKeys, holds_keys, shown}
+use Rattle.lset_replay.proofs.RecorderReady.{may_begin, may_step}
 
 -- what an event told is its entry
 pub told_entry : (T : Table) (s : State) (e : Event) → entry_told e (told T s e) ≡ entry_of T s e

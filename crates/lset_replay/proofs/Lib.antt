@@ -1,11 +1,11 @@
 pub mod EventLists
 pub mod KeyChanges
-pub mod LeastFits
+pub mod SmallestFits
 pub mod OpenCalls
-pub mod Following
-pub mod Stepping
-pub mod Ready
-pub mod Followed
+pub mod ReplayKept
+pub mod StepKept
+pub mod RecorderReady
+pub mod FollowedRuns
 pub mod EventSteps
-pub mod Reported
+pub mod FinalReport
 pub mod ReportWords

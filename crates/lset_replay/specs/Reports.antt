@@ -74,4 +74,4 @@ Replays T p (Err refusal) = IsRefusal T (opening_in p) (events_of p) refusal
 pub record IsExplained (r : ReportValue) : Type 0 where
   pub linearizes : Linearizes r.history.opening.quota (opening_set r.history.opening) r.history.calls r.order
   pub leaves : keys_left r.history.opening r.history.calls r.order ≡ r.keys
-  pub rising : IsStrictlyIncreasing r.keys
+  pub increasing : IsStrictlyIncreasing r.keys

@@ -32,7 +32,10 @@ fn pointed_calls(alloc: Global, places: &[Option<Linearized>]) -> Result<Vec<Poi
 
 /// Returns the order of calls with these linearization points: by moment, and at one moment the change first, then the
 /// others by their numbers. Allocates; `AllocError` if that fails.
-pub fn in_order(alloc: Global, places: &[Option<Linearized>]) -> Result<Vec<Placed>, AllocError>
+pub(crate) fn in_order(
+    alloc: Global,
+    places: &[Option<Linearized>],
+) -> Result<Vec<Placed>, AllocError>
     requires { length places.now ≤ MOST_EVENTS }
     ensures { IfOk result (λ v. (last : ℕ) → StandUpTo last places.now → v.items ≡ blocks_upto places.now last) }
 {

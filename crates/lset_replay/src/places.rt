@@ -5,7 +5,7 @@ use lset_words::{Call, Reply};
 
 /// A pending call: its number, and the moment at which it began.
 #[derive(Clone, Copy)]
-pub struct OpenCall {
+pub(crate) struct OpenCall {
     pub number: u32,
     pub call: Call,
     pub begun: u32,
@@ -13,7 +13,7 @@ pub struct OpenCall {
 
 /// Whether this reply of a call that changes nothing is correct if the call's key is in the set (`true`), or if it is not
 /// (`false`); of a `ceiling`, if what it replies is.
-pub fn needs_key(call: Call, reply: Reply) -> bool
+pub(crate) fn needs_key(call: Call, reply: Reply) -> bool
     ensures { result ≡ needs_key call reply }
 {
     match call {
@@ -25,7 +25,7 @@ pub fn needs_key(call: Call, reply: Reply) -> bool
 }
 
 /// Returns the key that a `ceiling` replied, `None` if it replied that there is none.
-pub fn found_in(reply: Reply) -> Option<u32>
+pub(crate) fn found_in(reply: Reply) -> Option<u32>
     ensures { result ≡ found_in reply }
 {
     match reply {
@@ -36,7 +36,7 @@ pub fn found_in(reply: Reply) -> Option<u32>
 
 /// The linearization point of a call, and its reply there: the moment, the reply, and whether it changes the set.
 #[derive(Clone, Copy)]
-pub struct Linearized {
+pub(crate) struct Linearized {
     pub moment: u32,
     pub reply: Reply,
     pub change: bool,

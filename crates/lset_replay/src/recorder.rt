@@ -30,7 +30,7 @@ use std::alloc::{AllocError, Global};
 /// The history of a run so far, and what the linearization points of its calls depend on: the pending call of each thread,
 /// the point of each call that has one, and when keys were added and removed.
 #[derive(Drop)]
-pub struct Recorder {
+pub(crate) struct Recorder {
     pub history: History,
     pub under_way: Vec<Option<OpenCall>>,
     pub places: Vec<Option<Linearized>>,

@@ -11,7 +11,10 @@ use lset_words::layout_opening;
 use std::alloc::{AllocError, Global};
 
 /// Returns the world before any event of a schedule. Allocates.
-pub fn world_of<M: Machine>(alloc: Global, schedule: &Schedule) -> Result<World<M>, AllocError>
+pub(crate) fn world_of<M: Machine>(
+    alloc: Global,
+    schedule: &Schedule,
+) -> Result<World<M>, AllocError>
     requires { Opens (opening_in (view schedule.now)) }
     ensures { IfOk result (λ w. w ≡ record {
       sizes = sizes (opening_in (view schedule.now));

@@ -1,6 +1,6 @@
 pub mod ReportHistories
-pub mod ReportPieces
+pub mod FieldCounts
 pub mod ReportLoops
 pub mod ReportLines
 pub mod ReportTexts
-pub mod Orders
+pub mod SortedPlaces

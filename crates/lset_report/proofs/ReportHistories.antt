@@ -40,8 +40,8 @@ untaken : (calls : List CallRecord) (m : ℕ) → Decides (not (is_taken calls m
 untaken calls m = Decides-by_and (λ y. not (is_entry m y)) (Apart m) (λ ys. not (is_taken ys m)) (λ y. apart_by m y.begun y.ended)
     refl (λ y ys. not_or (is_entry m y) (is_taken ys m)) calls
 
-rises : (calls : List CallRecord) (m : ℕ) → Decides (begins_later calls m) ((0 < m) × All (λ (y : CallRecord). y.begun < m) calls)
-rises calls m = Decides-and (ltb 0 m) _ (Decides-ltb 0 m) (Decides-by_and (λ y. ltb y.begun m) (λ y. y.begun < m)
+increases : (calls : List CallRecord) (m : ℕ) → Decides (begins_later calls m) ((0 < m) × All (λ (y : CallRecord). y.begun < m) calls)
+increases calls m = Decides-and (ltb 0 m) _ (Decides-ltb 0 m) (Decides-by_and (λ y. ltb y.begun m) (λ y. y.begun < m)
     (list_all (λ y. ltb y.begun m)) (λ y. Decides-ltb y.begun m) refl (λ _ _. refl) calls)
 
 ends_well : (calls : List CallRecord) (b : ℕ) (o : Option (ℕ × Reply))
@@ -82,12 +82,12 @@ pub may_ok : (threads : ℕ) (calls : List CallRecord) (x : CallRecord) → may_
     → MayFollow threads calls x
 may_ok threads calls x h =
     let may = may_parts threads calls x h in
-    let begins = (rises calls x.begun).0 may.begins in
+    let begins = (increases calls x.begun).0 may.begins in
     let ends = (ends_well calls x.begun x.ended).0 may.ends in
     record {
       of_a_thread = may.low;
       counted = begins.0;
-      rising = begins.1;
+      increasing = begins.1;
       ends_later = IfSome_then x.ended ends (λ e both. both.0);
       begins_alone = λ k d b. turned _ x.begun ((untaken calls x.begun).0 may.apart k d b).1;
       ends_alone = IfSome_then x.ended ends (λ e both. both.1);
@@ -98,9 +98,9 @@ pub may_again : (threads : ℕ) (calls : List CallRecord) (x : CallRecord) → M
     → may_follow threads calls x ≡ true
 may_again threads calls x may =
     and_from (ltb x.thread threads) _ (lt-ltb _ _ may.of_a_thread)
-    (and_from (begins_later calls x.begun) _ ((rises calls x.begun).1 (may.counted, may.rising))
+    (and_from (begins_later calls x.begun) _ ((increases calls x.begun).1 (may.counted, may.increasing))
     (and_from (ends_later calls x.begun x.ended) _ ((ends_well calls x.begun x.ended).1 (both _ _ x.ended may.ends_later may.ends_alone))
-    (and_from (not (is_taken calls x.begun)) _ ((untaken calls x.begun).1 (λ k d b. let below = may.rising k d b in
+    (and_from (not (is_taken calls x.begun)) _ ((untaken calls x.begun).1 (λ k d b. let below = may.increasing k d b in
     (λ same. omega arith, flipped (get_or calls k d).ended (may.begins_alone k d b))))
     ((idles calls x.thread x.begun).1 may.none_open))))
   where

@@ -36,7 +36,7 @@ use Rattle.lset_report.specs.ReportReader.{so_far, state, IsFull}
 
 -- ---- the judgement of a line
 
--- a good line: there is room for it, and an opening key rises, and a call follows
+-- a good line: there is room for it, and an opening key increases, and a call follows
 abbrev pub IsGood : ReportValue → Line → Type 0
 IsGood r (Opening k) = (length r.history.opening.keys < MOST_OPENING) × (is_above r.history.opening.keys k ≡ true)
 IsGood r (Call number x) =

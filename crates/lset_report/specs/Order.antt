@@ -35,7 +35,7 @@ rank_of x = rank_at x.point.moment x.point.change
 -- the places in that order
 pub record AreByPoints (xs ys : List Pointed) : Type 0 where
   pub moved : IsPermutation xs ys
-  pub rise : IsNonDecreasingBy (λ (x : Pointed). x.point.moment) ys
+  pub increase : IsNonDecreasingBy (λ (x : Pointed). x.point.moment) ys
   pub blocks : (last : ℕ) → All (λ (x : Pointed). x.point.moment ≤ last) xs → ys ≡ by_points last xs
 
 -- the place of a call that stands

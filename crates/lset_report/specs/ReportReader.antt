@@ -31,7 +31,7 @@ so_far s = record {
 }
 
 pub record Holds (s : Reader) : Type 0 where
-  pub rising : IsStrictlyIncreasing s.opening.items
+  pub increasing : IsStrictlyIncreasing s.opening.items
   pub few : length s.opening.items ≤ MOST_OPENING
   pub tracks : Tracks s.calls
   pub opens : s.calls.history.opening ≡ empty s.header.threads s.header.quota

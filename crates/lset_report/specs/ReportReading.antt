@@ -172,12 +172,12 @@ is_next r number x = number == length r.history.calls && may_follow r.history.op
 abbrev pub following : ReportValue → ℕ → CallRecord → ReportLine → Result ReportLine Cause
 following r number x l = if is_next r number x then Ok l else Err wrong.History
 
-abbrev pub rising : ReportValue → ℕ → ReportLine → Result ReportLine Cause
-rising r k l = if is_above r.history.opening.keys k then Ok l else Err wrong.Opening
+abbrev pub increasing : ReportValue → ℕ → ReportLine → Result ReportLine Cause
+increasing r k l = if is_above r.history.opening.keys k then Ok l else Err wrong.Opening
 
 -- the count of a line, and that an opening key is above the one before, or the history of a call
 abbrev pub judged : ReportValue → ReportLine → Result ReportLine Cause
-judged r (told.Opening k) = counted MOST_OPENING (length r.history.opening.keys) (told.Opening k) >>= rising r k
+judged r (told.Opening k) = counted MOST_OPENING (length r.history.opening.keys) (told.Opening k) >>= increasing r k
 judged r (told.Call number x) = counted MOST_CALLS (length r.history.calls) (told.Call number x) >>= following r number x
 judged r (told.Place p) = counted MOST_PLACES (length r.order) (told.Place p)
 judged r (told.Key k) = counted (most_keys r.version) (length r.keys) (told.Key k)

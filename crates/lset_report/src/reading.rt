@@ -40,7 +40,7 @@ const FIRST_LINE: u64 = LAST_OF_HEADER + 1;
 
 /// What was read of a report up to some line.
 #[derive(Drop)]
-pub struct Reader {
+pub(crate) struct Reader {
     pub version: Version,
     pub header: Header,
     pub section: Section,

@@ -11,7 +11,7 @@ const TITLE_ONE: &str = "listset-report 1";
 const TITLE_TWO: &str = "listset-report 2";
 
 /// Returns line 1 of a report of a version.
-pub fn title(version: Version) -> &'static str
+pub(crate) fn title(version: Version) -> &'static str
     ensures { result.now ≡ title version }
 {
     match version {

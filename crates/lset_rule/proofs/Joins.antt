@@ -23,10 +23,10 @@ use Rattle.lset_rule.specs.Rule.{Holds, MatchesLog, StandsIn, IsQuiet, left_view
 use Rattle.lset_rule.specs.Rule.{without_thread, informed}
 use Rattle.lset_rule.specs.Views.{Stands, HasThread, HasAside, AreIdle, InTime}
 use Rattle.lset_rule.proofs.Runs.{still_quiet, before_more, none_of_another, asides_stay}
-use Rattle.lset_rule.proofs.Stepped.{run_of_first}
-use Rattle.lset_rule.proofs.Fitting.{Fits, St, each_set, each_more, each_fits, fits, spent_fits, holding}
-use Rattle.lset_rule.proofs.Fitting.{is_in, set_there, stands_else, stands_still, stands_more, stands_last}
-use Rattle.lset_rule.proofs.Keeps.{M}
+use Rattle.lset_rule.proofs.OneMoreEvent.{run_of_first}
+use Rattle.lset_rule.proofs.ViewsFit.{Fits, St, each_set, each_more, each_fits, fits, spent_fits, holding}
+use Rattle.lset_rule.proofs.ViewsFit.{is_in, set_there, stands_else, stands_still, stands_more, stands_last}
+use Rattle.lset_rule.proofs.MovesKeepRule.{M}
 use Rattle.lset_words.specs.Words.{Opening}
 
 -- QUIET EVENTS of a view with fewer threads, of a part of them, and of the threads of two views

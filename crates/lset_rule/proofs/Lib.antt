@@ -1,10 +1,10 @@
-pub mod Stepped
+pub mod OneMoreEvent
 pub mod Runs
-pub mod Fitting
-pub mod Keeps
+pub mod ViewsFit
+pub mod MovesKeepRule
 pub mod Calls
 pub mod Joins
 pub mod Counts
-pub mod Opens
-pub mod Ending
+pub mod RuleAtOpening
+pub mod ContainsEnds
 pub mod RowSteps

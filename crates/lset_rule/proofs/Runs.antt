@@ -14,7 +14,7 @@ use Rattle.lset_steps.specs.Steps.{Table}
 use Rattle.lset_rule.specs.Pasts.{root, calls_of, Before, GatheredBefore, InOrder, Apart, IsIn}
 use Rattle.lset_steps.specs.Worlds.{thread_of}
 use Rattle.lset_rule.specs.Runs.{Here, here, at_end, own, under_after, under_next, under_at, ending, StartsWith}
-use Rattle.lset_rule.proofs.Stepped.{end_other}
+use Rattle.lset_rule.proofs.OneMoreEvent.{end_other}
 use Rattle.lset_rule.specs.Views.{HasThread, HasAside, AreIdle, InTime}
 use Rattle.lset_rule.specs.Rule.{IsQuiet}
 use Rattle.lset_rule.specs.Calls.{record_after}

@@ -69,7 +69,7 @@ pub fn interpret_within<M: Machine, P: Pause, N: Rounds>(
     Some((OwnSlots::of(&last.fed.local), reply))
 }
 
-/// Makes a whole `contains` of `key`, step by step, that waits for nobody and returns: for the lists whose walk meets each
+/// Makes a whole `contains` of `key`, step by step, that does not block and returns: for the lists whose walk meets each
 /// node at most once (`OpenReads`), which are those that mark nodes before they unlink them.
 ///
 /// `place` and `slots` are as those of [`interpret_within`], and the answer is as one of it.

@@ -8,14 +8,14 @@ use lset_steps::{Action, Fed, Local, Machine};
 /// What a step has told: what the thread holds after it, with the answer where it was the last of the call, and whether it
 /// was an exchange that was not made.
 #[derive(Clone, Copy)]
-pub struct Stepped {
+pub(crate) struct Stepped {
     pub fed: Fed,
     pub failed: bool,
 }
 
 /// Whether a step that made `action`, at which `seen` was seen, was an exchange that was not made.
 #[inline(always)]
-pub fn has_failed(action: Action, seen: u64) -> bool {
+pub(crate) fn has_failed(action: Action, seen: u64) -> bool {
     match action {
         Action::Exchange(_, old, _) => seen != old,
         _ => false,
@@ -67,7 +67,7 @@ fn other_step<M: Machine, const SITE: u8>(
 /// that calls it has a number `SITE` of its own. It names each row of the five tables; a table with further rows is right
 /// without an arm for them here, and slower there.
 #[inline(always)]
-pub fn one_step<M: Machine, const SITE: u8>(
+pub(crate) fn one_step<M: Machine, const SITE: u8>(
     table: &Words<M>,
     place: &mut TableSeat,
     local: &Local,

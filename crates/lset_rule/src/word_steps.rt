@@ -22,7 +22,7 @@ pub type Words<M> = Shared<(), View, Opened, Follows<M>>;
 /// Makes a step in a call that has begun.
 ///
 /// `place` is the place of a seat of these words with a call under way, and `action` is that of the row at which it stands. The
-/// answer is what the machine is to be fed: the value seen, which is the old one exactly where an exchange was made, or the value
+/// answer is what the machine is to be fed: the value seen, which is the old one exactly if an exchange was made, or the value
 /// stored. From then on the place has seen all events up to this step.
 #[inline(always)]
 pub fn step_on<M: Machine>(table: &Words<M>, place: &mut TableSeat, action: Action) -> u64

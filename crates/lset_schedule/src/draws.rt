@@ -74,7 +74,7 @@ fn program(
 
 /// Returns the layout of a set that opens empty, of which calls with keys below `keys` are drawn; or why there is none, as
 /// `generate` and `programs` do.
-pub fn layout_to_draw(threads: u32, quota: u32, keys: u32) -> Result<Layout, GenFault>
+pub(crate) fn layout_to_draw(threads: u32, quota: u32, keys: u32) -> Result<Layout, GenFault>
     ensures sizes { IfOk result (λ l. l ≡ record { threads = threads; quota = quota; opening = 0 }) }
     ensures accepted { IfOk result (λ _. IsAccepted threads quota keys) }
     ensures refused { IfErr result (Refuses threads quota keys) }

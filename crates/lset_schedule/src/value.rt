@@ -35,7 +35,7 @@ pub(crate) fn title(version: Version) -> &'static str
     }
 }
 
-/// A schedule of at most 1,000,000 events: the version of its format, the kind of list, its threads, 1 to 64, the slots of
+/// A schedule of at most 1,000,000 events: the version of its format, the kind of list, its threads, 1 to 64, the quota of
 /// each, 0 to 16,384, the keys with which its set opens, at most 1,048,576 and in strictly increasing order, and its lines.
 /// The thread of a line may be any `u32`. A schedule of version 1 that is to be written must have no opening keys and begin
 /// no `ceiling`, for which that version has no lines.

@@ -16,7 +16,7 @@ use Rattle.lset_server.specs.declared.channel.Tally.{Tally}
 use Rattle.lset_server.specs.Tallies.{tally, weigh, one_at, times, numbers_below, ReceivedOnce}
 use Rattle.lset_server.specs.Serving.{followed, HasGathered}
 use Rattle.lset_server.specs.Workers.{HasWorked, HaveWorked}
-use Rattle.lset_server.proofs.Moves.{weigh-append}
+use Rattle.lset_server.proofs.BalanceKept.{weigh-append}
 
 -- ---- one worker
 

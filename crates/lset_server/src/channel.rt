@@ -13,32 +13,32 @@ use std::sync::Wait;
 
 /// The parts of the right to know the whole channel: one for each worker, of which there are no more than threads of a set,
 /// and one for the sender.
-pub const PARTS: u64 = MOST_THREADS as u64 + 1;
+pub(crate) const PARTS: u64 = MOST_THREADS as u64 + 1;
 
 /// A connection, under the number at which it was accepted, counted from 0.
 #[derive(Drop)]
-pub struct Connection<S> {
+pub(crate) struct Connection<S> {
     pub number: u64,
     pub stream: S,
 }
 
 /// What goes through the channel: a connection, or the word that no more come.
 #[derive(Drop)]
-pub enum Message<S> {
+pub(crate) enum Message<S> {
     Connection(Connection<S>),
     Close,
 }
 
 /// What contracts see of a pass: the numbers of the connections that were sent and received by it, and how many parts of
 /// the right to know the whole it has. No value of it is made.
-pub struct Tally {
+pub(crate) struct Tally {
     pub parts: u64,
     pub sent: LinkedList<u64>,
     pub received: LinkedList<u64>,
 }
 
 /// The rule of the channel: what was sent was received or stands in the queue.
-pub struct NothingLost;
+pub(crate) struct NothingLost;
 
 impl<S> Protocol<Message<S>, Tally> for NothingLost {
     ghost use Rattle.std.specs.Prelude.{[]};
@@ -51,7 +51,7 @@ impl<S> Protocol<Message<S>, Tally> for NothingLost {
 }
 
 /// A part is cut off a pass, or a pass is joined to another.
-pub struct Parting;
+pub(crate) struct Parting;
 
 impl Split<Tally> for Parting {
     ghost use Rattle.std.specs.Prelude.{◌-◌, []};
@@ -72,7 +72,7 @@ impl Join<Tally> for Parting {
 }
 
 /// A message is sent.
-pub struct Sending;
+pub(crate) struct Sending;
 
 impl<S> Outcome<Message<S>, Tally> for Sending {
     ghost then = { λ v x w. w ≡ tally v.parts (v.sent ++ number_of x) v.received };
@@ -83,7 +83,7 @@ impl<S> Lesson<Message<S>, Tally> for Sending {
 }
 
 /// A message is received.
-pub struct Receiving;
+pub(crate) struct Receiving;
 
 impl<S> Outcome<Message<S>, Tally> for Receiving {
     ghost then = { λ v x w. w ≡ tally v.parts v.sent (v.received ++ number_of x) };
@@ -94,7 +94,7 @@ impl<S> Lesson<Message<S>, Tally> for Receiving {
 }
 
 /// What the pass with all parts knows of the queue.
-pub struct Balanced;
+pub(crate) struct Balanced;
 
 impl<S> Lesson<Message<S>, Tally> for Balanced {
     ghost use Rattle.std.specs.Prelude.{◌≡◌, ◌+◌, ℕ};
@@ -103,12 +103,12 @@ impl<S> Lesson<Message<S>, Tally> for Balanced {
     ghost fact = { λ v items. (h : ℕ → ℕ) → weigh h v.sent ≡ weigh h v.received + weigh h (numbers items) };
 }
 
-pub type Sender<S> = RuledSender<Message<S>, Tally, NothingLost>;
+pub(crate) type Sender<S> = RuledSender<Message<S>, Tally, NothingLost>;
 
-pub type Receiver<S> = RuledReceiver<Message<S>, Tally, NothingLost>;
+pub(crate) type Receiver<S> = RuledReceiver<Message<S>, Tally, NothingLost>;
 
 /// A token of no bytes that lets its holder send, or receive.
-pub type Token<S> = Pass<Message<S>, Tally>;
+pub(crate) type Token<S> = Pass<Message<S>, Tally>;
 
 /// Sends a message, and waits while the channel is full.
 pub fn send<S: Drop, R: Wait>(
@@ -144,7 +144,7 @@ pub fn receive<S: Drop, R: Wait>(
 }
 
 /// A pass of its own for a receiver.
-pub fn cut_part<S: Drop>(to: &Sender<S>, pass: &mut Token<S>) -> Token<S>
+pub(crate) fn cut_part<S: Drop>(to: &Sender<S>, pass: &mut Token<S>) -> Token<S>
     requires channel { IsSeatAt (sends_on to.now) pass.old }
     requires parts { 1 < (view pass.old).parts }
     ensures channel { IsSeatAt (sends_on to.now) pass.new × IsSeatAt (sends_on to.now) result }
@@ -155,7 +155,7 @@ pub fn cut_part<S: Drop>(to: &Sender<S>, pass: &mut Token<S>) -> Token<S>
 }
 
 /// Takes a receiver's pass back.
-pub fn take_back<S: Drop>(to: &Sender<S>, pass: &mut Token<S>, other: Token<S>)
+pub(crate) fn take_back<S: Drop>(to: &Sender<S>, pass: &mut Token<S>, other: Token<S>)
     requires channel { IsSeatAt (sends_on to.now) pass.old × IsSeatAt (sends_on to.now) other }
     requires part { 0 < (view pass.old).parts }
     ensures channel { IsSeatAt (sends_on to.now) pass.new }
@@ -166,7 +166,7 @@ pub fn take_back<S: Drop>(to: &Sender<S>, pass: &mut Token<S>, other: Token<S>)
 }
 
 /// With all parts back: what was sent is what was received and what is left in the queue.
-pub fn balance<S: Drop>(to: &Sender<S>, pass: &mut Token<S>)
+pub(crate) fn balance<S: Drop>(to: &Sender<S>, pass: &mut Token<S>)
     requires channel { IsSeatAt (sends_on to.now) pass.old }
     requires all { (view pass.old).parts ≡ PARTS }
     ensures channel { IsSeatAt (sends_on to.now) pass.new × (view pass.new ≡ view pass.old) }

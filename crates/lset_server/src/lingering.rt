@@ -56,7 +56,7 @@ fn drop_rest<I: Source>(reader: &mut I)
 /// the client's bytes did, it tells the client that no more answers come, and then reads on to the end of the client's bytes,
 /// for a second and 1,048,576 bytes at most, so that the system has time to hand on the answers. Where the system refuses,
 /// the connection is let go at once.
-pub fn take_leave<R: Clock>(rt: &R, stream: &TcpStream, why: EndReason) {
+pub(crate) fn take_leave<R: Clock>(rt: &R, stream: &TcpStream, why: EndReason) {
     match why {
         EndReason::Quit | EndReason::Long | EndReason::Limit => {}
         EndReason::End | EndReason::ReadFault | EndReason::WriteFault => return,

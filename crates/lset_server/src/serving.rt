@@ -46,7 +46,7 @@ pub enum ServeCause {
     Left,
 }
 
-/// What was served: how many sessions were held and how many calls were made in them, and the keys that are left, rising.
+/// What was served: how many sessions were held and how many calls were made in them, and the keys that are left, in increasing order.
 #[derive(Drop)]
 pub struct Served {
     pub sessions: u64,
@@ -222,9 +222,9 @@ fn serve_all<R: Threads + Wait + Clock + Sync, M: Running + Send + Sync>(
 ///
 /// The cause of a `ServeFault`:
 ///
-/// - `Seats`: exactly where the seats do not hold all seats of the set. Nothing was accepted, and set and seats come back.
+/// - `Seats`: exactly if the seats do not hold all seats of the set. Nothing was accepted, and set and seats come back.
 /// - `Accept`, `Spawn`: the system refuses a connection or a thread.
-/// - `Send`: the channel gives a connection back.
+/// - `Send`: the channel returns a connection.
 /// - `Left`: the workers received fewer connections than were accepted.
 /// - `Memory`: it was refused.
 ///

@@ -24,9 +24,9 @@ use std::sync::Wait;
 use std::thread::{Promise, PromisedHandle, Scope, Threads};
 use std::time::Clock;
 
-/// What a worker gives back: its pass, its seat, and how many sessions it held and calls it made.
+/// What a worker returns: its pass, its seat, and how many sessions it held and calls it made.
 #[derive(Drop)]
-pub struct WorkerResult<M: Running> {
+pub(crate) struct WorkerResult<M: Running> {
     pub pass: Token<TcpStream>,
     pub seat: Seat<M>,
     pub sessions: u64,
@@ -35,7 +35,7 @@ pub struct WorkerResult<M: Running> {
 
 /// What a worker owes: the channel, the set and the seat that it was started with, and the most sessions that it may hold.
 #[derive(Drop)]
-pub struct WorkerPromise<M: Running> {
+pub(crate) struct WorkerPromise<M: Running> {
     pub from: Snapshot<Receiver<TcpStream>>,
     pub set: Snapshot<LiveSet<M>>,
     pub seat: Snapshot<Seat<M>>,
@@ -49,7 +49,7 @@ impl<M: Running> Promise<WorkerResult<M>> for WorkerPromise<M> {
 }
 
 /// A worker that was started.
-pub type Worker<M> = PromisedHandle<WorkerResult<M>, WorkerPromise<M>>;
+pub(crate) type Worker<M> = PromisedHandle<WorkerResult<M>, WorkerPromise<M>>;
 
 /// Waits for the next connection. `None` where no more come.
 fn next<R: Wait>(
@@ -124,7 +124,7 @@ fn work<R: Wait + Clock, M: Running>(
 
 /// What the workers did together, and the seat into which theirs were gathered.
 #[derive(Drop)]
-pub struct Gathered<M: Running> {
+pub(crate) struct Gathered<M: Running> {
     pub seat: Option<Seat<M>>,
     pub sessions: u64,
     pub calls: u64,
@@ -133,7 +133,7 @@ pub struct Gathered<M: Running> {
 /// A pool of workers: the set on whose seats they work, both ends of the channel by which connections come to them, and how
 /// many come.
 #[derive(Drop)]
-pub struct Pool<'s, R, M: Running> {
+pub(crate) struct Pool<'s, R, M: Running> {
     pub rt: &'s R,
     pub set: &'s LiveSet<M>,
     pub to: Sender<TcpStream>,

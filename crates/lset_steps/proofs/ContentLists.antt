@@ -1,25 +1,25 @@
--- The chain and the content as lists: the chain reaches the tail, and the keys of its unmarked user nodes rise and are the
+-- The chain and the content as lists: the chain reaches the tail, and the keys of its unmarked user nodes increase and are the
 -- content.
 use Rattle.std.proofs.Common.{◌≡◌, ◌≢◌, ℕ, zero, suc, ◌+◌, ◌-◌, ◌/◌, ◌%◌, ◌<◌, ◌≤◌, true, false, inl, inr, List, [], ◌∷◌, sym}
 use Rattle.std.proofs.Common.{refl, ap, subst, ◌∙◌, arith, rules}
 use Rattle.std.specs.Prelude.{Contains, nat_lt, nat_eq, ◌&&◌}
 use Rattle.std.proofs.lemmas.Bool.{cases_Bool}
 use Rattle.lset_words.proofs.Numbers.{same_or_not}
-use Rattle.lset_words.proofs.RisingLists.{contains-cons, contains-head, contains-tail, contains-nil, RisesFrom, rises_less}
+use Rattle.lset_words.proofs.IncreasingLists.{contains-cons, contains-head, contains-tail, contains-nil, IncreasesFrom, increases_less}
 use Rattle.lset_steps.specs.Chain.{View, Segment, InChain, IsChain, InContent, IsOrdered}
 use Rattle.lset_steps.specs.Worlds.{keys_in}
-use Rattle.lset_steps.proofs.Segments.{segment_rises}
+use Rattle.lset_steps.proofs.Segments.{segment_increases}
 
 -- The chain reaches the tail.
 reaches-by : (v : View) → IsOrdered v → (d i : ℕ) → v.published i → v.key 1 ≤ v.key i + d → (ns : List ℕ) × Segment v i ns 1
 reaches-by v ord zero i m le = elim (same_or_not i 1) [
   | inl e ↦ ([], e)
-  | inr n ↦ absurd (let a : v.key i < v.key (v.link i / 2) = ord.rises i m n in
+  | inr n ↦ absurd (let a : v.key i < v.key (v.link i / 2) = ord.increases i m n in
       let b : v.key (v.link i / 2) ≤ v.key 1 = ord.top (v.link i / 2) (ord.next_published i m n) in omega arith)
 ]
 reaches-by v ord (suc d) i m le = elim (same_or_not i 1) [
   | inl e ↦ ([], e)
-  | inr n ↦ (let a : v.key i < v.key (v.link i / 2) = ord.rises i m n in
+  | inr n ↦ (let a : v.key i < v.key (v.link i / 2) = ord.increases i m n in
       let r : (ns : List ℕ) × Segment v (v.link i / 2) ns 1 =
       reaches-by v ord d (v.link i / 2) (ord.next_published i m n) (omega arith) in
       (i ∷ r.0, (refl, n, r.1)))
@@ -103,9 +103,9 @@ user_key v ord b ib u = at ib.0 ib.1
   where
     at : (ns : List ℕ) → Segment v 0 ns b → 0 < v.key b
     at [] s = absurd (let e : 0 ≡ b = s in omega arith)
-    at (a ∷ ns) s = let h : v.key 0 < v.key (v.link 0 / 2) = ord.rises 0 ord.head_published s.1 in
+    at (a ∷ ns) s = let h : v.key 0 < v.key (v.link 0 / 2) = ord.increases 0 ord.head_published s.1 in
         let r : v.key (v.link 0 / 2) ≤ v.key b =
-        segment_rises v ord (v.link 0 / 2) b ns (ord.next_published 0 ord.head_published s.1) s.2 in
+        segment_increases v ord (v.link 0 / 2) b ns (ord.next_published 0 ord.head_published s.1) s.2 in
         omega arith
 
 -- THE LIST IS THE CONTENT
@@ -122,27 +122,27 @@ content_from v ord ns k s c =
     let e : v.key r.0 - 1 ≡ k = r.4 in
     (r.0, ib, r.2, omega arith, r.3)
 
--- AND RISES
-keys_rise : (v : View) → IsOrdered v → (i j lo : ℕ) (ns : List ℕ) → v.published i → Segment v i ns j
-    → lo + 1 ≤ v.key i → RisesFrom lo (keys_in v ns)
-keys_rise v ord i j lo [] m s l = tt
-keys_rise v ord i j lo (a ∷ ns) m s l =
-    let h : v.key i < v.key (v.link i / 2) = ord.rises i m s.1 in
+-- AND INCREASES
+keys_increase : (v : View) → IsOrdered v → (i j lo : ℕ) (ns : List ℕ) → v.published i → Segment v i ns j
+    → lo + 1 ≤ v.key i → IncreasesFrom lo (keys_in v ns)
+keys_increase v ord i j lo [] m s l = tt
+keys_increase v ord i j lo (a ∷ ns) m s l =
+    let h : v.key i < v.key (v.link i / 2) = ord.increases i m s.1 in
     let ka : v.key a ≡ v.key i = ap v.key s.0 in
-    let r : RisesFrom (v.key a - 1 + 1) (keys_in v ns) =
-    keys_rise v ord (v.link i / 2) j (v.key a - 1 + 1) ns (ord.next_published i m s.1) s.2 (omega arith) in
+    let r : IncreasesFrom (v.key a - 1 + 1) (keys_in v ns) =
+    keys_increase v ord (v.link i / 2) j (v.key a - 1 + 1) ns (ord.next_published i m s.1) s.2 (omega arith) in
     elim (cases_Bool (nat_lt 1 a && nat_eq (v.link a % 2) 0)) [
-      | inl t ↦ subst (RisesFrom lo) (sym (keys-yes v a ns t)) (omega arith, r)
-      | inr t ↦ subst (RisesFrom lo) (sym (keys-no v a ns t)) (rises_less lo (v.key a - 1 + 1) (keys_in v ns) (omega arith) r)
+      | inl t ↦ subst (IncreasesFrom lo) (sym (keys-yes v a ns t)) (omega arith, r)
+      | inr t ↦ subst (IncreasesFrom lo) (sym (keys-no v a ns t)) (increases_less lo (v.key a - 1 + 1) (keys_in v ns) (omega arith) r)
     ]
 
-pub content_rises : (v : View) → IsOrdered v → (ns : List ℕ) → IsChain v ns → RisesFrom 0 (keys_in v ns)
-content_rises v ord [] s = tt
-content_rises v ord (a ∷ ns) s =
-    let h : v.key 0 < v.key (v.link 0 / 2) = ord.rises 0 ord.head_published s.1 in
-    let r : RisesFrom 0 (keys_in v ns) =
-    keys_rise v ord (v.link 0 / 2) 1 0 ns (ord.next_published 0 ord.head_published s.1) s.2 (omega arith) in
+pub content_increases : (v : View) → IsOrdered v → (ns : List ℕ) → IsChain v ns → IncreasesFrom 0 (keys_in v ns)
+content_increases v ord [] s = tt
+content_increases v ord (a ∷ ns) s =
+    let h : v.key 0 < v.key (v.link 0 / 2) = ord.increases 0 ord.head_published s.1 in
+    let r : IncreasesFrom 0 (keys_in v ns) =
+    keys_increase v ord (v.link 0 / 2) 1 0 ns (ord.next_published 0 ord.head_published s.1) s.2 (omega arith) in
     elim (cases_Bool (nat_lt 1 a && nat_eq (v.link a % 2) 0)) [
       | inl t ↦ absurd (let u : 1 < a = (kept-no v a t).0 in let e : a ≡ 0 = s.0 in omega arith)
-      | inr t ↦ subst (RisesFrom 0) (sym (keys-no v a ns t)) r
+      | inr t ↦ subst (IncreasesFrom 0) (sym (keys-no v a ns t)) r
     ]

@@ -192,7 +192,7 @@ module _ {marks : Bool} {sz : Sizes} {ws : List ℕ} {used : ℕ → ℕ} (m : M
 
   pub curr_is_not_pred : {key pred curr : ℕ} → Behind (view sz ws used) t key pred curr → curr ≢ pred
   curr_is_not_pred {key} {pred} {curr} b e =
-      let rises : node_key ws pred < node_key ws (node_link ws pred / 2) = m.ordered.rises pred b.held.published b.inner in
+      let increases : node_key ws pred < node_key ws (node_link ws pred / 2) = m.ordered.increases pred b.held.published b.inner in
       let follows : node_link ws pred ≡ 2 * curr = b.follows in
       let half : node_link ws pred / 2 ≡ pred = omega arith in
       let same : node_key ws (node_link ws pred / 2) ≡ node_key ws pred = ap (node_key ws) half in

@@ -55,10 +55,10 @@ insert-ordered v w ord pred own k q = record {
         subst (λ x. w.published (w.link x / 2)) (sym e)
         (subst (λ x. w.published x) (sym f.own_next) (q.grows curr f.curr_published))
   ];
-  rises = λ i m n. elim (q.published_from i m) [
-    | inl o ↦ old_rises i o n (cases i)
+  increases = λ i m n. elim (q.published_from i m) [
+    | inl o ↦ old_increases i o n (cases i)
     | inr e ↦
-        subst (λ x. w.key x < w.key (w.link x / 2)) (sym e) own_rises
+        subst (λ x. w.key x < w.key (w.link x / 2)) (sym e) own_increases
   ];
 }
   where
@@ -86,19 +86,19 @@ insert-ordered v w ord pred own k q = record {
       | inr d ↦ subst (λ x. w.published (x / 2)) (sym (q.links i o d)) (q.grows (v.link i / 2) (ord.next_published i o n))
     ]
 
-    own_rises : w.key own < w.key (w.link own / 2)
-    own_rises = let g : Facts v w pred own (v.link pred / 2) k = f in
+    own_increases : w.key own < w.key (w.link own / 2)
+    own_increases = let g : Facts v w pred own (v.link pred / 2) k = f in
         let e : w.key (w.link own / 2) ≡ w.key (v.link pred / 2) = ap w.key f.own_next in omega arith
 
-    old_rises : (i : ℕ) → v.published i → i ≢ 1 → (i ≡ pred) ⊎ (i ≢ pred) → w.key i < w.key (w.link i / 2)
-    old_rises i o n (inl e) = subst (λ x. w.key x < w.key (w.link x / 2)) (sym e)
+    old_increases : (i : ℕ) → v.published i → i ≢ 1 → (i ≡ pred) ⊎ (i ≢ pred) → w.key i < w.key (w.link i / 2)
+    old_increases i o n (inl e) = subst (λ x. w.key x < w.key (w.link x / 2)) (sym e)
         (let h : Facts v w pred own (v.link pred / 2) k = f in
         let g : w.key (w.link pred / 2) ≡ w.key own = ap w.key f.own_is in omega arith)
-    old_rises i o n (inr d) =
+    old_increases i o n (inr d) =
         let a : w.key i ≡ v.key i = q.keys i o in
         let b : w.key (v.link i / 2) ≡ v.key (v.link i / 2) = q.keys (v.link i / 2) (ord.next_published i o n) in
         let e : w.key (w.link i / 2) ≡ w.key (v.link i / 2) = ap (λ x. w.key (x / 2)) (q.links i o d) in
-        let c : v.key i < v.key (v.link i / 2) = ord.rises i o n in omega arith
+        let c : v.key i < v.key (v.link i / 2) = ord.increases i o n in omega arith
 
 -- pred stays in the chain
 pub insert_pred : (v w : View) → IsOrdered v → (pred own k : ℕ) → Inserts v w pred own k → InChain w pred

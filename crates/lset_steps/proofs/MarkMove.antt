@@ -24,11 +24,11 @@ mark-ordered v w ord b k q = record {
       let c : v.key i ≤ v.key 1 = ord.top i m' in omega arith;
   next_published = λ i m n. let m' : v.published i = q.published_from i m in
       q.grows (w.link i / 2) (subst (λ x. v.published x) (sym (mark_next v w b k q i m')) (ord.next_published i m' n));
-  rises = λ i m n. let m' : v.published i = q.published_from i m in
+  increases = λ i m n. let m' : v.published i = q.published_from i m in
       let a : w.key i ≡ v.key i = q.keys i m' in
       let kk : w.key (v.link i / 2) ≡ v.key (v.link i / 2) = q.keys (v.link i / 2) (ord.next_published i m' n) in
       let e : w.key (w.link i / 2) ≡ w.key (v.link i / 2) = ap w.key (mark_next v w b k q i m') in
-      let c : v.key i < v.key (v.link i / 2) = ord.rises i m' n in omega arith;
+      let c : v.key i < v.key (v.link i / 2) = ord.increases i m' n in omega arith;
 }
 
 pub mark_keeps : (v w : View) → IsOrdered v → (b k : ℕ) → Marks v w b k → (a : ℕ) → InChain v a → InChain w a

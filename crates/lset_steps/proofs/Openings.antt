@@ -204,7 +204,7 @@ module _ (op : Opening) (o : Opens op) where
         key_more (suc i) l in
         let g : suc i ≡ i + 1 = omega arith in
         let u : slice_index op.keys i < slice_index op.keys (suc i) =
-        subst (λ j. slice_index op.keys i < slice_index op.keys j) (sym g) (o.rising i (omega arith)) in omega arith)
+        subst (λ j. slice_index op.keys i < slice_index op.keys j) (sym g) (o.increasing i (omega arith)) in omega arith)
     | inr l ↦ (let e : node_key (opening op).words (opening_next (sizes op) (suc i)) ≡ tail_word = key_last (suc i) l in
         let u : slice_index op.keys i < 2 ^ 32 = low i h in omega arith)
   ])
@@ -227,7 +227,7 @@ module _ (op : Opening) (o : Opens op) where
             (subst (Published (sizes op) (used_in (opening op))) (sym (half_opening op p.0 p.1)) (shown_next op (suc p.0)))
       ]
     ];
-    rises = λ a m d. elim (one_of op a m) [
+    increases = λ a m d. elim (one_of op a m) [
       | inl e ↦ subst (λ x. node_key (opening op).words x < node_key (opening op).words (node_link (opening op).words x / 2))
           (sym e)
           above_head

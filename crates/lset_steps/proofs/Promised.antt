@@ -17,7 +17,7 @@ use Rattle.lset_steps.specs.Laws.{Lawful, StateLaws, StepAt, word_named, views}
 use Rattle.lset_steps.specs.Worlds.{keys_in}
 use Rattle.lset_steps.proofs.MoreEvents.{state_agree}
 use Rattle.lset_words.proofs.Numbers.{if_same, if_other}
-use Rattle.lset_words.proofs.RisingLists.{RisesFrom, rises_less, increasing_from_rises}
+use Rattle.lset_words.proofs.IncreasingLists.{IncreasesFrom, increases_less, increasing_from_increases}
 use Rattle.lset_steps.proofs.ContentLists.{chain_is}
 use Rattle.lset_steps.proofs.RunContents.{ContentList, content_at}
 use Rattle.lset_steps.proofs.RunAccount.{account_of}
@@ -71,21 +71,21 @@ module _ (T : Table) (law : Lawful T) (op : Opening) (last k t : ℕ) (es : ℕ 
 pub in_range_of : (T : Table) → Lawful T → InRange T
 in_range_of T law op last k t es r l below = thread_in_range T law op last k t es r l below
 
-chain_rises : (v : View) → IsOrdered v → (i : ℕ) (ns : List ℕ) → v.published i → Segment v i ns 1
-    → RisesFrom (v.key i) (map v.key (ns ++ 1 ∷ []))
-chain_rises v ord i [] m s = let e : v.key i ≡ v.key 1 = ap v.key s in (omega arith, tt)
-chain_rises v ord i (a ∷ ns) m s =
+chain_increases : (v : View) → IsOrdered v → (i : ℕ) (ns : List ℕ) → v.published i → Segment v i ns 1
+    → IncreasesFrom (v.key i) (map v.key (ns ++ 1 ∷ []))
+chain_increases v ord i [] m s = let e : v.key i ≡ v.key 1 = ap v.key s in (omega arith, tt)
+chain_increases v ord i (a ∷ ns) m s =
     let e : v.key a ≡ v.key i = ap v.key s.0 in
-    let up : v.key i < v.key (v.link i / 2) = ord.rises i m s.1 in
-    let rest : RisesFrom (v.key (v.link i / 2)) (map v.key (ns ++ 1 ∷ [])) =
-    chain_rises v ord (v.link i / 2) ns (ord.next_published i m s.1) s.2 in
-    (omega arith, rises_less (v.key a + 1) (v.key (v.link i / 2)) (map v.key (ns ++ 1 ∷ [])) (omega arith) rest)
+    let up : v.key i < v.key (v.link i / 2) = ord.increases i m s.1 in
+    let rest : IncreasesFrom (v.key (v.link i / 2)) (map v.key (ns ++ 1 ∷ [])) =
+    chain_increases v ord (v.link i / 2) ns (ord.next_published i m s.1) s.2 in
+    (omega arith, increases_less (v.key a + 1) (v.key (v.link i / 2)) (map v.key (ns ++ 1 ∷ [])) (omega arith) rest)
 
 sorted_of : (v : View) → IsOrdered v → (c : (ns : List ℕ) × IsChain v ns) → ChainIsSorted v
 sorted_of v ord c = record {
   nodes = c.0;
   chain = c.1;
-  rising = λ k l. increasing_from_rises (v.key 0) (map v.key (c.0 ++ 1 ∷ [])) (chain_rises v ord 0 c.0 ord.head_published c.1) k
+  increasing = λ k l. increasing_from_increases (v.key 0) (map v.key (c.0 ++ 1 ∷ [])) (chain_increases v ord 0 c.0 ord.head_published c.1) k
       l;
 }
 
@@ -153,7 +153,7 @@ true_means_change_of T law op last k t es change r l e =
 listed : (v : View) → ContentList v → ContentIsListed v
 listed v c = record {
   keys = keys_in v c.nodes;
-  rising = ((c.nodes, c.chain, refl), λ k l. increasing_from_rises 0 (keys_in v c.nodes) c.rises k l);
+  increasing = ((c.nodes, c.chain, refl), λ k l. increasing_from_increases 0 (keys_in v c.nodes) c.increases k l);
   member = c.have;
   only = c.from;
   low = c.low;

@@ -54,11 +54,11 @@ quiet-ordered v w ord q = record {
       let c : v.key i ≤ v.key 1 = ord.top i m' in omega arith;
   next_published = λ i m n. let m' : v.published i = q.published_from i m in
       q.grows (w.link i / 2) (subst (λ x. v.published (x / 2)) (sym (q.links i m')) (ord.next_published i m' n));
-  rises = λ i m n. let m' : v.published i = q.published_from i m in
+  increases = λ i m n. let m' : v.published i = q.published_from i m in
       let a : w.key i ≡ v.key i = q.keys i m' in
       let b : w.key (v.link i / 2) ≡ v.key (v.link i / 2) = q.keys (v.link i / 2) (ord.next_published i m' n) in
       let e : w.key (w.link i / 2) ≡ w.key (v.link i / 2) = ap (λ x. w.key (x / 2)) (q.links i m') in
-      let c : v.key i < v.key (v.link i / 2) = ord.rises i m' n in omega arith;
+      let c : v.key i < v.key (v.link i / 2) = ord.increases i m' n in omega arith;
 }
 
 pub quiet-goes : (v w : View) → IsOrdered v → Quiet v w → KeepsNodes v w

@@ -1,4 +1,4 @@
--- That a contains is bounded: the keys that it reads rise, so no node is met twice, and there are only so many nodes.
+-- That a contains is bounded: the keys that it reads increase, so no node is met twice, and there are only so many nodes.
 use Rattle.std.specs.Prelude.{◌≡◌, ◌≢◌, ℕ, ◌+◌, ◌*◌, ◌/◌, ◌%◌, ◌<◌, ◌≤◌, ◌⊎◌, Bool, true, false, if◌then◌else◌, ◌==◌, slice_set}
 use Rattle.std.specs.Prelude.{slice_index_or, length, refl}
 use Rattle.std.proofs.Common.{arith, inl, inr, sym, ◌∙◌, ap, subst, zero, suc, get_or-set_other, get_or-set_same}
@@ -223,7 +223,7 @@ module _ (T : Table) (law : Lawful T) (rows : HasReadRows T) (op : Opening) wher
         rows.feeds L (seen_next T s t) (inl e) ∙ (rw e refl) in
         let user : L.curr ≢ 1 = not_tail lt in
         let half : seen_next T s t / 2 ≡ V.link L.curr / 2 = ap (λ x. x / 2) seen in
-        let rises : V.key L.curr < V.key (V.link L.curr / 2) = o.ordered.rises L.curr p user in
+        let increases : V.key L.curr < V.key (V.link L.curr / 2) = o.ordered.increases L.curr p user in
         let next : V.key (seen_next T s t / 2) ≡ V.key (V.link L.curr / 2) = ap V.key half in
         goes_to (continued (record L { pc = 21; curr = seen_next T s t / 2 })) feeds
         (before_key refl (subst (λ x. V.published x) (sym half) (o.ordered.next_published L.curr p user)) met

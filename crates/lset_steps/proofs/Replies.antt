@@ -82,7 +82,7 @@ ceiling_fits q t v p c k ord head tail i d below is above unmarked = elim (below
         let user : 1 < h.0 = h.2 in
         let here : v.key h.0 ≡ j + 1 = h.3 in
         let published : v.published h.0 = in_chain_published v ord h.0 h.1 in
-        let rises : v.key h.0 < v.key (v.link h.0 / 2) = ord.rises h.0 published (omega arith) in
+        let increases : v.key h.0 < v.key (v.link h.0 / 2) = ord.increases h.0 published (omega arith) in
         let top : v.key (v.link h.0 / 2) ≤ v.key 1 = ord.top (v.link h.0 / 2) (ord.next_published h.0 published (omega arith)) in
         omega arith
 
@@ -108,7 +108,7 @@ pub registers_begun : (sz : Sizes) (t pc : ℕ) (call : Call) (l : Local) → ta
     → Registers sz t (begun pc call l)
 registers_begun sz t pc call l low r =
     let inside : 0 < node_count sz = omega arith in
-    let least : 0 ≤ tail_word = omega arith in
+    let smallest : 0 ≤ tail_word = omega arith in
     assumption
 
 -- a successful add counts one more slot

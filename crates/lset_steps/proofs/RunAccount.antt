@@ -187,7 +187,7 @@ module _ (T : Table) (law : Lawful T) (op : Opening) (es : ℕ → Event) (last 
 
   pub account_of : Account op last (log_of T op es) (contents_at T op es) (counts_at T op es)
   account_of = record {
-    rising = r.opens.rising;
+    increasing = r.opens.increasing;
     opens = content_opens op r.opens;
     none_yet = opened;
     enters = λ k l. enters_at k l (es k) refl (r.enabled k l);

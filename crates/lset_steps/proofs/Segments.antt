@@ -1,4 +1,4 @@
--- Segments of the chain: they join, their keys rise, and two nodes of the chain with one key are one node.
+-- Segments of the chain: they join, their keys increase, and two nodes of the chain with one key are one node.
 use Rattle.std.proofs.Common.{◌≡◌, ◌≢◌, ℕ, ◌/◌, ◌<◌, ◌≤◌, ◌⊎◌, inl, inr, List, [], ◌∷◌, ◌++◌, sym, refl, ap, subst, arith}
 use Rattle.lset_steps.specs.Chain.{View, Segment, InChain, IsOrdered}
 
@@ -10,11 +10,11 @@ pub segment_published : (v : View) → IsOrdered v → (i j : ℕ) (ns : List �
 segment_published v ord i j [] m s = subst (λ x. v.published x) s m
 segment_published v ord i j (a ∷ ns) m s = segment_published v ord (v.link i / 2) j ns (ord.next_published i m s.1) s.2
 
-pub segment_rises : (v : View) → IsOrdered v → (i j : ℕ) (ns : List ℕ) → v.published i → Segment v i ns j → v.key i ≤ v.key j
-segment_rises v ord i j [] m s = let e : v.key i ≡ v.key j = ap v.key s in omega arith
-segment_rises v ord i j (a ∷ ns) m s =
-    let h : v.key i < v.key (v.link i / 2) = ord.rises i m s.1 in
-    let r : v.key (v.link i / 2) ≤ v.key j = segment_rises v ord (v.link i / 2) j ns (ord.next_published i m s.1) s.2 in
+pub segment_increases : (v : View) → IsOrdered v → (i j : ℕ) (ns : List ℕ) → v.published i → Segment v i ns j → v.key i ≤ v.key j
+segment_increases v ord i j [] m s = let e : v.key i ≡ v.key j = ap v.key s in omega arith
+segment_increases v ord i j (a ∷ ns) m s =
+    let h : v.key i < v.key (v.link i / 2) = ord.increases i m s.1 in
+    let r : v.key (v.link i / 2) ≤ v.key j = segment_increases v ord (v.link i / 2) j ns (ord.next_published i m s.1) s.2 in
     omega arith
 
 pub segment_same : (v w : View) → IsOrdered v → (i j lo : ℕ) (ns : List ℕ)
@@ -23,8 +23,8 @@ pub segment_same : (v w : View) → IsOrdered v → (i j lo : ℕ) (ns : List �
 segment_same v w ord i j lo [] agree m l s = s
 segment_same v w ord i j lo (a ∷ ns) agree m l s =
     let m' : v.published (v.link i / 2) = ord.next_published i m s.1 in
-    let h : v.key i < v.key (v.link i / 2) = ord.rises i m s.1 in
-    let r : v.key (v.link i / 2) ≤ v.key j = segment_rises v ord (v.link i / 2) j ns m' s.2 in
+    let h : v.key i < v.key (v.link i / 2) = ord.increases i m s.1 in
+    let r : v.key (v.link i / 2) ≤ v.key j = segment_increases v ord (v.link i / 2) j ns m' s.2 in
     let e : w.link i / 2 ≡ v.link i / 2 = agree i m l (omega arith) in (
       s.0,
       s.1,
@@ -43,7 +43,7 @@ pub sides : (v : View) → IsOrdered v → (p b : ℕ) → InChain v p → InCha
     → (v.key b ≤ v.key p) ⊎ ((cs : List ℕ) × Segment v (v.link p / 2) cs b)
 sides v ord p b ip ib = elim (segment_meet v 0 p b ip.0 ib.0 ip.1 ib.1) [
   | inl c ↦ after c.0 c.1
-  | inr c ↦ inl (segment_rises v ord b p c.0 (segment_published v ord 0 b ib.0 ord.head_published ib.1) c.1)
+  | inr c ↦ inl (segment_increases v ord b p c.0 (segment_published v ord 0 b ib.0 ord.head_published ib.1) c.1)
 ]
   where
     after : (cs : List ℕ) → Segment v p cs b → (v.key b ≤ v.key p) ⊎ ((cs : List ℕ) × Segment v (v.link p / 2) cs b)
@@ -56,7 +56,7 @@ pub gap : (v : View) → IsOrdered v → (a c : ℕ) → InChain v a → InChain
 gap v ord a c ia ic na lo hi = elim (sides v ord a c ia ic) [
   | inl l ↦ omega arith
   | inr t ↦ let m : v.published a = segment_published v ord 0 a ia.0 ord.head_published ia.1 in
-      let r : v.key (v.link a / 2) ≤ v.key c = segment_rises v ord (v.link a / 2) c t.0 (ord.next_published a m na) t.1 in
+      let r : v.key (v.link a / 2) ≤ v.key c = segment_increases v ord (v.link a / 2) c t.0 (ord.next_published a m na) t.1 in
       omega arith
 ]
 
@@ -65,8 +65,8 @@ pub segment_strict : (v : View) → IsOrdered v → (i j : ℕ) (ns : List ℕ) 
     → v.key i ≡ v.key j → i ≡ j
 segment_strict v ord i j [] m s e = s
 segment_strict v ord i j (a ∷ ns) m s e =
-    let h : v.key i < v.key (v.link i / 2) = ord.rises i m s.1 in
-    let r : v.key (v.link i / 2) ≤ v.key j = segment_rises v ord (v.link i / 2) j ns (ord.next_published i m s.1) s.2 in
+    let h : v.key i < v.key (v.link i / 2) = ord.increases i m s.1 in
+    let r : v.key (v.link i / 2) ≤ v.key j = segment_increases v ord (v.link i / 2) j ns (ord.next_published i m s.1) s.2 in
     absurd (omega arith)
 
 pub one_key : (v : View) → IsOrdered v → (b c : ℕ) → InChain v b → InChain v c → v.key b ≡ v.key c → b ≡ c

@@ -3,7 +3,7 @@ use Rattle.std.proofs.Common.{◌≡◌, ◌≢◌, ℕ, ◌+◌, ◌*◌, ◌/�
 use Rattle.lset_words.proofs.Numbers.{same_or_not}
 use Rattle.lset_steps.specs.Chain.{View, Segment, InChain, InContent, IsOrdered}
 use Rattle.lset_steps.proofs.Moves.{Unlinks, KeepsNodes}
-use Rattle.lset_steps.proofs.Segments.{segment_rises, sides, one_key}
+use Rattle.lset_steps.proofs.Segments.{segment_increases, sides, one_key}
 use Rattle.lset_steps.proofs.QuietMove.{in_chain_published, chain_before, chain_on, segment_after, apart, apart'}
 
 -- the plain facts of an unlinking; s is the node after curr
@@ -36,8 +36,8 @@ facts v w ord pred curr q =
       pred_key = q.keys pred pm;
       curr_key = q.keys curr cm;
       s_key = q.keys (v.link curr / 2) sm;
-      low = subst (λ x. v.key pred < v.key x) q.is_next (ord.rises pred pm q.no_tail);
-      high = ord.rises curr cm q.curr_no_tail;
+      low = subst (λ x. v.key pred < v.key x) q.is_next (ord.increases pred pm q.no_tail);
+      high = ord.increases curr cm q.curr_no_tail;
     }
 
 pub unlink-ordered : (v w : View) → IsOrdered v → (pred curr : ℕ) → Unlinks v w pred curr → IsOrdered w
@@ -49,7 +49,7 @@ unlink-ordered v w ord pred curr q = record {
       let b : w.key 1 ≡ v.key 1 = q.keys 1 ord.tail_published in
       let c : v.key i ≤ v.key 1 = ord.top i m' in omega arith;
   next_published = λ i m n. next' i (q.published_from i m) n (same_or_not i pred);
-  rises = λ i m n. rises' i (q.published_from i m) n (same_or_not i pred);
+  increases = λ i m n. increases' i (q.published_from i m) n (same_or_not i pred);
 }
   where
     f : Facts v w pred curr (v.link curr / 2)
@@ -61,15 +61,15 @@ unlink-ordered v w ord pred curr q = record {
     next' i m n (inr d) = subst (λ x. w.published (x / 2)) (sym (q.links i m d))
         (q.grows (v.link i / 2) (ord.next_published i m n))
 
-    rises' : (i : ℕ) → v.published i → i ≢ 1 → (i ≡ pred) ⊎ (i ≢ pred) → w.key i < w.key (w.link i / 2)
-    rises' i m n (inl e) = subst (λ x. w.key x < w.key (w.link x / 2)) (sym e)
+    increases' : (i : ℕ) → v.published i → i ≢ 1 → (i ≡ pred) ⊎ (i ≢ pred) → w.key i < w.key (w.link i / 2)
+    increases' i m n (inl e) = subst (λ x. w.key x < w.key (w.link x / 2)) (sym e)
         (let h : Facts v w pred curr (v.link curr / 2) = f in
         let g : w.key (w.link pred / 2) ≡ w.key (v.link curr / 2) = ap w.key f.pred_next in omega arith)
-    rises' i m n (inr d) =
+    increases' i m n (inr d) =
         let a : w.key i ≡ v.key i = q.keys i m in
         let b : w.key (v.link i / 2) ≡ v.key (v.link i / 2) = q.keys (v.link i / 2) (ord.next_published i m n) in
         let e : w.key (w.link i / 2) ≡ w.key (v.link i / 2) = ap (λ x. w.key (x / 2)) (q.links i m d) in
-        let c : v.key i < v.key (v.link i / 2) = ord.rises i m n in omega arith
+        let c : v.key i < v.key (v.link i / 2) = ord.increases i m n in omega arith
 
 pub unlink_pred : (v w : View) → IsOrdered v → (pred curr : ℕ) → Unlinks v w pred curr → InChain w pred
 unlink_pred v w ord pred curr q =
@@ -113,7 +113,7 @@ unlink_back v w ord pred curr q b ib =
         λ e. let h : Facts v w pred curr (v.link curr / 2) = f in
             let g : w.key b ≡ w.key curr = ap w.key e in
             let r : w.key (v.link curr / 2) ≤ w.key b =
-            segment_rises w ws (v.link curr / 2) b t.0 (q.grows (v.link curr / 2) f.s_published) s in omega arith,
+            segment_increases w ws (v.link curr / 2) b t.0 (q.grows (v.link curr / 2) f.s_published) s in omega arith,
       ))
     ]
   where

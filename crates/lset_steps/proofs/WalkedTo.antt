@@ -6,11 +6,11 @@ use Rattle.std.specs.List.{cons_option}
 use Rattle.std.specs.List.Sorted.{IsStrictlyIncreasing}
 use Rattle.std.proofs.lemmas.Bool.{cases_Bool}
 use Rattle.std.proofs.lemmas.List.Elements.{filter_map-append}
-use Rattle.lset_words.proofs.RisingLists.{increasing_from_rises}
+use Rattle.lset_words.proofs.IncreasingLists.{increasing_from_increases}
 use Rattle.lset_steps.specs.declared.world.ChainKey.{ChainKey}
 use Rattle.lset_steps.specs.Chain.{View, Segment, IsChain, IsOrdered}
 use Rattle.lset_steps.specs.Worlds.{keys_in, IsContent, chain_keys, AreChainKeys, unmarked_keys, AnswersAs, IsPickedFromChain}
-use Rattle.lset_steps.proofs.ContentLists.{content_rises}
+use Rattle.lset_steps.proofs.ContentLists.{content_increases}
 use Rattle.lset_steps.proofs.Segments.{segment-append}
 use Rattle.lset_steps.proofs.QuietMove.{not_one}
 
@@ -32,7 +32,7 @@ module _ {A : Type 0} (answers : ChainKey → Option A → Type 0) (v : View) (o
   pub none_picked : v.key 0 < v.key 1 → HasPicked answers v [] (v.link 0 / 2)
   none_picked top =
       let n = not_one v ord 0 1 ord.tail_published top in
-      let h : v.key 0 < v.key (v.link 0 / 2) = ord.rises 0 ord.head_published n in
+      let h : v.key 0 < v.key (v.link 0 / 2) = ord.increases 0 ord.head_published n in
       let up : 0 < v.key (v.link 0 / 2) = omega (arith, h) in
       record {
         nodes = 0 ∷ [];
@@ -47,7 +47,7 @@ module _ {A : Type 0} (answers : ChainKey → Option A → Type 0) (v : View) (o
       → ((pick : ChainKey → Option A) → AnswersAs answers pick → filter_map pick (chain_keys v (curr ∷ [])) ≡ more)
       → HasPicked answers v items curr → HasPicked answers v (items ++ more) next
   goes items more curr next n e here w =
-      let h : v.key curr < v.key (v.link curr / 2) = ord.rises curr w.published n in
+      let h : v.key curr < v.key (v.link curr / 2) = ord.increases curr w.published n in
       subst (HasPicked answers v (items ++ more)) (sym e) (record {
         nodes = w.nodes ++ (curr ∷ []);
         seg = segment-append v 0 curr (v.link curr / 2) w.nodes (curr ∷ []) w.seg (refl, n, refl);
@@ -79,7 +79,7 @@ module _ {A : Type 0} (answers : ChainKey → Option A → Type 0) (v : View) (o
   pub falls : (items : List A) (curr next : ℕ) → curr ≢ 1 → next ≡ v.link curr / 2 → HasPicked answers v items curr
       → v.key 1 - v.key next < v.key 1 - v.key curr
   falls items curr next n e w =
-      let h : v.key curr < v.key (v.link curr / 2) = ord.rises curr w.published n in
+      let h : v.key curr < v.key (v.link curr / 2) = ord.increases curr w.published n in
       let t : v.key (v.link curr / 2) ≤ v.key 1 = ord.top (v.link curr / 2) (ord.next_published curr w.published n) in
       let f : v.key next ≡ v.key (v.link curr / 2) = ap v.key e in
       omega arith
@@ -88,7 +88,7 @@ module _ {A : Type 0} (answers : ChainKey → Option A → Type 0) (v : View) (o
   pub fits : (items : List A) (curr : ℕ) → v.key 1 ≡ 4294967297 → curr ≢ 1 → HasPicked answers v items curr
       → v.key curr - 1 < 4294967296
   fits items curr tail n w =
-      let h : v.key curr < v.key (v.link curr / 2) = ord.rises curr w.published n in
+      let h : v.key curr < v.key (v.link curr / 2) = ord.increases curr w.published n in
       let t : v.key (v.link curr / 2) ≤ v.key 1 = ord.top (v.link curr / 2) (ord.next_published curr w.published n) in
       omega arith
 
@@ -99,7 +99,7 @@ module _ {A : Type 0} (answers : ChainKey → Option A → Type 0) (v : View) (o
       record {
         nodes = w.nodes;
         is_chain = chain;
-        rising = increasing_from_rises 0 (keys_in v w.nodes) (content_rises v ord w.nodes chain);
+        increasing = increasing_from_increases 0 (keys_in v w.nodes) (content_increases v ord w.nodes chain);
         picked = w.picked;
       }
 
@@ -136,7 +136,7 @@ pub content_picked : (answers : ChainKey → Option ℕ → Type 0) (v : View) (
 content_picked answers v items same w =
     let keys : items ≡ keys_in v w.nodes = w.picked unmarked_key same
     ∙ unmarked_picked (chain_keys v w.nodes) ∙ sym (unmarked v w.nodes) in
-    ((w.nodes, w.is_chain, keys), subst IsStrictlyIncreasing (sym keys) w.rising)
+    ((w.nodes, w.is_chain, keys), subst IsStrictlyIncreasing (sym keys) w.increasing)
 
 -- THE WHOLE CHAIN: where each key is picked
 picked_whole : (keys : List ChainKey) → filter_map (λ met. Some met) keys ≡ keys
@@ -154,7 +154,7 @@ module _ (answers : ChainKey → Option ChainKey → Type 0) (v : View) (items :
   pub content_of_chain : IsContent v (unmarked_keys items)
   content_of_chain =
       let keys : unmarked_keys items ≡ keys_in v w.nodes = ap (λ ks. unmarked_keys ks) keys_are ∙ sym (unmarked v w.nodes) in
-      ((w.nodes, w.is_chain, keys), subst IsStrictlyIncreasing (sym keys) w.rising)
+      ((w.nodes, w.is_chain, keys), subst IsStrictlyIncreasing (sym keys) w.increasing)
 
 -- A WALK THAT KEEPS THE UNMARKED KEYS, as `Closed::keys` does
 abbrev pub WalkedTo : View → List ℕ → ℕ → Type 0

@@ -62,12 +62,12 @@ is_run_opening T op opens =
 pub is_run_of_keys : (T : Table) (sz : Sizes) (keys : List ℕ) → length keys ≡ sz.opening → IsWithin sz → IsStrictlyIncreasing keys
     → All (λ (k : ℕ). k < 2 ^ 32) keys
     → IsRun T (record { sizes = sz; state = opening (opening_of sz keys) })
-is_run_of_keys T sz keys many within rising low =
+is_run_of_keys T sz keys many within increasing low =
     let same : sizes (opening_of sz keys) ≡ sz = ap (λ m. record { threads = sz.threads; quota = sz.quota; opening = m }) many in
     subst (λ (z : Sizes). IsRun T (record { sizes = z; state = opening (opening_of sz keys) })) same
     (is_run_opening T (opening_of sz keys) (record {
       within = subst (λ (z : Sizes). IsWithin z) (sym same) within;
-      rising = rising;
+      increasing = increasing;
       low = low;
     }))
 

@@ -63,7 +63,7 @@ pub record IsOrdered (v : View) : Type 0 where
   pub tail_published : v.published 1
   pub top : (i : ℕ) → v.published i → v.key i ≤ v.key 1
   pub next_published : (i : ℕ) → v.published i → i ≢ 1 → v.published (v.link i / 2)
-  pub rises : (i : ℕ) → v.published i → i ≢ 1 → v.key i < v.key (v.link i / 2)
+  pub increases : (i : ℕ) → v.published i → i ≢ 1 → v.key i < v.key (v.link i / 2)
 
 -- Lists that mark: each unmarked published node is in the chain. The others have no marks.
 abbrev pub UnmarkedInChain : Bool → View → Type 0

@@ -34,7 +34,7 @@ InRange T = (op : Opening) (last k t : ℕ) (es : ℕ → Event) → Run T op es
 pub record ChainIsSorted (v : View) : Type 0 where
   pub nodes : List ℕ
   pub chain : IsChain v nodes
-  pub rising : IsStrictlyIncreasing (map v.key (nodes ++ 1 ∷ []))
+  pub increasing : IsStrictlyIncreasing (map v.key (nodes ++ 1 ∷ []))
 
 abbrev pub SortedChain : Table → Type 0
 SortedChain T = (op : Opening) (last k : ℕ) (es : ℕ → Event) → Run T op es last → k ≤ last → ChainIsSorted (views T op es k)
@@ -152,7 +152,7 @@ HasAccount T = (op : Opening) (last : ℕ) (es : ℕ → Event) → Run T op es 
 -- The content at each moment is one list of keys in strictly increasing order, each below 2^32.
 pub record ContentIsListed (v : View) : Type 0 where
   pub keys : List ℕ
-  pub rising : IsContent v keys
+  pub increasing : IsContent v keys
   pub member : (k : ℕ) → InContent v k → Contains keys k
   pub only : (k : ℕ) → Contains keys k → InContent v k
   pub low : (k : ℕ) → InContent v k → k < 2 ^ 32

@@ -80,5 +80,5 @@ AnswersAs {A} answers pick = (met : ChainKey) (answer : Option A) → answers me
 pub record IsPickedFromChain {A : Type 0} (answers : ChainKey → Option A → Type 0) (v : View) (items : List A) : Type 0 where
   pub nodes : List ℕ
   pub is_chain : IsChain v nodes
-  pub rising : IsStrictlyIncreasing (keys_in v nodes)
+  pub increasing : IsStrictlyIncreasing (keys_in v nodes)
   pub picked : (pick : ChainKey → Option A) → AnswersAs answers pick → items ≡ filter_map pick (chain_keys v nodes)

@@ -118,7 +118,7 @@ after_title first = kind_told first.1 >>= after_kind
 abbrev BeginsWith : List ℕ → List (List ℕ) → Found → Type 0
 BeginsWith title parts found = (parts ≡ header_lines title found.0 ++ found.1) × IsHeader found.0 × (0 < length found.1)
 
--- ---- no check of a header fails for want of memory
+-- ---- no check of a header fails because an allocation failed
 
 abbrev NeverMemory : {A : Type 0} → Result A LineFault → Type 0
 NeverMemory r = (e : LineFault) → r ≡ Err e → e.cause ≡ wrong.Memory → ⊥

@@ -1,4 +1,4 @@
--- Lines of opening keys, and keys that rise strictly.
+-- Lines of opening keys, and keys that increase strictly.
 use Rattle.std.proofs.Common.{rules, ◌≡◌, ℕ, zero, suc, ◌+◌, ◌-◌, ◌<◌, ◌^◌, true, List, [], ◌∷◌, ◌++◌, length, length-append}
 use Rattle.std.proofs.Common.{get_or, refl, ap, ◌∙◌, arith}
 use Rattle.std.specs.Prelude.{nat_lt}
@@ -15,13 +15,13 @@ use Rattle.lset_text.specs.declared.words.Version.TheVariants.{One, Two}
 use Rattle.lset_text.specs.Headers.{IsHeader}
 use Rattle.lset_text.specs.Openings.{above_last, is_above, HasOpening}
 
--- a key above the last of keys that rise goes on with them
+-- a key above the last of keys that increase goes on with them
 some_last : (keys : List ℕ) (key : ℕ) → 0 < length keys → is_above keys key ≡ nat_lt (get_or keys (length keys - 1) 0) key
 some_last keys key some = ap (λ o. above_last o key) (slice_get-get_or keys (length keys - 1) 0 (omega (arith, some)))
 
-pub rises_more : (keys : List ℕ) (key : ℕ) → IsStrictlyIncreasing keys → is_above keys key ≡ true
+pub increases_more : (keys : List ℕ) (key : ℕ) → IsStrictlyIncreasing keys → is_above keys key ≡ true
     → IsStrictlyIncreasing (keys ++ key ∷ [])
-rises_more keys key rising above k below =
+increases_more keys key increasing above k below =
     let long : length (keys ++ key ∷ []) ≡ length keys + 1 = length_push keys key in grind (
       arith,
       get_or_push,
@@ -30,16 +30,16 @@ rises_more keys key rising above k below =
       some_last,
     )
 
--- in keys that rise, each lies above those before it
+-- in keys that increase, each lies above those before it
 pub above_before : (keys : List ℕ) (key : ℕ) (more : List ℕ) → IsStrictlyIncreasing (keys ++ key ∷ more) →
     is_above keys key ≡ true
-above_before [] key more rising = refl
-above_before (x ∷ xs) key more rising =
+above_before [] key more increasing = refl
+above_before (x ∷ xs) key more increasing =
     let keys : List ℕ = x ∷ xs in
     let k = length keys - 1 in
     let a : get_or (keys ++ key ∷ more) k 0 ≡ get_or keys k 0 = get_or_append_left keys (key ∷ more) 0 k (omega arith) in
     let b : get_or (keys ++ key ∷ more) (k + 1) 0 ≡ key = get_or_at keys key more (k + 1) (omega arith) in
-    let c = rising k (longer keys key more k (omega arith)) in
+    let c = increasing k (longer keys key more k (omega arith)) in
     some_last keys key (omega arith) ∙ lt-ltb _ _ (omega (arith, a, b, c))
   where
     get_or_at : (xs : List ℕ) (y : ℕ) (ys : List ℕ) (n : ℕ) → n ≡ length xs → get_or (xs ++ y ∷ ys) n 0 ≡ y
@@ -62,4 +62,4 @@ has_none Two = tt
 
 pub opens_more : (o : Opening) (k : ℕ) → Opens o → k < 2 ^ 32 → length o.keys < MOST_OPENING → is_above o.keys k ≡ true
     → Opens (record o { keys = o.keys ++ k ∷ [] })
-opens_more o k is low room above = search (rules, length_push, rises_more, All-push)
+opens_more o k is low room above = search (rules, length_push, increases_more, All-push)

@@ -69,4 +69,4 @@ openings_lead g state Two o is some each =
     section_leads g state opening_line (λ k. k < 2 ^ 32) MOST_OPENING o.keys is.within.opens
     (recursion_from_All (λ (k : ℕ). k < 2 ^ 32) o.keys is.low)
     (λ front more k same room low. each front k refl room low
-    (above_before front k more (subst IsStrictlyIncreasing (sym same) is.rising)))
+    (above_before front k more (subst IsStrictlyIncreasing (sym same) is.increasing)))

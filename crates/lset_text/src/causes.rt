@@ -51,7 +51,7 @@ pub enum Cause {
 }
 
 impl Cause {
-    /// Returns the cause's name, as the line on standard error has it.
+    /// Returns the cause's name, as the line on stderr has it.
     pub fn name(self) -> &'static str
         ensures name { result.now ≡ name_of self }
         ensures short { length result.now ≤ 8 }

@@ -18,7 +18,7 @@ use crate::words::{Version, kind_word, read_kind};
 use lset_words::{Kind, MOST_QUOTA, MOST_THREADS};
 use std::alloc::AllocError;
 
-/// What the header of a file states: the kind of list, its threads, 1 to 64, and the slots of each, 0 to 16,384.
+/// What the header of a file states: the kind of list, its threads, 1 to 64, and the quota of each, 0 to 16,384.
 #[derive(Clone, Copy, Debug, PartialEq, Eq)]
 pub struct Header {
     pub kind: Kind,

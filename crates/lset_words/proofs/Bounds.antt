@@ -23,6 +23,6 @@ row_once quota t u i j a b e =
 pub opens_empty : (threads quota : ℕ) → IsWithin (sizes (empty threads quota)) → Opens (empty threads quota)
 opens_empty threads quota within = record {
   within = within;
-  rising = λ k l. absurd (omega arith);
+  increasing = λ k l. absurd (omega arith);
   low = λ k d l. absurd (omega arith);
 }

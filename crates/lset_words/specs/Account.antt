@@ -118,7 +118,7 @@ Enters threads quota log contents counts k (stepped t change reply) = Steps thre
 -- THE ACCOUNT of a run of `last` events
 pub record Account (o : Opening) (last : ℕ) (log : Log) (contents : Contents) (counts : Counts) : Type 0 where
   -- it begins with the opening keys, which increase strictly,
-  pub rising : IsStrictlyIncreasing o.keys
+  pub increasing : IsStrictlyIncreasing o.keys
   pub opens : (k : ℕ) → (contents 0 k → InList o.keys k) × (InList o.keys k → contents 0 k)
   -- no thread has added one yet,
   pub none_yet : (t : ℕ) → t < o.threads → counts 0 t ≡ 0

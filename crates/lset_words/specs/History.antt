@@ -20,7 +20,7 @@ pub record MayFollow (threads : ℕ) (earlier : List CallRecord) (x : CallRecord
   pub of_a_thread : x.thread < threads
   pub counted : 0 < x.begun
   -- calls are numbered in the order of their beginnings,
-  pub rising : All (λ (y : CallRecord). y.begun < x.begun) earlier
+  pub increasing : All (λ (y : CallRecord). y.begun < x.begun) earlier
   pub ends_later : IfSome x.ended (λ (e : ℕ × Reply). x.begun < e.0)
   -- no moment has two entries,
   pub begins_alone : All (λ (y : CallRecord). IfSome y.ended (λ (e : ℕ × Reply). e.0 ≢ x.begun)) earlier

@@ -9,12 +9,12 @@ use Rattle.lset_words.specs.Log.{TracedCall}
 use Rattle.lset_words.specs.Account.{Contents, Counts, Fits}
 
 -- the first moment of the call, which ended at `end`, at which its reply is correct
-pub record IsLeastFit (quota : ℕ) (contents : Contents) (counts : Counts) (x : TracedCall) (end : ℕ) (reply : Reply)
+pub record IsSmallestFit (quota : ℕ) (contents : Contents) (counts : Counts) (x : TracedCall) (end : ℕ) (reply : Reply)
     (moment : ℕ) : Type 0 where
   pub from : x.begun ≤ moment
   pub upto : moment ≤ end
   pub fits : Fits quota (contents moment) (counts moment x.thread) x.call reply
-  pub least : (m : ℕ) → x.begun ≤ m → m < moment → Fits quota (contents m) (counts m x.thread) x.call reply → ⊥
+  pub smallest : (m : ℕ) → x.begun ≤ m → m < moment → Fits quota (contents m) (counts m x.thread) x.call reply → ⊥
 
 -- The linearization point of a call: the moment of its change; else, if it has ended, the first at which its reply is correct;
 -- else it has none.
@@ -22,7 +22,7 @@ abbrev pub StandsBy : ℕ → Contents → Counts → TracedCall → Option ℕ 
 StandsBy quota contents counts x (Some changed) ended place = place ≡ Some changed
 StandsBy quota contents counts x None None place = place ≡ None
 StandsBy quota contents counts x None (Some end) place =
-    (moment : ℕ) × (place ≡ Some moment) × IsLeastFit quota contents counts x end.0 end.1 moment
+    (moment : ℕ) × (place ≡ Some moment) × IsSmallestFit quota contents counts x end.0 end.1 moment
 
 abbrev pub StandsAt : ℕ → Contents → Counts → TracedCall → Option ℕ → Type 0
 StandsAt quota contents counts x place = StandsBy quota contents counts x x.changed x.ended place

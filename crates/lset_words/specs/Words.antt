@@ -38,7 +38,7 @@ empty threads quota = record { threads = threads; quota = quota; keys = [] }
 -- The numbers are within their limits, and the keys are user keys in strictly increasing order.
 pub record Opens (o : Opening) : Type 0 where
   pub within : IsWithin (sizes o)
-  pub rising : IsStrictlyIncreasing o.keys
+  pub increasing : IsStrictlyIncreasing o.keys
   pub low : All (λ (k : ℕ). k < 2 ^ 32) o.keys
 
 -- the first limit that is not kept

@@ -106,7 +106,7 @@ pub enum Reply {
     Nothing,
 }
 
-/// Returns the layout of a list that opens empty, for `threads` threads, 1 to 64, with `quota` slots each, 0 to 16,384.
+/// Returns the layout of a list that opens empty, for `threads` threads, 1 to 64, with a quota of `quota` each, 0 to 16,384.
 ///
 /// # Errors
 ///
@@ -118,7 +118,7 @@ pub fn layout(threads: u32, quota: u32) -> Result<Layout, LayoutFault>
     layout_opening(threads, quota, 0)
 }
 
-/// Returns the layout of a list that opens with keys, for `threads` threads, 1 to 64, with `quota` slots each, 0 to 16,384,
+/// Returns the layout of a list that opens with keys, for `threads` threads, 1 to 64, with a quota of `quota` each, 0 to 16,384,
 /// and `opening` opening keys, 0 to 1,048,576. Each opening key has a node that is no thread's slot.
 ///
 /// # Errors
@@ -142,7 +142,7 @@ pub fn layout_opening(threads: u32, quota: u32, opening: u32) -> Result<Layout, 
 }
 
 /// Whether each key is above the one before.
-pub fn rises(keys: &[u32]) -> bool
+pub fn increases(keys: &[u32]) -> bool
     ensures { IsTrue result ↔ IsStrictlyIncreasing keys.now }
 {
     for i in 1..keys.len() {

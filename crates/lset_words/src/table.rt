@@ -37,7 +37,7 @@ pub fn slot_node(quota: u32, thread: u32, slot: u32) -> u64
     2 + u64::from(thread) * u64::from(quota) + u64::from(slot)
 }
 
-/// The places of a list's words in its table, for 1 to 64 threads with a quota of 0 to 16,384 slots each, and 0 to 1,048,576
+/// The places of a list's words in its table, for 1 to 64 threads with a quota of 0 to 16,384 each, and 0 to 1,048,576
 /// opening keys. `layout` and `layout_opening` make one.
 #[derive(Clone, Copy)]
 pub struct Layout {
@@ -77,7 +77,7 @@ impl Layout {
         self.threads
     }
 
-    /// Returns the number of slots of each thread, 0 to 16,384.
+    /// Returns the quota of each thread, 0 to 16,384.
     pub fn quota(&self) -> u32
         ensures value { result ≡ self.now.quota }
         ensures within { IsWithin self.now }

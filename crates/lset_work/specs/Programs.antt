@@ -30,7 +30,7 @@ worked (r ∷ rs) (p ∷ ps) (a ∷ more) = with_calls r (made p a) ∷ worked r
 abbrev pub Fit : SetValue → List SeatValue → ℕ → Type 0
 Fit set seats programs = (programs ≡ length seats) × (sum_by (λ (s : SeatValue). s.held) seats ≡ set.shape.threads)
 
--- What comes back after a cause: all that was given, where the programs do not fit or memory was refused; nothing, once threads were
+-- What comes back after a cause: all that was given, where the programs do not fit or an allocation failed; nothing, once threads were
 -- started.
 abbrev pub GivesBack : {Given : Type 0} → Given → WorkCause → Option Given → Type 0
 GivesBack given Programs back = back ≡ Some given

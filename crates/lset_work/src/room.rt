@@ -9,7 +9,7 @@ use std::alloc::Global;
 
 /// A program, with room for its replies.
 #[derive(Drop)]
-pub struct Program {
+pub(crate) struct Program {
     pub calls: Vec<Call>,
     pub replies: Vec<Reply>,
     ghost empty: { replies.items ≡ [] },
@@ -20,7 +20,7 @@ pub struct Program {
 /// All lists that the threads fill: their programs with room for the replies, and room for their handles and for the lists
 /// of replies.
 #[derive(Drop)]
-pub struct Room<M: Running, G: Gate> {
+pub(crate) struct Room<M: Running, G: Gate> {
     pub programs: Vec<Program>,
     pub workers: Vec<Worker<M, G>>,
     pub replies: Vec<Vec<Reply>>,
@@ -44,7 +44,7 @@ fn with_room(alloc: Global, programs: Vec<Vec<Call>>) -> Option<Vec<Program>>
     Some(all)
 }
 
-/// Reserves all lists that the threads fill, and one for the keys that are left, at most `keys`. `None` where memory is refused.
+/// Reserves all lists that the threads fill, and one for the keys that are left, at most `keys`. `None` if an allocation fails.
 pub fn reserved<M: Running, G: Gate>(
     alloc: Global,
     programs: Vec<Vec<Call>>,

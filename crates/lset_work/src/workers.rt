@@ -12,16 +12,16 @@ use std::snapshot::Snapshot;
 use std::sync::Wait;
 use std::thread::{Promise, PromisedHandle, Scope, Threads};
 
-/// What a thread gives back: its seat, and the replies of its program unless a gate answered false.
+/// What a thread returns: its seat, and the replies of its program unless a gate answered false.
 #[derive(Drop)]
-pub struct Done<M: Running> {
+pub(crate) struct Done<M: Running> {
     pub seat: Seat<M>,
     pub replies: Option<Vec<Reply>>,
 }
 
 /// What a thread owes: the calls of its program, made on its seat, unless its gate may answer false.
 #[derive(Drop)]
-pub struct WorkerPromise<M: Running, G: Gate> {
+pub(crate) struct WorkerPromise<M: Running, G: Gate> {
     pub set: Snapshot<LiveSet<M>>,
     pub gate: Snapshot<G>,
     pub seat: Snapshot<Seat<M>>,
@@ -36,7 +36,7 @@ impl<M: Running, G: Gate> Promise<Done<M>> for WorkerPromise<M, G> {
 }
 
 /// A thread that was started.
-pub type Worker<M, G> = PromisedHandle<Done<M>, WorkerPromise<M, G>>;
+pub(crate) type Worker<M, G> = PromisedHandle<Done<M>, WorkerPromise<M, G>>;
 
 /// Makes the calls of a program until the gate answers false, and adds their replies. Tells whether all were made.
 fn make_calls<R: Wait, M: Running, G: Gate>(
@@ -95,7 +95,7 @@ fn run_program<R: Wait, M: Running, G: Gate>(
 
 /// What all threads of a program of calls share: the set, the gate that they ask, and what they wait by.
 #[derive(Drop)]
-pub struct Shared<'s, R, M: Running, G: Gate> {
+pub(crate) struct Shared<'s, R, M: Running, G: Gate> {
     pub rt: &'s R,
     pub set: &'s LiveSet<M>,
     pub gate: &'s G,
@@ -160,13 +160,13 @@ impl<'s, R: Wait + Sync, M: Running + Send + Sync, G: Gate + Sync> Shared<'s, R,
 
 /// The replies of the programs, and the seat into which the others were gathered.
 #[derive(Drop)]
-pub struct Gathered<M: Running> {
+pub(crate) struct Gathered<M: Running> {
     pub seat: Option<Seat<M>>,
     pub replies: Vec<Vec<Reply>>,
 }
 
 /// Waits for the threads, which ask `gate`, and gathers their seats. `None` where it has answered false.
-pub fn join_all<R: Threads, M: Running, G: Gate>(
+pub(crate) fn join_all<R: Threads, M: Running, G: Gate>(
     rt: &R,
     set: &LiveSet<M>,
     gate: &G,

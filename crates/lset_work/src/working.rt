@@ -19,7 +19,7 @@ use std::thread::{Scope, Threads};
 pub struct Outcome {
     /// The replies of each program, in the order of the seats.
     pub replies: Vec<Vec<Reply>>,
-    /// The keys that are left, rising.
+    /// The keys that are left, in increasing order.
     pub keys: Vec<u32>,
 }
 

@@ -48,7 +48,7 @@ fn number_on(input: &mut impl Read) -> io::Result<u32> {
     Ok(text.trim().parse().unwrap_or(0))
 }
 
-/// Takes so many blocks of memory, one after another, and gives each back.
+/// Takes so many blocks of memory, one after another, and frees each.
 fn take_blocks(alloc: Global, count: u32) -> Result<(), AllocError> {
     for number in 0..count {
         let _block = Box::new(alloc, number)?;

@@ -1,7 +1,7 @@
 //! Histories and recordings as large as they may be, and the time that they take: a test has a minute, and a search of all pairs would
 //! take longer.
 
-use crate::made::{FIVE, in_turn, rising_keys};
+use crate::made::{FIVE, in_turn, increasing_keys};
 use crate::prelude::*;
 use lset_judge::{Judged, judge};
 use lset_recording::{RecordingAnswer, RecordingReader};
@@ -26,8 +26,13 @@ fn true_calls<F: Fn(u32) -> Call>(
 fn a_million_calls_are_judged(rt: HostRuntime) -> Result<(), Fail> {
     let alloc = rt.alloc();
     let calls = true_calls(alloc, MOST_CALLS, |number| Call::Contains(Key(number)))?;
-    let keys = rising_keys(alloc, MOST_OPENING)?;
-    let opened = History::opened(alloc, MOST_THREADS, 0, rising_keys(alloc, MOST_OPENING)?);
+    let keys = increasing_keys(alloc, MOST_OPENING)?;
+    let opened = History::opened(
+        alloc,
+        MOST_THREADS,
+        0,
+        increasing_keys(alloc, MOST_OPENING)?,
+    );
     let history = in_turn(opened, &calls)?;
     assert!(rt; matches!(judge(alloc, &history, &keys)?, Judged::Linearizable));
     Ok(())
@@ -153,7 +158,7 @@ const MORE_KEYS: u32 = 1_100_000;
 /// Each of the keys is looked for.
 #[test]
 fn calls_of_more_keys_than_a_list_has(rt: HostRuntime) -> Result<(), Fail> {
-    let keys = rising_keys(rt.alloc(), MORE_KEYS)?;
+    let keys = increasing_keys(rt.alloc(), MORE_KEYS)?;
     let mut judge = Judge::new(rt.alloc(), &keys)?;
     for key in &keys {
         let begun = 2 * u64::from(*key) + 1;

@@ -5,7 +5,7 @@ use crate::prelude::*;
 pub const FIVE: Key = Key(5);
 
 /// The keys from 0 on, so many.
-pub fn rising_keys(alloc: Global, count: u32) -> Result<Vec<u32>, AllocError> {
+pub fn increasing_keys(alloc: Global, count: u32) -> Result<Vec<u32>, AllocError> {
     let mut keys = Vec::new(alloc);
     for number in 0..count {
         keys.push(number)?;

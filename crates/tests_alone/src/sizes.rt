@@ -1,6 +1,6 @@
 //! Each function of the libraries that can run out of memory, at each size from 0 to 200: it succeeds there, with the answer that is right.
 
-use crate::made::{in_turn, rising_keys};
+use crate::made::{in_turn, increasing_keys};
 use crate::prelude::*;
 use lset_judge::{Judged, judge};
 use lset_recording::RecordingReader;
@@ -16,7 +16,7 @@ fn threads_of(size: u32) -> u32 {
 
 /// The world of a list that opens with so many keys.
 fn has_world<M: Machine, R: Abort>(rt: &R, alloc: Global, size: u32) -> Result<(), Fail> {
-    let keys = rising_keys(alloc, size)?;
+    let keys = increasing_keys(alloc, size)?;
     let layout = layout_opening(threads_of(size), size, size)?;
     let world = World::<M>::opened(alloc, layout, &keys)?;
     assert!(rt; world.content()? == keys, "{size}");
@@ -94,7 +94,7 @@ fn schedules_and_reports_of_each_size(rt: HostRuntime) -> Result<(), Fail> {
 
 /// A set that opens with so many keys takes as many more, and is then full.
 fn has_oracle<R: Abort>(rt: &R, alloc: Global, size: u32) -> Result<(), Fail> {
-    let mut oracle = Oracle::opened(alloc, 1, size, &rising_keys(alloc, size)?)?;
+    let mut oracle = Oracle::opened(alloc, 1, size, &increasing_keys(alloc, size)?)?;
     for key in size..2 * size {
         assert!(rt;
             oracle.apply(0, Call::Add(Key(key)))? == Reply::True,
@@ -105,10 +105,13 @@ fn has_oracle<R: Abort>(rt: &R, alloc: Global, size: u32) -> Result<(), Fail> {
         oracle.apply(0, Call::Add(Key(u32::MAX)))? == Reply::Full,
         "{size}"
     );
-    assert!(rt; oracle.keys()? == rising_keys(alloc, 2 * size)?, "{size}");
-    let changes = Changes::opened(alloc, &rising_keys(alloc, size)?)?;
-    let least = changes.first_ceiling(0, (size > 0).then_some(0), 0, 9);
-    assert!(rt; least == Some(0), "{size}");
+    assert!(rt;
+        oracle.keys()? == increasing_keys(alloc, 2 * size)?,
+        "{size}"
+    );
+    let changes = Changes::opened(alloc, &increasing_keys(alloc, size)?)?;
+    let smallest = changes.first_ceiling(0, (size > 0).then_some(0), 0, 9);
+    assert!(rt; smallest == Some(0), "{size}");
     Ok(())
 }
 
@@ -125,7 +128,7 @@ fn adds(alloc: Global, size: u32) -> Result<History, Fail> {
 /// So many adds have an order that leaves their keys, and none that leaves nothing, which is shown.
 fn is_judged<R: Abort>(rt: &R, alloc: Global, size: u32) -> Result<(), Fail> {
     let history = adds(alloc, size)?;
-    let judged = judge(alloc, &history, &rising_keys(alloc, size)?)?;
+    let judged = judge(alloc, &history, &increasing_keys(alloc, size)?)?;
     assert!(rt; matches!(judged, Judged::Linearizable), "{size}");
     let judged = judge(alloc, &history, &[])?;
     let is_lost =
@@ -140,7 +143,7 @@ fn is_judged_pending<R: Abort>(rt: &R, alloc: Global, threads: u32) -> Result<()
     for thread in 0..threads {
         history.begin(thread, Call::Add(Key(thread)), thread + 1)?;
     }
-    let judged = judge(alloc, &history, &rising_keys(alloc, threads)?)?;
+    let judged = judge(alloc, &history, &increasing_keys(alloc, threads)?)?;
     assert!(rt; matches!(judged, Judged::Linearizable), "{threads}");
     Ok(())
 }
@@ -158,7 +161,7 @@ fn sets_and_histories_of_each_size(rt: HostRuntime) -> Result<(), Fail> {
 
 /// The judge of so many calls that find a key each, and of as many adds that are pending.
 fn judge_of(alloc: Global, size: u32) -> Result<Judge, Fail> {
-    let mut judge = Judge::new(alloc, &rising_keys(alloc, size)?)?;
+    let mut judge = Judge::new(alloc, &increasing_keys(alloc, size)?)?;
     for number in 0..2 * size {
         let begun = 2 * u64::from(number) + 1;
         let (call, ended) = if number < size {
@@ -212,7 +215,7 @@ fn is_read<R: Abort>(rt: &R, alloc: Global, size: u32) -> Result<(), Fail> {
 fn recordings_of_each_size(rt: HostRuntime) -> Result<(), Fail> {
     let alloc = rt.alloc();
     for size in 0..=MOST_SIZE {
-        let keys = rising_keys(alloc, 2 * size)?;
+        let keys = increasing_keys(alloc, 2 * size)?;
         let verdict = judge_of(alloc, size)?.close(&keys)?;
         assert!(rt; matches!(verdict, Verdict::Linearizable), "{size}");
         let verdict = judge_of(alloc, size)?.close_cut_off()?;

@@ -72,7 +72,7 @@ pub fn close_with<M: Machine, R: Abort>(rt: &R, set: LiveSet<M>, seat: Seat<M>, 
 }
 
 /// So many keys: multiples of `step`, from 0 on.
-pub fn rising_keys<R: Abort>(rt: &R, alloc: Global, count: u32, step: u32) -> Vec<u32> {
+pub fn increasing_keys<R: Abort>(rt: &R, alloc: Global, count: u32, step: u32) -> Vec<u32> {
     let mut keys = Vec::new(alloc);
     for number in 0..count {
         keys.push(number.saturating_mul(step)).expect(rt, "room");

@@ -1,6 +1,6 @@
 //! A set that was closed is opened again with its keys, with other seats and slots, and as another list.
 
-use crate::opened::{close_with, gathered, keys_left, last_of, make_calls, rising_keys};
+use crate::opened::{close_with, gathered, increasing_keys, keys_left, last_of, make_calls};
 use crate::prelude::*;
 use crate::sizes::{Draws, Sizes, runs_beside_models};
 
@@ -59,7 +59,7 @@ const REFUSED: [(u32, u32, [u32; 2], OpenFault); 4] = [
 ];
 
 #[test]
-fn open_with_refuses_seats_then_quota_then_keys_that_do_not_rise(rt: HostRuntime) {
+fn open_with_refuses_seats_then_quota_then_keys_that_do_not_increase(rt: HostRuntime) {
     for (seats, quota, keys, fault) in &REFUSED {
         let found = open_with::<LazyList>(rt.alloc(), *seats, *quota, keys).err();
         assert!(rt; found == Some(*fault), "{seats} {quota}");
@@ -119,7 +119,7 @@ const CALLS_ON_A_MILLION: [(Call, Reply); 3] = [
 
 #[test]
 fn a_million_keys_open_a_set_and_no_more(rt: HostRuntime) {
-    let keys = rising_keys(&rt, rt.alloc(), MOST_OPENING, 2);
+    let keys = increasing_keys(&rt, rt.alloc(), MOST_OPENING, 2);
     let opened = open_with::<LockFreeList>(rt.alloc(), 1, 1, &keys);
     let (set, mut seats) = opened.expect(&rt, "not opened");
     let mut seat = last_of(&rt, &set, &mut seats);

@@ -1,7 +1,7 @@
 //! Programs on threads, of log-uniform sizes up to each limit, beside a model. Each thread has keys of its own, those that leave its number
 //! when they are divided by the number of threads, and a sequential set of them: so its replies do not hang on what the others do.
 
-use crate::opened::{keys_left, last_of, make_calls, rising_keys};
+use crate::opened::{increasing_keys, keys_left, last_of, make_calls};
 use crate::prelude::*;
 use crate::programs::worked;
 use std::collections::BTreeSet;
@@ -249,7 +249,7 @@ fn at_the_limits() -> [Sizes; 4] {
 
 fn runs<M: Running + Send + Sync, R: Host>(rt: &R, alloc: Global, sizes: Sizes, draws: &mut Draws) {
     let step = u32::MAX / sizes.opening.max(1);
-    let opening = rising_keys(
+    let opening = increasing_keys(
         rt,
         alloc,
         sizes.opening,

@@ -83,7 +83,7 @@ fn a_ceiling_is_a_key_or_none(rt: HostRuntime) {
     at_each_list!(tells_the_smallest_key, rt);
 }
 
-/// Adds 9 from a seat of the set, and gives the seat back with what the call did.
+/// Adds 9 from a seat of the set, and returns the seat with what the call did.
 fn claim<M: Running, R: Wait>(rt: &R, set: &LiveSet<M>, mut seat: Seat<M>) -> (Seat<M>, Added) {
     let added = seat.add(rt, set, Key(9));
     (seat, added)

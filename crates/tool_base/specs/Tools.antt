@@ -40,7 +40,7 @@ abbrev pub status_of : Outcome → ℕ
 status_of (Ok status) = status
 status_of (Err t) = trouble.status_of t
 
--- the line on standard error, of which a prefix is written if a write fails
+-- the line on stderr, of which a prefix is written if a write fails
 abbrev pub line_of : Outcome → List ℕ
 line_of (Ok status) = []
 line_of (Err t) = trouble_text t
@@ -71,7 +71,7 @@ IsTooLong bytes t = (t ≡ TooLong) × (LONGEST < length bytes)
 abbrev pub OnText : (List ℕ → Made → Type 0) → List ℕ → Made → Type 0
 OnText Makes bytes made = ((t : Trouble) × (made ≡ Err t) × IsTooLong bytes t) ⊎ (IsTaken bytes × Makes bytes made)
 
--- what is made of an input: a read failed, or memory was refused, or what is made of the text of its bytes
+-- what is made of an input: a read failed, or an allocation failed, or what is made of the text of its bytes
 abbrev pub OnInput : (List ℕ → Made → Type 0) → List ℕ → Made → Type 0
 OnInput Makes bytes made = (made ≡ Err CannotRead) ⊎ ((made ≡ Err Memory) ⊎ OnText Makes bytes made)
 

@@ -1,4 +1,4 @@
--- What ends a run of the program with a line on standard error: its text and its exit status.
+-- What ends a run of the program with a line on stderr: its text and its exit status.
 use Rattle.std.specs.Prelude.{ℕ, List, ◌++◌, codes}
 use Rattle.std.specs.Fmt.{decimal}
 use Rattle.lset_text.specs.declared.causes.Cause.{Cause}

@@ -10,7 +10,7 @@ use itoa::Buffer;
 use std::io::Write;
 
 /// The most bytes of a line about an error.
-pub const LONGEST_LINE: usize = 64;
+pub(crate) const LONGEST_LINE: usize = 64;
 
 /// The result of a tool: the text for its output, and the exit status if that is written.
 #[derive(Drop)]
@@ -46,7 +46,7 @@ fn line_with(front: &str, number: &str, sign: &str, name: &str) -> ArrayString<L
     line
 }
 
-/// Returns the line about an error that the program writes to standard error, `listset: ..` with a newline.
+/// Returns the line about an error that the program writes to stderr, `listset: ..` with a newline.
 pub fn line_of(trouble: Trouble) -> ArrayString<LONGEST_LINE>
     ensures { result.bytes ≡ trouble_text trouble }
 {

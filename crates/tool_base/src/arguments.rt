@@ -32,7 +32,7 @@ pub struct RandomRequest {
     pub kind: Kind,
     /// 1 to `MOST_THREADS`.
     pub threads: u32,
-    /// The slots of each thread, 0 to `MOST_QUOTA`.
+    /// The quota of each thread, 0 to `MOST_QUOTA`.
     pub quota: u32,
     /// How many calls are asked for, 0 to `MOST_CALLS_ASKED`.
     pub calls: u32,
@@ -58,7 +58,7 @@ pub struct ServeRequest {
     pub kind: Kind,
     /// 1 to `MOST_THREADS`.
     pub seats: u32,
-    /// The slots of each seat, 0 to `MOST_QUOTA`.
+    /// The quota of each seat, 0 to `MOST_QUOTA`.
     pub quota: u32,
     /// 0 to `MOST_PORT`; 0 lets the system choose.
     pub port: u16,

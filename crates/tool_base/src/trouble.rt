@@ -48,7 +48,7 @@ pub enum SystemCause {
     Left,
 }
 
-/// An error that ends a run of the program with a line on standard error.
+/// An error that ends a run of the program with a line on stderr.
 #[derive(Clone, Copy)]
 pub enum Trouble {
     /// A file could not be opened, or a read failed.
@@ -152,7 +152,7 @@ impl<T: Drop> From<AllocFailed<T>> for Trouble {
 }
 
 impl ValueName {
-    /// Returns the name of the argument or option, as the help and the line on standard error have it.
+    /// Returns the name of the argument or option, as the help and the line on stderr have it.
     pub fn word(self) -> &'static str
         ensures word { result.now ≡ value_word self }
         ensures short { length result.now ≤ 45 }

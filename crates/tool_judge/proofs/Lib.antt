@@ -1,3 +1,3 @@
-pub mod Answered
+pub mod AnswerOfBytes
 pub mod OneReading
-pub mod Right
+pub mod RightAnswers

@@ -32,7 +32,7 @@ abbrev pub SaysOnly : List ℕ → Result Recording LineFault → Type 0
 SaysOnly bytes read = Says bytes read × ((other : Result Recording LineFault) → Says bytes other → other ≡ read)
 
 -- THE ANSWER IS RIGHT: the bytes are a recording, and it is told whether some order explains that; or the first wrong line is told, and its
--- cause; or a read failed, or memory was refused
+-- cause; or a read failed, or an allocation failed
 abbrev pub JudgesRightly : List ℕ → Made → Type 0
 JudgesRightly bytes (Ok answer) = (c : Recording) × SaysOnly bytes (Ok c) × IsRight c answer
 JudgesRightly bytes (Err t) =

@@ -43,7 +43,7 @@ pub record IsAnswerOn (c : Recording) (answer : AnswerValue) : Type 0 where
   pub answer_is : IsAnswerTo verdict (length c.calls) answer
 
 -- WHAT IS MADE OF THE BYTES OF AN INPUT: the answer on the recording that they say and whose text they are, or their first fault; or a read
--- failed, or memory was refused
+-- failed, or an allocation failed
 abbrev pub Judges : List ℕ → Made → Type 0
 Judges bytes (Ok answer) = (c : Recording) × Says bytes (Ok c) × (bytes ≡ recording_text c) × IsAnswerOn c answer
 Judges bytes (Err t) = (t ≡ CannotRead) ⊎ ((t ≡ Memory) ⊎ ((fault : LineFault) × Says bytes (Err fault) × (t ≡ of_line_fault fault)))

@@ -1,6 +1,6 @@
 use crate::texts::refused_text;
 use lset_judge::{Judged, Refusal, Window, is_judged, judge};
-use lset_words::rises;
+use lset_words::increases;
 use std::alloc::{AllocError, Global};
 use tool_base::{Answer, Input, Tool, Trouble};
 use tool_show::{Form, Picture, Show};
@@ -9,13 +9,13 @@ const EXPLAINED: &[u8] = b"another order explains this report\n";
 
 const UNKNOWN: &[u8] = b"it is not known whether another order explains this report\n";
 
-const NOT_RISING: &[u8] = b"not linearizable\nno order leaves these keys, which do not rise\n";
+const NOT_RISING: &[u8] = b"not linearizable\nno order leaves these keys, which do not increase\n";
 
 /// What is known of all orders of the calls of a report.
 #[derive(Drop)]
 pub enum Claim {
-    /// No order leaves its keys, which do not rise.
-    NotRising,
+    /// No order leaves its keys, which do not increase.
+    NotIncreasing,
     /// No order explains the calls and leaves the keys: why, and the window that shows it, if there is one.
     NotLinearizable(Refusal, Option<Window>),
     /// Some order does.
@@ -26,8 +26,8 @@ pub enum Claim {
 
 /// Returns what is known of all orders of the calls of a picture that leave its keys. Allocates; `AllocError` if that fails.
 pub fn claim_on(alloc: Global, picture: &Picture) -> Result<Claim, AllocError> {
-    if !rises(&picture.keys) {
-        return Ok(Claim::NotRising);
+    if !increases(&picture.keys) {
+        return Ok(Claim::NotIncreasing);
     }
     match judge(alloc, &picture.history, &picture.keys)? {
         Judged::NotLinearizable(refusal, window) => Ok(Claim::NotLinearizable(refusal, window)),
@@ -38,7 +38,7 @@ pub fn claim_on(alloc: Global, picture: &Picture) -> Result<Claim, AllocError> {
 
 fn claim_text(alloc: Global, picture: &Picture) -> Result<Vec<u8>, AllocError> {
     match claim_on(alloc, picture)? {
-        Claim::NotRising => Vec::from_slice(alloc, NOT_RISING),
+        Claim::NotIncreasing => Vec::from_slice(alloc, NOT_RISING),
         Claim::NotLinearizable(refusal, window) => refused_text(alloc, refusal, window),
         Claim::Explained => Vec::from_slice(alloc, EXPLAINED),
         Claim::Unknown => Vec::from_slice(alloc, UNKNOWN),

@@ -83,7 +83,7 @@ fn refused_lines(alloc: Global, refusal: Refusal) -> Result<Vec<u8>, AllocError>
 
 /// Returns the lines about calls that no order explains, as `judge_bytes` answers them: `not linearizable`, of which key and up to which
 /// moment, and below that the few calls of the window that show it, if there is one. Allocates; `AllocError` if that fails.
-pub fn refused_text(
+pub(crate) fn refused_text(
     alloc: Global,
     refusal: Refusal,
     window: Option<Window>,

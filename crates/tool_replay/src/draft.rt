@@ -18,8 +18,8 @@ pub enum DraftLine {
 }
 
 impl DraftLine {
-    /// The least number of events for which the line can come to stand.
-    pub(crate) fn least_count(self) -> u32 {
+    /// The smallest number of events for which the line can come to stand.
+    pub(crate) fn smallest_count(self) -> u32 {
         match self {
             DraftLine::Plain(line) => line.event_count(),
             DraftLine::Out(_) | DraftLine::To(_, _) => 1,
@@ -27,7 +27,7 @@ impl DraftLine {
     }
 }
 
-/// A draft of a schedule: the kind of list, its threads, 1 to 64, the slots of each, 0 to 16,384, the keys with which its
+/// A draft of a schedule: the kind of list, its threads, 1 to 64, the quota of each, 0 to 16,384, the keys with which its
 /// set opens, at most 1,048,576 and in strictly increasing order, and its lines, of at most 1,000,000 events if each line
 /// without a count counts as one.
 #[derive(Drop)]
@@ -37,7 +37,7 @@ pub struct Draft {
     pub quota: u32,
     pub opening: Vec<u32>,
     pub lines: Vec<DraftLine>,
-    ghost rising: { IsStrictlyIncreasing opening.items },
+    ghost increasing: { IsStrictlyIncreasing opening.items },
     ghost within: { (0 < threads) × (threads ≤ MOST_THREADS) × (quota ≤ MOST_QUOTA) × (length opening.items ≤ MOST_OPENING) },
 }
 

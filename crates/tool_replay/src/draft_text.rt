@@ -53,11 +53,11 @@ fn opening_piece(line: &[u8]) -> Option<&[u8]> {
 }
 
 /// Puts an opening key behind the others.
-#[tactic(auto, using(lset_text::proofs::OpeningLaws::rises_more))]
+#[tactic(auto, using(lset_text::proofs::OpeningLaws::increases_more))]
 fn add_opening(opening: &mut Vec<u32>, key: u32) -> Result<(), Cause>
-    requires rising { IsStrictlyIncreasing opening.old.items }
+    requires increasing { IsStrictlyIncreasing opening.old.items }
     requires few { length opening.old.items ≤ MOST_OPENING }
-    ensures rising { IsStrictlyIncreasing opening.new.items }
+    ensures increasing { IsStrictlyIncreasing opening.new.items }
     ensures few { length opening.new.items ≤ MOST_OPENING }
 {
     if opening.len() >= MOST_OPENING as usize {
@@ -81,7 +81,9 @@ impl Draft {
             return Ok(left);
         }
         let event = event(line)?;
-        let left = left.checked_sub(event.least_count()).ok_or(Cause::TooMany)?;
+        let left = left
+            .checked_sub(event.smallest_count())
+            .ok_or(Cause::TooMany)?;
         self.lines.push(event)?;
         Ok(left)
     }

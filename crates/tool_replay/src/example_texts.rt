@@ -1,6 +1,6 @@
 //! The texts of the examples, as they lie in `examples/`; `tests/examples.py` compares the two.
 
-pub const FAILED_TRIES: &str = "\
+pub(crate) const FAILED_TRIES: &str = "\
 listset-schedule 1
 list coarse
 threads 2
@@ -26,7 +26,7 @@ begin 0 add 7
 go 0 4
 ";
 
-pub const HAND_OVER_HAND: &str = "\
+pub(crate) const HAND_OVER_HAND: &str = "\
 listset-schedule 1
 list fine
 threads 2
@@ -41,7 +41,7 @@ go 0 5
 go 1 12
 ";
 
-pub const SAME_GAP: &str = "\
+pub(crate) const SAME_GAP: &str = "\
 listset-schedule 1
 list optimistic
 threads 2
@@ -54,7 +54,7 @@ go 1 8
 go 0 15
 ";
 
-pub const STALE_PRED: &str = "\
+pub(crate) const STALE_PRED: &str = "\
 listset-schedule 1
 list optimistic
 threads 2
@@ -68,7 +68,7 @@ go 1 9
 go 0 16
 ";
 
-pub const MARKED_IN_CHAIN: &str = "\
+pub(crate) const MARKED_IN_CHAIN: &str = "\
 listset-schedule 1
 list lazy
 threads 2
@@ -82,7 +82,7 @@ go 0 3
 go 1 3
 ";
 
-pub const MARKED_PRED: &str = "\
+pub(crate) const MARKED_PRED: &str = "\
 listset-schedule 1
 list lazy
 threads 2
@@ -96,7 +96,7 @@ go 1 10
 go 0 16
 ";
 
-pub const READ_IN_ANOTHERS_STEP: &str = "\
+pub(crate) const READ_IN_ANOTHERS_STEP: &str = "\
 listset-schedule 1
 list lazy
 threads 2
@@ -112,7 +112,7 @@ go 1 11
 go 0 1
 ";
 
-pub const CEILING_IN_ANOTHERS_STEP: &str = "\
+pub(crate) const CEILING_IN_ANOTHERS_STEP: &str = "\
 listset-schedule 2
 list lazy
 threads 2
@@ -129,7 +129,7 @@ go 1 11
 go 0 3
 ";
 
-pub const OPENS_WITH_KEYS: &str = "\
+pub(crate) const OPENS_WITH_KEYS: &str = "\
 listset-schedule 2
 list lazy
 threads 1
@@ -146,7 +146,7 @@ begin 0 add 8
 go 0 10
 ";
 
-pub const TWO_REMOVERS: &str = "\
+pub(crate) const TWO_REMOVERS: &str = "\
 listset-schedule 1
 list lock-free
 threads 2
@@ -161,7 +161,7 @@ go 1 2
 go 0 4
 ";
 
-pub const SNIP: &str = "\
+pub(crate) const SNIP: &str = "\
 listset-schedule 1
 list lock-free
 threads 2
@@ -175,7 +175,7 @@ go 1 8
 go 0 1
 ";
 
-pub const TRIES_AGAIN: &str = "\
+pub(crate) const TRIES_AGAIN: &str = "\
 listset-schedule 1
 list lock-free
 threads 2
@@ -187,7 +187,7 @@ go 1 6
 go 0 7
 ";
 
-pub const LEFT_IN_CHAIN: &str = "\
+pub(crate) const LEFT_IN_CHAIN: &str = "\
 listset-schedule 1
 list lock-free
 threads 2
@@ -204,7 +204,7 @@ begin 0 contains 5
 go 0 5
 ";
 
-pub const CEILING_MEETS_MARK: &str = "\
+pub(crate) const CEILING_MEETS_MARK: &str = "\
 listset-schedule 2
 list lock-free
 threads 2
@@ -218,7 +218,7 @@ go 1 6
 go 0 3
 ";
 
-pub const CEILING_LEFT_IN_CHAIN: &str = "\
+pub(crate) const CEILING_LEFT_IN_CHAIN: &str = "\
 listset-schedule 2
 list lock-free
 threads 2
@@ -238,7 +238,7 @@ go 1 10
 go 0 5
 ";
 
-pub const BEHIND_THE_WALK: &str = "\
+pub(crate) const BEHIND_THE_WALK: &str = "\
 listset-schedule 2
 list lock-free
 threads 2
@@ -252,7 +252,7 @@ go 1 6
 go 0 2
 ";
 
-pub const NOTHING_IN_ANOTHERS_STEP: &str = "\
+pub(crate) const NOTHING_IN_ANOTHERS_STEP: &str = "\
 listset-schedule 2
 list lock-free
 threads 2
@@ -270,7 +270,7 @@ go 1 6
 go 0 2
 ";
 
-pub const SAME_GAP_BROKEN: &str = "\
+pub(crate) const SAME_GAP_BROKEN: &str = "\
 listset-report 1
 list optimistic
 threads 2
@@ -283,7 +283,7 @@ key 5
 end
 ";
 
-pub const STALE_PRED_BROKEN: &str = "\
+pub(crate) const STALE_PRED_BROKEN: &str = "\
 listset-report 1
 list optimistic
 threads 2
@@ -297,7 +297,7 @@ place 1 true
 end
 ";
 
-pub const TWO_REMOVERS_BROKEN: &str = "\
+pub(crate) const TWO_REMOVERS_BROKEN: &str = "\
 listset-report 1
 list lock-free
 threads 2
@@ -311,7 +311,7 @@ place 1 true
 end
 ";
 
-pub const SNIP_BROKEN: &str = "\
+pub(crate) const SNIP_BROKEN: &str = "\
 listset-report 1
 list lock-free
 threads 2
@@ -325,7 +325,7 @@ place 2 true
 end
 ";
 
-pub const LEFT_IN_CHAIN_BROKEN: &str = "\
+pub(crate) const LEFT_IN_CHAIN_BROKEN: &str = "\
 listset-report 1
 list lock-free
 threads 2
@@ -342,7 +342,7 @@ key 3
 end
 ";
 
-pub const CEILING_LEFT_IN_CHAIN_BROKEN: &str = "\
+pub(crate) const CEILING_LEFT_IN_CHAIN_BROKEN: &str = "\
 listset-report 2
 list lock-free
 threads 2

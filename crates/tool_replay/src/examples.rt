@@ -4,7 +4,7 @@ use lset_words::Kind;
 /// A classic interleaving of calls on one of the five lists: a schedule in which the list needs the one thing that it is
 /// remembered by. Most of them are from Herlihy and Shavit's chapter on linked lists, with steps of the tables here.
 #[derive(Clone, Copy)]
-pub struct Example {
+pub(crate) struct Example {
     /// The name by which `example` prints it.
     pub name: &'static str,
     /// The list that it is about.
@@ -19,7 +19,7 @@ pub struct Example {
 }
 
 /// All examples, in the order of the lists that they are about.
-pub const ALL: [Example; 18] = [
+pub(crate) const ALL: [Example; 18] = [
     Example {
         name: "failed-tries",
         kind: Kind::Coarse,

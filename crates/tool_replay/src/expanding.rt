@@ -3,7 +3,7 @@ ghost use Rattle.lset_schedule.specs.Plan.{HasWordsOfVersion, view};
 
 use crate::draft::{Draft, DraftLine};
 use crate::stepping::{cause_of, steps_to, take_steps};
-use crate::version::least_version;
+use crate::version::smallest_version;
 use lset_lists::{List, Task, on_list};
 use lset_schedule::{Line, MOST_EVENTS, MOST_STEPS, Schedule};
 use lset_steps::{Event, Machine, World};
@@ -110,7 +110,7 @@ pub fn schedule_of(alloc: Global, draft: &Draft) -> Result<Schedule, Trouble>
     let lines = on_list(draft.kind, Expanding { alloc, draft })?;
     let opening = draft.opening.to_vec(alloc)?;
     Ok(Schedule {
-        version: least_version(&opening, &lines),
+        version: smallest_version(&opening, &lines),
         kind: draft.kind,
         threads: draft.threads,
         quota: draft.quota,

@@ -4,7 +4,7 @@ use lset_steps::{Event, Machine, StepFault, World};
 use lset_text::Cause;
 
 /// Why the line of an event that is not enabled is refused.
-pub fn cause_of(fault: StepFault) -> Cause {
+pub(crate) fn cause_of(fault: StepFault) -> Cause {
     match fault {
         StepFault::NoThread => Cause::NoThread,
         StepFault::Busy => Cause::Busy,
@@ -14,7 +14,7 @@ pub fn cause_of(fault: StepFault) -> Cause {
 
 /// Steps a thread until it is at a row (0: it has no call pending), at least once and at most `most` times; returns how many
 /// steps it made.
-pub fn steps_to<M: Machine>(
+pub(crate) fn steps_to<M: Machine>(
     world: &mut World<M>,
     thread: u32,
     row: u32,
@@ -32,7 +32,11 @@ pub fn steps_to<M: Machine>(
 }
 
 /// Makes this many steps of a thread.
-pub fn take_steps<M: Machine>(world: &mut World<M>, thread: u32, steps: u32) -> Result<(), Cause> {
+pub(crate) fn take_steps<M: Machine>(
+    world: &mut World<M>,
+    thread: u32,
+    steps: u32,
+) -> Result<(), Cause> {
     for _taken in 0..steps {
         world.step(Event::Go(thread)).map_err(cause_of)?;
     }

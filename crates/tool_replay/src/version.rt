@@ -27,7 +27,7 @@ fn are_of_first(lines: &[Line]) -> bool
 }
 
 /// Returns the smallest version of a schedule that has these opening keys and the calls of these lines.
-pub fn least_version(opening: &[u32], lines: &[Line]) -> Version
+pub(crate) fn smallest_version(opening: &[u32], lines: &[Line]) -> Version
     ensures opening { HasOpening result opening.now }
     ensures calls { AllByRecursion (HasCallOfLine result) lines.now }
 {

@@ -15,9 +15,9 @@ pub enum Form {
 }
 
 /// The number from `least` on that the text spells, or `absent` if there is no text.
-fn number_or(text: Option<&str>, least: u32, absent: u32) -> Option<u32> {
+fn number_or(text: Option<&str>, smallest: u32, absent: u32) -> Option<u32> {
     match text {
-        Some(text) => number(text.as_bytes(), least, u32::MAX),
+        Some(text) => number(text.as_bytes(), smallest, u32::MAX),
         None => Some(absent),
     }
 }

@@ -30,7 +30,7 @@ fn first_begun(calls: &[CallRecord], key: u32) -> Option<u32> {
 
 /// Returns the moment at which the call begins that a refusal is about: the call that it names, of two the one that had
 /// ended; or, if the set is wrong, the first call of the first key that is.
-pub fn clash_begins(picture: &Picture) -> Option<u32> {
+pub(crate) fn clash_begins(picture: &Picture) -> Option<u32> {
     let calls = picture.history.calls();
     match &picture.refusal {
         None | Some(Refusal::Unknown { .. }) => None,

@@ -27,7 +27,7 @@ fn clashes_in(keys: &[u32], refusal: &Refusal, number: usize, made: &CallRecord)
 /// Whether the call with that number, `made`, clashes in the order of a picture that is refused: the refusal names it or, if
 /// the set is wrong, its key is one that the order leaves and the keys lack, or the reverse. No call clashes if nothing is
 /// refused.
-pub fn is_clash(picture: &Picture, number: usize, made: &CallRecord) -> bool {
+pub(crate) fn is_clash(picture: &Picture, number: usize, made: &CallRecord) -> bool {
     match &picture.refusal {
         None => false,
         Some(refusal) => clashes_in(&picture.keys, refusal, number, made),

@@ -11,7 +11,7 @@ use std::alloc::{AllocError, Global};
 /// What is drawn on a thread's row at a moment: a call begins, takes effect and changes the set, takes effect and changes
 /// nothing, ends.
 #[derive(Clone, Copy)]
-pub enum Sign {
+pub(crate) enum Sign {
     Begin(Call),
     Change,
     Fit,
@@ -20,14 +20,14 @@ pub enum Sign {
 
 /// A sign, and the thread on whose row it is drawn.
 #[derive(Clone, Copy)]
-pub struct Mark {
+pub(crate) struct Mark {
     pub thread: u32,
     pub sign: Sign,
 }
 
 /// What is drawn at a moment: the signs of the rows, the text of the set, if it is shown there, and its width in characters.
 #[derive(Drop)]
-pub struct Column {
+pub(crate) struct Column {
     pub moment: u32,
     pub marks: Vec<Mark>,
     pub set: String,
@@ -36,7 +36,7 @@ pub struct Column {
 
 /// Where something is: at moments before those that are drawn, after them, or at least in part at them.
 #[derive(Clone, Copy)]
-pub enum Side {
+pub(crate) enum Side {
     Before,
     Within,
     After,
@@ -45,7 +45,7 @@ pub enum Side {
 /// The columns of a picture, whether its points are known, the first and last moment that are drawn, and whether something
 /// happens before or after them.
 #[derive(Drop)]
-pub struct Drawing {
+pub(crate) struct Drawing {
     pub columns: Vec<Column>,
     pub known: bool,
     pub from: u32,
@@ -132,7 +132,7 @@ fn add_ended(marks: &mut Vec<Mark>, picture: &Picture, moment: u32) -> Result<()
 }
 
 /// Appends a call, such as `add 5`.
-pub fn put_call(out: &mut String, call: Call) -> Result<(), AllocError> {
+pub(crate) fn put_call(out: &mut String, call: Call) -> Result<(), AllocError> {
     let word = call_word(call);
     let key = call.key().0;
     write!(out, "{word} {key}")
@@ -156,7 +156,7 @@ fn put_sign(out: &mut String, sign: Sign) -> Result<(), AllocError> {
 }
 
 /// Appends the signs of a thread among those of a moment, such as `[add 5-*-`.
-pub fn put_signs(out: &mut String, marks: &[Mark], thread: u32) -> Result<(), AllocError> {
+pub(crate) fn put_signs(out: &mut String, marks: &[Mark], thread: u32) -> Result<(), AllocError> {
     for mark in marks {
         if mark.thread == thread {
             put_sign(out, mark.sign)?;
@@ -213,7 +213,11 @@ fn columns_at(
 }
 
 /// Returns what is drawn of a picture in a window. Allocates.
-pub fn drawing_in(alloc: Global, picture: &Picture, window: Window) -> Result<Drawing, AllocError> {
+pub(crate) fn drawing_in(
+    alloc: Global,
+    picture: &Picture,
+    window: Window,
+) -> Result<Drawing, AllocError> {
     let moments = moments_shown(alloc, picture, window)?;
     let columns = columns_at(alloc, picture, &moments)?;
     let mut drawing = Drawing {
@@ -229,7 +233,7 @@ pub fn drawing_in(alloc: Global, picture: &Picture, window: Window) -> Result<Dr
 }
 
 /// Ends a drawing with its last column.
-pub fn end_at_last(picture: &Picture, drawing: &mut Drawing) {
+pub(crate) fn end_at_last(picture: &Picture, drawing: &mut Drawing) {
     if let Some(column) = drawing.columns.last() {
         drawing.last = column.moment;
     }

@@ -6,7 +6,7 @@ use std::alloc::{AllocError, Global};
 
 /// Whether a moment, counted from 1, comes after the last one at which a call of the picture begins, takes effect or ends,
 /// so that a window from there has no column. Of a picture without calls no moment does.
-pub fn is_past_the_last(picture: &Picture, from: u32) -> bool {
+pub(crate) fn is_past_the_last(picture: &Picture, from: u32) -> bool {
     let is_empty = picture.history.calls().is_empty() && points_of(picture).is_empty();
     !is_empty && next_moment(picture, u64::from(from)).is_none()
 }
@@ -21,7 +21,7 @@ fn sooner(best: Option<u32>, from: u64, moment: u32) -> Option<u32> {
 }
 
 /// Returns the first moment, not before `from`, at which a call begins, takes effect or ends.
-pub fn next_moment(picture: &Picture, from: u64) -> Option<u32> {
+pub(crate) fn next_moment(picture: &Picture, from: u64) -> Option<u32> {
     let mut best = None;
     for made in picture.history.calls() {
         best = sooner(best, from, made.begun);
@@ -36,7 +36,7 @@ pub fn next_moment(picture: &Picture, from: u64) -> Option<u32> {
 }
 
 /// Returns the moments of a window that have a column.
-pub fn moments_shown(
+pub(crate) fn moments_shown(
     alloc: Global,
     picture: &Picture,
     window: Window,

@@ -14,7 +14,7 @@ fn put_counted(out: &mut String, count: usize, word: &str) -> Result<(), AllocEr
 }
 
 /// Appends the heading, such as `fine list, 2 threads, quota 4: 3 calls in 35 events`.
-pub fn put_heading(out: &mut String, picture: &Picture) -> Result<(), AllocError> {
+pub(crate) fn put_heading(out: &mut String, picture: &Picture) -> Result<(), AllocError> {
     let kind = kind_word(picture.kind);
     write!(out, "{kind} list, ")?;
     put_counted(out, picture.history.threads() as usize, "thread")?;
@@ -30,7 +30,11 @@ pub fn put_heading(out: &mut String, picture: &Picture) -> Result<(), AllocError
 
 /// Appends which moments are drawn, and which options draw those before and after them:
 /// `moments 20 to 33 of 35; --to 19 goes before; --from 34 goes on`.
-pub fn put_cut(out: &mut String, picture: &Picture, drawing: &Drawing) -> Result<(), AllocError> {
+pub(crate) fn put_cut(
+    out: &mut String,
+    picture: &Picture,
+    drawing: &Drawing,
+) -> Result<(), AllocError> {
     let first = drawing.from.max(1);
     let last = drawing.last;
     write!(out, "moments {first} to {last}")?;
@@ -161,7 +165,7 @@ fn put_order(out: &mut String, picture: &Picture, drawing: &Drawing) -> Result<(
 
 /// Appends what is below the rows: the order, as far as its points are drawn, with how many places are left out, and the
 /// remaining keys; `legend`, if there are points; and last, if an event of a schedule is refused, which.
-pub fn put_lines_below(
+pub(crate) fn put_lines_below(
     out: &mut String,
     picture: &Picture,
     drawing: &Drawing,

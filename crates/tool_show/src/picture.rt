@@ -36,12 +36,12 @@ impl Window {
 }
 
 /// Whether there is a point for each place of the order, and no refusal.
-pub fn are_known(picture: &Picture) -> bool {
+pub(crate) fn are_known(picture: &Picture) -> bool {
     picture.refusal.is_none() && picture.points.len() == picture.order.len()
 }
 
 /// Returns the points that are drawn.
-pub fn points_of(picture: &Picture) -> &[Point] {
+pub(crate) fn points_of(picture: &Picture) -> &[Point] {
     if are_known(picture) {
         &picture.points
     } else {
@@ -51,7 +51,7 @@ pub fn points_of(picture: &Picture) -> &[Point] {
 
 /// A place of the order with its call, if the history has it, and its point, if it is known.
 #[derive(Clone, Copy)]
-pub struct Standing {
+pub(crate) struct Standing {
     pub placed: Placed,
     pub made: Option<CallRecord>,
     pub point: Option<Point>,
@@ -66,7 +66,7 @@ fn standing_of(picture: &Picture, index: usize, placed: Placed) -> Standing {
 }
 
 /// Returns the place of the order with this index, from 0.
-pub fn standing_at(picture: &Picture, index: usize) -> Option<Standing> {
+pub(crate) fn standing_at(picture: &Picture, index: usize) -> Option<Standing> {
     let placed = picture.order.get(index)?;
     Some(standing_of(picture, index, *placed))
 }

@@ -111,7 +111,7 @@ fn put_reason(out: &mut String, refusal: &Refusal, told: &[u32]) -> Result<(), A
 }
 
 /// Appends a line that says why the order of a picture is refused; nothing if it is not.
-pub fn put_refusal(out: &mut String, picture: &Picture) -> Result<(), AllocError> {
+pub(crate) fn put_refusal(out: &mut String, picture: &Picture) -> Result<(), AllocError> {
     if let Some(refusal) = &picture.refusal {
         out.push_str("refused ")?;
         put_reason(out, refusal, &picture.keys)?;

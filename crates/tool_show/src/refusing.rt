@@ -114,7 +114,7 @@ fn wrong_reply(
 
 /// Returns why the order does not explain the calls of the history and leave the keys; `None` if it does. It takes about as long as
 /// `check_order`. Allocates; `AllocError` if that fails.
-pub fn why_refused(
+pub(crate) fn why_refused(
     alloc: Global,
     history: &History,
     order: &[Placed],

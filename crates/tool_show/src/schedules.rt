@@ -31,7 +31,7 @@ impl Task for Running<'_> {
 /// If an event is not enabled, it is the picture of the events before the first such one, with the number of its line and the
 /// cause (`NoThread`, `Busy` or `Idle`). Allocates; `AllocError` if that fails. (The pictures of Herlihy and Wing's histories,
 /// with their linearization points.)
-pub fn picture_of_replay(alloc: Global, schedule: &Schedule) -> Result<Picture, AllocError>
+pub(crate) fn picture_of_replay(alloc: Global, schedule: &Schedule) -> Result<Picture, AllocError>
     requires { IsSchedule (view schedule.now) }
 {
     let calls = on_list(schedule.kind, Running { alloc, schedule })?;

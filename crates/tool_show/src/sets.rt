@@ -7,14 +7,14 @@ use std::collections::BTreeSet;
 
 /// The set that the changes of the first places leave.
 #[derive(Drop)]
-pub struct Reached {
+pub(crate) struct Reached {
     keys: BTreeSet<u32>,
     /// How many places these are.
     next: usize,
 }
 
 /// Returns the set with which a history opens.
-pub fn reached_at_first(alloc: Global, picture: &Picture) -> Result<Reached, AllocError> {
+pub(crate) fn reached_at_first(alloc: Global, picture: &Picture) -> Result<Reached, AllocError> {
     let mut keys = BTreeSet::new(alloc);
     for key in picture.history.opening() {
         keys.insert(*key)?;
@@ -46,7 +46,11 @@ fn settled(standing: Standing, moment: u32) -> Option<Option<Call>> {
 }
 
 /// Makes the changes up to a moment.
-pub fn go_on(reached: &mut Reached, picture: &Picture, moment: u32) -> Result<(), AllocError> {
+pub(crate) fn go_on(
+    reached: &mut Reached,
+    picture: &Picture,
+    moment: u32,
+) -> Result<(), AllocError> {
     for index in reached.next..picture.order.len() {
         let Some(standing) = standing_at(picture, index) else {
             return Ok(());
@@ -86,14 +90,14 @@ fn first_keys(keys: &[u32]) -> &[u32] {
 }
 
 /// Appends a set, such as `{5,9}`.
-pub fn put_set(out: &mut String, keys: &[u32]) -> Result<(), AllocError> {
+pub(crate) fn put_set(out: &mut String, keys: &[u32]) -> Result<(), AllocError> {
     out.push_str("{")?;
     put_keys(out, ",", first_keys(keys), keys.len())?;
     out.push_str("}")
 }
 
 /// Returns the text of the set that was reached. It reads no more keys than are shown.
-pub fn set_text(alloc: Global, reached: &Reached) -> Result<String, AllocError> {
+pub(crate) fn set_text(alloc: Global, reached: &Reached) -> Result<String, AllocError> {
     let mut first = Vec::new(alloc);
     let mut others = reached.keys.iter();
     for _taken in 0..MOST_KEYS_SHOWN {
@@ -109,7 +113,7 @@ pub fn set_text(alloc: Global, reached: &Reached) -> Result<String, AllocError> 
 }
 
 /// Appends the line of the remaining keys, such as `keys  5 9`.
-pub fn put_keys_line(out: &mut String, keys: &[u32]) -> Result<(), AllocError> {
+pub(crate) fn put_keys_line(out: &mut String, keys: &[u32]) -> Result<(), AllocError> {
     out.push_str("keys")?;
     if !keys.is_empty() {
         out.push_str("  ")?;

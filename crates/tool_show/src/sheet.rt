@@ -8,19 +8,19 @@ const THREADS: [&str; 8] = [
 ];
 
 /// Returns the class of the elements of a thread.
-pub fn thread_class(thread: u32) -> &'static str {
+pub(crate) fn thread_class(thread: u32) -> &'static str {
     THREADS[(thread % 8) as usize]
 }
 
 /// A place on the sheet, by its distances from the left and from the top, in pixels of the SVG.
 #[derive(Clone, Copy)]
-pub struct Spot {
+pub(crate) struct Spot {
     pub x: u64,
     pub y: u64,
 }
 
 /// Returns the distance of a moment from the left: it is after the columns of earlier moments.
-pub fn x_of(columns: &[Column], moment: u64) -> u64 {
+pub(crate) fn x_of(columns: &[Column], moment: u64) -> u64 {
     let mut x = 88u64;
     for column in columns {
         if u64::from(column.moment) < moment {
@@ -31,22 +31,22 @@ pub fn x_of(columns: &[Column], moment: u64) -> u64 {
 }
 
 /// Returns the distance of the columns' end from the left.
-pub fn right_edge(columns: &[Column]) -> u64 {
+pub(crate) fn right_edge(columns: &[Column]) -> u64 {
     x_of(columns, 4_294_967_296)
 }
 
 /// Returns the distance of a thread's row from the top; the row of the set is below the last one.
-pub fn lane_y(thread: u32) -> u64 {
+pub(crate) fn lane_y(thread: u32) -> u64 {
     40 * u64::from(thread) + 90
 }
 
 /// Returns the distance from the top of a line of text below the rows.
-pub fn line_y(threads: u32, number: usize) -> u64 {
+pub(crate) fn line_y(threads: u32, number: usize) -> u64 {
     40 * u64::from(threads) + 126 + 16 * number.min(1_000_000) as u64
 }
 
 /// Appends a text of these classes that begins at a place.
-pub fn put_text(
+pub(crate) fn put_text(
     out: &mut String,
     class: &str,
     clash: &str,
@@ -61,12 +61,17 @@ pub fn put_text(
 }
 
 /// Appends a text that belongs to no thread.
-pub fn put_plain(out: &mut String, x: u64, y: u64, text: &str) -> Result<(), AllocError> {
+pub(crate) fn put_plain(out: &mut String, x: u64, y: u64, text: &str) -> Result<(), AllocError> {
     put_text(out, "plain", "", Spot { x, y }, text)
 }
 
 /// Appends a line of a class between two places.
-pub fn put_line(out: &mut String, class: &str, start: Spot, end: Spot) -> Result<(), AllocError> {
+pub(crate) fn put_line(
+    out: &mut String,
+    class: &str,
+    start: Spot,
+    end: Spot,
+) -> Result<(), AllocError> {
     let Spot { x, y } = start;
     let Spot { x: x2, y: y2 } = end;
     writeln!(
@@ -76,7 +81,7 @@ pub fn put_line(out: &mut String, class: &str, start: Spot, end: Spot) -> Result
 }
 
 /// Appends a circle of these classes around a place.
-pub fn put_circle(
+pub(crate) fn put_circle(
     out: &mut String,
     kind: &str,
     class: &str,

@@ -256,7 +256,11 @@ fn put_below(out: &mut String, threads: u32, below: &str) -> Result<(), AllocErr
 /// A point is a circle, filled if the set changes, with a thin line down to the set. Below is the order as text. The style
 /// sheet has a dark ground for readers who prefer one; nothing in it is a script or a reference to anything outside.
 /// Allocates; `AllocError` if that fails.
-pub fn write_svg(alloc: Global, picture: &Picture, window: Window) -> Result<Vec<u8>, AllocError> {
+pub(crate) fn write_svg(
+    alloc: Global,
+    picture: &Picture,
+    window: Window,
+) -> Result<Vec<u8>, AllocError> {
     let mut drawing = drawing_in(alloc, picture, window)?;
     if let Some(window) = drawing.window_of_clash(picture, window) {
         drawing = drawing_in(alloc, picture, window)?;

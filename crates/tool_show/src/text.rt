@@ -207,7 +207,7 @@ fn put_drawn_rows(
 /// happens, and only as many as let each row have at most `width` characters, but at least one. If a window of all moments
 /// is not drawn whole, it begins, of a refused order, with the call that the refusal is about. Allocates; `AllocError` if
 /// that fails. (The picture with bars and points is Herlihy and Wing's.)
-pub fn write_picture(
+pub(crate) fn write_picture(
     alloc: Global,
     picture: &Picture,
     window: Window,

@@ -5,7 +5,7 @@ use lset_words::MOST_OPENING;
 use std::alloc::{AllocError, Global};
 
 /// Appends a line `key K` for each key. `AllocError` if an allocation fails.
-pub fn put_keys(out: &mut String, keys: &[u32]) -> Result<(), AllocError> {
+pub(crate) fn put_keys(out: &mut String, keys: &[u32]) -> Result<(), AllocError> {
     for key in keys {
         writeln!(out, "key {key}")?;
     }

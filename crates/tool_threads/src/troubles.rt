@@ -4,7 +4,7 @@ use lset_work::WorkCause;
 use tool_base::{SystemCause, Trouble, ValueName};
 
 /// The error of a set that is not opened. Its seats and quota were read, so they are within the limits.
-pub fn opening_trouble(fault: OpenFault) -> Trouble {
+pub(crate) fn opening_trouble(fault: OpenFault) -> Trouble {
     match fault {
         OpenFault::Seats => Trouble::Bad(ValueName::Threads),
         OpenFault::Quota => Trouble::Bad(ValueName::Quota),
@@ -14,7 +14,7 @@ pub fn opening_trouble(fault: OpenFault) -> Trouble {
 }
 
 /// The error of programs that were not run to their ends.
-pub fn work_trouble(cause: WorkCause) -> Trouble {
+pub(crate) fn work_trouble(cause: WorkCause) -> Trouble {
     match cause {
         WorkCause::Programs => Trouble::Work(SystemCause::Programs),
         WorkCause::Spawn => Trouble::Work(SystemCause::Spawn),
@@ -24,7 +24,7 @@ pub fn work_trouble(cause: WorkCause) -> Trouble {
 }
 
 /// The error of sessions that were not served to their ends.
-pub fn serve_trouble(cause: ServeCause) -> Trouble {
+pub(crate) fn serve_trouble(cause: ServeCause) -> Trouble {
     match cause {
         ServeCause::Seats => Trouble::Serve(SystemCause::Seats),
         ServeCause::Accept => Trouble::Serve(SystemCause::Accept),

@@ -64,7 +64,7 @@ pub enum Fault {
     Seats = 10,
     /// The quota is above 16,384.
     Quota,
-    /// The keys do not rise, or are more than 1,048,576.
+    /// The keys do not increase, or are more than 1,048,576.
     Keys,
     /// Memory was refused.
     Memory,

@@ -55,7 +55,7 @@ export function verdictOnLacking(ask, lacks, schedule) {
 // Why no order explains a report, in words: the key, the event after which it is there or is not, and the few calls that have no order
 // from there.
 function whyNone(text, { key, moment, since, isThere, calls }) {
-  if (key === null) return "no order leaves these keys, which do not rise";
+  if (key === null) return "no order leaves these keys, which do not increase";
   const isLeft = moment === null;
   const exercise = readReport(text);
   if (isLeft && isLost(exercise, key)) return `${key} was added once and never removed, and at the end the set does not have it`;

@@ -45,7 +45,7 @@ const isInWords = (isThere) => `the key is ${isThere ? "there" : "not there"}`;
 
 // Why no order explains the calls of a key, in sentences.
 export function reasonsOf({ key, moment, since, isThere, by, calls, hidden }) {
-  if (key === null) return ["No order leaves these keys, which do not rise."];
+  if (key === null) return ["No order leaves these keys, which do not increase."];
   const isLeft = moment === null;
   const said = [`No order explains the calls of key ${key} ${isLeft ? "and leaves it as it was left" : `up to moment ${moment}`}.`];
   if (since === null) return said;

@@ -10,7 +10,7 @@ use std::alloc::{AllocError, Global};
 
 /// The calls of a report that were read so far, and what decides whether a call may follow them.
 #[derive(Drop)]
-pub struct CallsSoFar {
+pub(crate) struct CallsSoFar {
     /// The calls, of a set that opens empty.
     pub history: History,
     /// When the last call began; 0 before the first one.
@@ -40,7 +40,7 @@ fn is_open(made: CallRecord) -> bool
 }
 
 impl CallsSoFar {
-    /// Returns no calls, of `threads` threads with `quota` slots each. Allocates.
+    /// Returns no calls, of `threads` threads with a quota of `quota` each. Allocates.
     pub fn new(alloc: Global, threads: u32, quota: u32) -> Result<CallsSoFar, AllocError>
         requires { IsWithin (record { threads = threads; quota = quota; opening = 0 }) }
         ensures tracks { IfOk result (λ s. Tracks s) }

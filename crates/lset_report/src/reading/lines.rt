@@ -175,7 +175,7 @@ fn end(word: &[u8]) -> Result<Line, Cause>
 }
 
 /// Reads a line of a report of a version that has come to a section.
-pub fn line_of_report(version: Version, section: Section, line: &[u8]) -> Result<Line, Cause>
+pub(crate) fn line_of_report(version: Version, section: Section, line: &[u8]) -> Result<Line, Cause>
     ensures { result ≡ line_in version Cause.Line (kinds version section) line.now }
 {
     let Some((word, rest)) = cut(line, b' ') else {

@@ -1,4 +1,4 @@
-//! A piece of a text that is being written, with room for the longest line of an event and more: it asks for no memory.
+//! A piece of a text that is being written, with room for the longest line of an event and more: it does not allocate.
 use arrayvec::ArrayString;
 use itoa::Buffer;
 
@@ -9,10 +9,10 @@ const ROOM: usize = 16_384;
 const MOST_OF_LINE: usize = 1_024;
 
 /// A piece of a text.
-pub type Chunk = ArrayString<ROOM>;
+pub(crate) type Chunk = ArrayString<ROOM>;
 
 /// Whether a chunk has no space for a further line.
-pub fn is_full(chunk: &Chunk) -> bool {
+pub(crate) fn is_full(chunk: &Chunk) -> bool {
     ROOM - MOST_OF_LINE < chunk.as_str().len()
 }
 
@@ -20,7 +20,7 @@ pub fn put(chunk: &mut Chunk, text: &str) {
     let _whole = chunk.try_push_str(text);
 }
 
-pub fn put_number(chunk: &mut Chunk, number: u64) {
+pub(crate) fn put_number(chunk: &mut Chunk, number: u64) {
     let mut digits = Buffer::new();
     put(chunk, digits.format(number));
 }

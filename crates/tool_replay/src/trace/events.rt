@@ -128,7 +128,7 @@ fn put_end(out: &mut Chunk, number: Option<u32>, end: CallEnd) {
 }
 
 /// Appends the line of an event.
-pub fn put_event(out: &mut Chunk, event: &TracedEvent) {
+pub(crate) fn put_event(out: &mut Chunk, event: &TracedEvent) {
     let made = event.made;
     put(out, "event ");
     put_number(out, u64::from(made.moment));

@@ -28,7 +28,7 @@ impl Sink for Vec<u8> {
 
 /// What is written to an output.
 #[derive(Drop)]
-pub struct Output<'a, W> {
+pub(crate) struct Output<'a, W> {
     pub output: &'a mut W,
 }
 
@@ -44,7 +44,7 @@ impl<W: Write> Sink for Output<'_, W> {
 
 /// Returns what a trace has before its first event: its header, in which a check that the list lacks comes after it, and the
 /// keys with which the set opens, which are the first chain.
-pub fn head_of(
+pub(crate) fn head_of(
     alloc: Global,
     schedule: &Schedule,
     lacks: Option<&str>,

@@ -77,7 +77,7 @@ fn trace_named<S: Sink>(
 
 /// Traces the schedule whose text this is into the sink, and returns the status: 1 if the run ends at an event that it cannot
 /// make, else 0.
-pub fn trace_into<S: Sink>(
+pub(crate) fn trace_into<S: Sink>(
     alloc: Global,
     options: Trace,
     text: &[u8],

@@ -6,7 +6,7 @@ const ABOVE_ALL_KEYS: u64 = 4_294_967_297;
 
 /// A word of a list's table: one of the three of the list, or one of the three of the node with this number.
 #[derive(Clone, Copy)]
-pub enum TableWord {
+pub(crate) enum TableWord {
     ListLock,
     Threads,
     Quota,
@@ -34,7 +34,7 @@ impl TableWord {
     }
 }
 
-pub fn put_node(out: &mut Chunk, node: u64) {
+pub(crate) fn put_node(out: &mut Chunk, node: u64) {
     match node {
         0 => put(out, "head"),
         1 => put(out, "tail"),
@@ -45,7 +45,7 @@ pub fn put_node(out: &mut Chunk, node: u64) {
     }
 }
 
-pub fn put_key(out: &mut Chunk, word: u64) {
+pub(crate) fn put_key(out: &mut Chunk, word: u64) {
     match word {
         0 => put(out, "-inf"),
         ABOVE_ALL_KEYS => put(out, "+inf"),
@@ -71,7 +71,7 @@ fn put_lock(out: &mut Chunk, word: u64) {
 }
 
 /// Appends the name of a word, such as `n2.link`.
-pub fn put_name(out: &mut Chunk, word: TableWord) {
+pub(crate) fn put_name(out: &mut Chunk, word: TableWord) {
     let (node, field) = match word {
         TableWord::ListLock => return put(out, "list.lock"),
         TableWord::Threads => return put(out, "list.threads"),
@@ -85,7 +85,7 @@ pub fn put_name(out: &mut Chunk, word: TableWord) {
 }
 
 /// Appends a value of a word: of a link the next node, with a star if it is marked.
-pub fn put_value(out: &mut Chunk, word: TableWord, value: u64) {
+pub(crate) fn put_value(out: &mut Chunk, word: TableWord, value: u64) {
     match word {
         TableWord::Key(_) => put_key(out, value),
         TableWord::Link(_) => put_link(out, value),

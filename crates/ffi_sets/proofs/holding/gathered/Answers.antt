@@ -1,6 +1,6 @@
 use Rattle.std.proofs.Common.{◌≡◌, length, refl, ap, arith}
 use Rattle.std.specs.Vec.Iter.{into_iter_items}
-use Rattle.lset_live.proofs.Handing.{all_rest}
+use Rattle.lset_live.proofs.ListsHandedOn.{all_rest}
 use Rattle.ffi_sets.proofs.holding.gathered.Goals as goal
 
 pub loop-other-init : goal.loop-other-init

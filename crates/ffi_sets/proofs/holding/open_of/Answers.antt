@@ -1,6 +1,6 @@
 use Rattle.std.proofs.Common.{◌≡◌, ◌∙◌, IfSome, sym, subst}
 use Rattle.ffi_sets.specs.Facts.{AreOf}
-use Rattle.ffi_sets.proofs.Adding.{opened_are}
+use Rattle.ffi_sets.proofs.OpenedSeats.{opened_are}
 use Rattle.ffi_sets.proofs.holding.open_of.Goals as goal
 
 pub invariant_of-result : goal.invariant_of-result

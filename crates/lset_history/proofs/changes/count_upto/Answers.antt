@@ -1,5 +1,5 @@
 use Rattle.std.proofs.Common.{◌≡◌, ◌+◌, ◌-◌, ◌/◌, ◌^◌, ◌<◌, ◌≤◌, length, get_or, subst, arith, rules}
-use Rattle.lset_history.proofs.Counting.{halved, half_needed, no_look_left, below_rises}
+use Rattle.lset_history.proofs.MomentSearch.{halved, half_needed, no_look_left, below_increases}
 use Rattle.lset_history.proofs.changes.count_upto.Goals as goal
 use Rattle.lset_history.proofs.changes.count_upto.Goals.{then-moments-middle, else-moments-middle}
 
@@ -20,7 +20,7 @@ loop-low-preserved c =
           record {
             inside = omega arith;
             ordered = omega arith;
-            upto = grind (arith, below_rises);
+            upto = grind (arith, below_increases);
             past = λ i l m. c.loop-low.invariant.past i (omega arith) m;
             looked = λ b l m. let old = c.loop-low.invariant.looked b l m in
                 let few : c.loop-low.looked ≤ b = old.0 in
@@ -39,7 +39,7 @@ loop-low-preserved c =
             inside = omega arith;
             ordered = omega arith;
             upto = λ i l. c.loop-low.invariant.upto i (omega arith);
-            past = grind (arith, below_rises);
+            past = grind (arith, below_increases);
             looked = λ b l m. let old = c.loop-low.invariant.looked b l m in
                 let few : c.loop-low.looked ≤ b = old.0 in
                 let h = halved (b - c.loop-low.looked) c.loop-low.low c.loop-low.high c.if-moments-middle.low

@@ -2,7 +2,7 @@ use Rattle.std.proofs.Common.{◌++◌, ◌∷◌, [], Some, sym, refl, subst, a
 use Rattle.std.specs.Ordering.{nat_cmp}
 use Rattle.std.specs.BTreeMap.{is_at, UpdatesBy}
 use Rattle.std.proofs.lemmas.Result.{MatchResult-from_err}
-use Rattle.lset_history.proofs.Noting.{noted_map, same_items, items_in, shown}
+use Rattle.lset_history.proofs.ChangeNoted.{noted_map, same_items, items_in, shown}
 use Rattle.lset_history.proofs.changes.push_moment.Goals as goal
 
 -- one more moment for a key that has some

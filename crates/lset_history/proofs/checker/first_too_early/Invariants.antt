@@ -1,10 +1,10 @@
 use Rattle.std.proofs.Common.{◌≤◌, length}
-use Rattle.lset_history.proofs.Early.{FindsEarly, EndsLeast}
+use Rattle.lset_history.proofs.EarlyCalls.{FindsEarly, EndsSmallest}
 use Rattle.lset_history.proofs.checker.first_too_early.Given as goal
 
 abbrev pub invariant-loop-i : goal.invariant-loop-i
 invariant-loop-i l = record {
   in_range : l.i ≤ length l.order;
-  least : EndsLeast l.calls l.order l.i l.least_end;
+  smallest : EndsSmallest l.calls l.order l.i l.smallest_end;
   found : FindsEarly l.calls l.order l.i l.early;
 }

@@ -1,6 +1,6 @@
 use Rattle.std.proofs.Common.{◌∙◌, sym, refl, arith, below_more}
 use Rattle.lset_history.specs.Faults.{place_at}
-use Rattle.lset_history.proofs.Places.{stands_earlier, stands_nowhere, marks_more}
+use Rattle.lset_history.proofs.EarlierPlaces.{stands_earlier, stands_nowhere, marks_more}
 use Rattle.lset_history.proofs.checker.first_twice.Goals as goal
 
 pub returns-then-placed-place-clause-once : goal.returns-then-placed-place-clause-once

@@ -3,7 +3,7 @@ use Rattle.std.proofs.lemmas.Bool.{MatchBool-at_true, MatchBool-at_false}
 use Rattle.std.proofs.lemmas.List.{get_or_default}
 use Rattle.lset_words.specs.History.{no_call}
 use Rattle.lset_history.specs.Faults.{place_at}
-use Rattle.lset_history.proofs.Places.{reply_there, other_reply_there, goes_on_there, replies_more, right_before}
+use Rattle.lset_history.proofs.EarlierPlaces.{reply_there, other_reply_there, goes_on_there, replies_more, right_before}
 use Rattle.lset_history.proofs.checker.first_wrong_reply.Goals as goal
 
 pub returns-then-not-branch-clause-answers : goal.returns-then-not-branch-clause-answers

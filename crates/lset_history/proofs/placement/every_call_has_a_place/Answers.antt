@@ -1,5 +1,5 @@
 use Rattle.lset_history.specs.Laws.{contents_of_lists}
-use Rattle.lset_history.proofs.Placing.{has_placement}
+use Rattle.lset_history.proofs.UniquePlacement.{has_placement}
 use Rattle.lset_history.proofs.placement.every_call_has_a_place.Goals as goal
 
 pub returns : goal.returns

@@ -1,5 +1,5 @@
 use Rattle.lset_history.specs.Laws.{contents_of_lists}
-use Rattle.lset_history.proofs.Placing.{placement_once}
+use Rattle.lset_history.proofs.UniquePlacement.{placement_once}
 use Rattle.lset_history.proofs.placement.placement_is_one_order.Goals as goal
 
 pub returns : goal.returns

@@ -4,9 +4,9 @@ use Rattle.lset_words.specs.Log.{Log, calls_at}
 use Rattle.lset_words.specs.Account.{Counts, Account}
 use Rattle.lset_words.specs.Placement.{IsPlacement}
 use Rattle.lset_history.specs.Laws.{contents_of_lists, HasKeysOf, set_of_order}
-use Rattle.lset_words.proofs.RisingLists.{increasing_from_rises}
-use Rattle.lset_history.proofs.States.{Shows}
-use Rattle.lset_history.proofs.Linearizing.{linearizes, leaves_set, leaves_keys}
+use Rattle.lset_words.proofs.IncreasingLists.{increasing_from_increases}
+use Rattle.lset_history.proofs.SetStates.{Shows}
+use Rattle.lset_history.proofs.PlacementTheorem.{linearizes, leaves_set, leaves_keys}
 use Rattle.lset_history.proofs.placement.placement_linearizes.Goals as goal
 use Rattle.lset_words.specs.Words.{Opening}
 
@@ -18,7 +18,7 @@ has_keys op last log lists counts order a p =
     let w : Shows op.threads (contents_of_lists lists last) (counts last) (set_of_order op log last order) =
     leaves_set op last log (contents_of_lists lists) counts order a p in
     record {
-      rising = increasing_from_rises 0 (set_of_order op log last order).keys w.rising;
+      increasing = increasing_from_increases 0 (set_of_order op log last order).keys w.increasing;
       members = w.keys;
       alone = leaves_keys op last log (contents_of_lists lists) counts order a p;
     }

@@ -1,7 +1,7 @@
 use Rattle.std.proofs.Common.{List, ap, ◌∙◌, subst}
 use Rattle.lset_judge.specs.declared.asked.Part.{Part}
 use Rattle.lset_judge.specs.Window.{asked_of, calls_of, HaveNoneOf}
-use Rattle.lset_judge.proofs.Windows.{hidden_calls}
+use Rattle.lset_judge.proofs.WindowOfKey.{hidden_calls}
 use Rattle.lset_judge.proofs.asked.leave_out.Goals as goal
 
 pub returns-then-branch-clause-same : goal.returns-then-branch-clause-same

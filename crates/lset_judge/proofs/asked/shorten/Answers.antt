@@ -1,5 +1,5 @@
 use Rattle.std.proofs.Common.{refl, ◌∙◌}
-use Rattle.lset_judge.proofs.Windows.{same_length}
+use Rattle.lset_judge.proofs.WindowOfKey.{same_length}
 use Rattle.lset_judge.proofs.asked.shorten.Goals as goal
 
 pub loop-size-init : goal.loop-size-init

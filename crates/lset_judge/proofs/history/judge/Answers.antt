@@ -9,7 +9,7 @@ use Rattle.lset_judge.specs.Verdict.{IsExplained, is_plain}
 use Rattle.lset_judge.specs.Judge.{IsJudgeOf, IsVerdict}
 use Rattle.lset_judge.specs.Reading.{read_as}
 use Rattle.lset_words.specs.History.{IsHistory}
-use Rattle.lset_judge.proofs.Reread.{next_may, next_early, next_thread, first_early, read_explains, reread, plain_read}
+use Rattle.lset_judge.proofs.OrderAsRead.{next_may, next_early, next_thread, first_early, read_explains, reread, plain_read}
 use Rattle.lset_judge.proofs.history.judge.Goals as goal
 
 pub loop-call-init : goal.loop-call-init

@@ -1,5 +1,5 @@
 use Rattle.lset_judge.specs.Log.{log_of}
-use Rattle.lset_judge.proofs.Windows.{tells_stream}
+use Rattle.lset_judge.proofs.WindowOfKey.{tells_stream}
 use Rattle.lset_judge.proofs.judging.window_for.Goals as goal
 
 pub returns : goal.returns

@@ -6,13 +6,13 @@ use Rattle.std.proofs.lemmas.List.{get_or_default}
 use Rattle.std.proofs.lemmas.List.Sorted.{searched}
 use Rattle.lset_words.specs.SequentialSet.{has_key}
 use Rattle.lset_words.proofs.Numbers.{below_or_not}
-use Rattle.lset_history.proofs.Counting.{below_rises}
+use Rattle.lset_history.proofs.MomentSearch.{below_increases}
 use Rattle.lset_history.proofs.Keys.{has_true, has_false}
 use Rattle.lset_judge.proofs.keys.is_among.Goals as goal
 
 among : (keys : List ℕ) (k : ℕ) (r : Result ℕ ℕ) → IsStrictlyIncreasing keys → IsBinarySearchResult (λ y. nat_cmp y k) keys r
     → is_ok r ≡ has_key k keys
-among keys k r up found = by r (searched keys k r found (below_rises keys up))
+among keys k r up found = by r (searched keys k r found (below_increases keys up))
   where
     by : (r : Result ℕ ℕ) → MatchResult r (λ i. (i < length keys) × (get_or keys i 0 ≡ k))
         (λ i. (i ≤ length keys) × ((j : ℕ) → j < i → get_or keys j 0 < k) × ((j : ℕ) → i ≤ j → j < length keys → k < get_or keys j 0))

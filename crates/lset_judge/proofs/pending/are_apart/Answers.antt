@@ -2,7 +2,7 @@ use Rattle.std.proofs.Common.{sym, ◌∙◌, ap}
 use Rattle.std.specs.Prelude.{is_some}
 use Rattle.std.specs.BTreeMap.{get}
 use Rattle.std.specs.Ordering.{nat_cmp}
-use Rattle.lset_judge.proofs.Pendings.{apart_told, taken_told}
+use Rattle.lset_judge.proofs.PendingFound.{apart_told, taken_told}
 use Rattle.lset_judge.proofs.pending.are_apart.Goals as goal
 
 pub returns-then-not-is_end : goal.returns-then-not-is_end

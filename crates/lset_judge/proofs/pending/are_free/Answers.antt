@@ -1,7 +1,7 @@
 use Rattle.std.proofs.Common.{sym, ◌∙◌, ap, refl}
 use Rattle.std.specs.Prelude.{is_some}
 use Rattle.std.specs.Option.{option_copied}
-use Rattle.lset_judge.proofs.Pendings.{free_unknown, free_early, free_over, free_told}
+use Rattle.lset_judge.proofs.PendingFound.{free_unknown, free_early, free_over, free_told}
 use Rattle.lset_judge.proofs.pending.are_free.Goals as goal
 
 pub returns-in_default : goal.returns-in_default

@@ -1,7 +1,7 @@
 use Rattle.std.proofs.Common.{sym, ap, ◌∙◌}
 use Rattle.std.proofs.lemmas.List.{take_all}
 use Rattle.lset_judge.specs.Log.{waiting_of}
-use Rattle.lset_judge.proofs.Logging.{waiting_in, waiting_out}
+use Rattle.lset_judge.proofs.LogOfKey.{waiting_in, waiting_out}
 use Rattle.lset_judge.proofs.pending.few_of_key.Goals.{then-is_of+in_ok-push, else-is_of}
 use Rattle.lset_judge.proofs.pending.few_of_key.Goals as goal
 

@@ -6,5 +6,5 @@ abbrev pub invariant-loop-i : goal.invariant-loop-i
 invariant-loop-i l = record {
   inside : (l.place < l.i) × (l.i ≤ length l.few);
   at_it : (d : Pending) → (get_or l.few l.place d).end ≡ l.end;
-  least : (d : Pending) (k : ℕ) → k < l.i → l.end ≤ (get_or l.few k d).end;
+  smallest : (d : Pending) (k : ℕ) → k < l.i → l.end ≤ (get_or l.few k d).end;
 }

@@ -1,7 +1,7 @@
 use Rattle.lset_judge.specs.Rule.{opened}
 use Rattle.lset_judge.specs.Stream.{state_or}
 use Rattle.lset_judge.specs.Log.{log_or, log_opened}
-use Rattle.lset_judge.proofs.States.{seen_more}
+use Rattle.lset_judge.proofs.KeyStates.{seen_more}
 use Rattle.lset_judge.proofs.stream.opening_states.Goals as goal
 
 pub loop-key-preserved : goal.loop-key-preserved

@@ -1,6 +1,6 @@
 use Rattle.std.proofs.Common.{refl, ◌∙◌}
 use Rattle.std.proofs.lemmas.List.{take_all}
-use Rattle.lset_judge.proofs.Windows.{parts_more}
+use Rattle.lset_judge.proofs.WindowOfKey.{parts_more}
 use Rattle.lset_judge.proofs.window.parts_of.Goals as goal
 
 pub loop-call-preserved : goal.loop-call-preserved

@@ -2,7 +2,7 @@ use Rattle.std.proofs.Common.{◌∙◌, List, ap, refl, subst, sym}
 use Rattle.lset_judge.specs.declared.asked.Part.{Part}
 use Rattle.lset_judge.specs.Log.{log_of}
 use Rattle.lset_judge.specs.Window.{asked_of, shown_of, HaveNoneOf, IsWindowOf}
-use Rattle.lset_judge.proofs.Windows.{window_is}
+use Rattle.lset_judge.proofs.WindowOfKey.{window_is}
 use Rattle.lset_judge.proofs.window.window_at.Goals as goal
 
 pub returns : goal.returns

@@ -1,5 +1,5 @@
 use Rattle.lset_judge.specs.Log.{log_of}
-use Rattle.lset_judge.proofs.Windows.{rest_of_entry, rest_of_base}
+use Rattle.lset_judge.proofs.WindowOfKey.{rest_of_entry, rest_of_base}
 use Rattle.lset_judge.proofs.window.window_of.Goals as goal
 
 pub window_at-requires : goal.window_at-requires

@@ -9,8 +9,8 @@ use Rattle.lset_rule.specs.declared.view.Past.{Fresh}
 use Rattle.atomic_table.specs.Table as T
 use Rattle.lset_rule.specs.Rule.{Holds, opener, left_view, right_view}
 use Rattle.lset_rule.specs.OwnSlots.{slots_of}
-use Rattle.lset_rule.proofs.Opens.{spare, IsNew}
-use Rattle.lset_rule.proofs.Opens.{opens, opening_length, spare_all, cut_left, cut_right, spare_some, spare_none, new_seat}
+use Rattle.lset_rule.proofs.RuleAtOpening.{spare, IsNew}
+use Rattle.lset_rule.proofs.RuleAtOpening.{opens, opening_length, spare_all, cut_left, cut_right, spare_some, spare_none, new_seat}
 use Rattle.std.specs.List.{range_with_len}
 use Rattle.lset_live.specs.Seats.{new_seat as seat_of_thread}
 use Rattle.lset_live.proofs.NewSeats.{value_of, opened, seats_more}
@@ -18,10 +18,10 @@ use Rattle.lset_live.proofs.opening.open_on.Goals as goal
 
 opens_so : (sz : Sizes) (keys : List ℕ) → length keys ≡ sz.opening → IsWithin sz → IsStrictlyIncreasing keys
     → All (λ (k : ℕ). k < 2 ^ 32) keys → Opens (opening_of sz keys)
-opens_so sz keys many within rising low = record {
+opens_so sz keys many within increasing low = record {
   within = subst (λ (z : Sizes). IsWithin z) (λ i. record { threads = sz.threads; quota = sz.quota; opening = sym many i })
       within;
-  rising = rising;
+  increasing = increasing;
   low = low;
 }
 
@@ -37,7 +37,7 @@ sizes_so sz keys n q m a b e many = λ i. record { threads = sym a i; quota = sy
 pub of_words-requires : goal.of_words-requires
 of_words-requires g c =
     let k : Opening = opening_of c.args.layout c.args.keys.now in
-    let so : Opens k = opens_so c.args.layout c.args.keys.now c.requires.many c.threads-threads.ensures.within c.requires.rising
+    let so : Opens k = opens_so c.args.layout c.args.keys.now c.requires.many c.threads-threads.ensures.within c.requires.increasing
     c.in_ok-words.ensures.low in
     let shape : c.new-shape.result ≡ k = c.new-shape.ensures ∙ shape_so c.args.layout c.args.keys.now c.threads-threads.result
     c.quota-quota.result _ c.threads-threads.ensures.value c.quota-quota.ensures.value c.in_ok-copied.ensures.items in
@@ -61,7 +61,7 @@ loop-t-init g c = let e = c.in_ok-table.ensures in (
 pub invariant_of-set-inside : goal.invariant_of-set-inside
 invariant_of-set-inside g c =
     let k : Opening = opening_of c.args.layout c.args.keys.now in
-    let so : Opens k = opens_so c.args.layout c.args.keys.now c.requires.many c.threads-threads.ensures.within c.requires.rising
+    let so : Opens k = opens_so c.args.layout c.args.keys.now c.requires.many c.threads-threads.ensures.within c.requires.increasing
     c.in_ok-words.ensures.low in
     let shape : c.new-shape.result ≡ k = c.new-shape.ensures ∙ shape_so c.args.layout c.args.keys.now c.threads-threads.result
     c.quota-quota.result _ c.threads-threads.ensures.value c.quota-quota.ensures.value c.in_ok-copied.ensures.items in
@@ -79,7 +79,7 @@ invariant_of-set-inside g c =
 pub split_off-place-requires-clause-place : goal.split_off-place-requires-clause-place
 split_off-place-requires-clause-place g c = let i = c.loop-t.invariant in
     let k : Opening = opening_of c.args.layout c.args.keys.now in
-    let so : Opens k = opens_so c.args.layout c.args.keys.now c.requires.many c.threads-threads.ensures.within c.requires.rising
+    let so : Opens k = opens_so c.args.layout c.args.keys.now c.requires.many c.threads-threads.ensures.within c.requires.increasing
     c.in_ok-words.ensures.low in
     let shape : c.new-shape.result ≡ k = c.new-shape.ensures ∙ shape_so c.args.layout c.args.keys.now c.threads-threads.result
     c.quota-quota.result _ c.threads-threads.ensures.value c.quota-quota.ensures.value c.in_ok-copied.ensures.items in
@@ -108,7 +108,7 @@ pub invariant_of-push : goal.invariant_of-push
 invariant_of-push g c =
     let i = c.loop-t.invariant in
     let k : Opening = opening_of c.args.layout c.args.keys.now in
-    let so : Opens k = opens_so c.args.layout c.args.keys.now c.requires.many c.threads-threads.ensures.within c.requires.rising
+    let so : Opens k = opens_so c.args.layout c.args.keys.now c.requires.many c.threads-threads.ensures.within c.requires.increasing
     c.in_ok-words.ensures.low in
     let shape : c.new-shape.result ≡ k = c.new-shape.ensures ∙ shape_so c.args.layout c.args.keys.now c.threads-threads.result
     c.quota-quota.result _ c.threads-threads.ensures.value c.quota-quota.ensures.value c.in_ok-copied.ensures.items in
@@ -148,7 +148,7 @@ pub invariant_of-push-2 : goal.invariant_of-push-2
 invariant_of-push-2 g c =
     let i = c.loop-t.invariant in
     let k : Opening = opening_of c.args.layout c.args.keys.now in
-    let so : Opens k = opens_so c.args.layout c.args.keys.now c.requires.many c.threads-threads.ensures.within c.requires.rising
+    let so : Opens k = opens_so c.args.layout c.args.keys.now c.requires.many c.threads-threads.ensures.within c.requires.increasing
     c.in_ok-words.ensures.low in
     let shape : c.new-shape.result ≡ k = c.new-shape.ensures ∙ shape_so c.args.layout c.args.keys.now c.threads-threads.result
     c.quota-quota.result _ c.threads-threads.ensures.value c.quota-quota.ensures.value c.in_ok-copied.ensures.items in
@@ -170,7 +170,7 @@ invariant_of-push-2 g c =
 pub invariant_of-set-inside-2 : goal.invariant_of-set-inside-2
 invariant_of-set-inside-2 g c =
     let k : Opening = opening_of c.args.layout c.args.keys.now in
-    let so : Opens k = opens_so c.args.layout c.args.keys.now c.requires.many c.threads-threads.ensures.within c.requires.rising
+    let so : Opens k = opens_so c.args.layout c.args.keys.now c.requires.many c.threads-threads.ensures.within c.requires.increasing
     c.in_ok-words.ensures.low in
     let shape : c.new-shape.result ≡ k = c.new-shape.ensures ∙ shape_so c.args.layout c.args.keys.now c.threads-threads.result
     c.quota-quota.result _ c.threads-threads.ensures.value c.quota-quota.ensures.value c.in_ok-copied.ensures.items in
@@ -190,7 +190,7 @@ returns g c =
     let i = c.loop-t.invariant in
     let z = c.in_ok-table.table.shared.table_id in
     let k : Opening = opening_of c.args.layout c.args.keys.now in
-    let so : Opens k = opens_so c.args.layout c.args.keys.now c.requires.many c.threads-threads.ensures.within c.requires.rising
+    let so : Opens k = opens_so c.args.layout c.args.keys.now c.requires.many c.threads-threads.ensures.within c.requires.increasing
     c.in_ok-words.ensures.low in
     let shape : c.new-shape.result ≡ k = c.new-shape.ensures ∙ shape_so c.args.layout c.args.keys.now c.threads-threads.result
     c.quota-quota.result _ c.threads-threads.ensures.value c.quota-quota.ensures.value c.in_ok-copied.ensures.items in

@@ -1,6 +1,6 @@
 use Rattle.std.proofs.Common.{◌≡◌, [], map}
 use Rattle.std.specs.List.{range_with_len}
-use Rattle.lset_rule.proofs.Opens.{spare}
+use Rattle.lset_rule.proofs.RuleAtOpening.{spare}
 use Rattle.lset_live.specs.Seats.{new_seat}
 use Rattle.lset_live.proofs.NewSeats.{opened}
 use Rattle.lset_live.proofs.opening.open_on.Given as goal

@@ -2,7 +2,7 @@ use Rattle.std.proofs.Common.{◌*◌, refl, ap}
 use Rattle.lset_words.specs.Words.{link_index}
 use Rattle.lset_steps.specs.declared.Action.TheVariants.{Store}
 use Rattle.lset_coarse.specs.Coarse.{targets}
-use Rattle.lset_loops.proofs.Calling.{moved, step, stores, to_slots}
+use Rattle.lset_loops.proofs.StepsOfCall.{moved, step, stores, to_slots}
 use Rattle.lset_loops.proofs.coarse.act.Goals as goal
 
 pub put_in-requires : goal.put_in-requires

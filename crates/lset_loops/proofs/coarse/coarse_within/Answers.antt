@@ -1,5 +1,5 @@
 use Rattle.std.proofs.Common.{refl}
-use Rattle.lset_loops.proofs.Calling.{called}
+use Rattle.lset_loops.proofs.StepsOfCall.{called}
 use Rattle.lset_loops.proofs.coarse.coarse_within.Goals as goal
 
 pub returns : goal.returns

@@ -1,7 +1,7 @@
 use Rattle.std.proofs.Common.{◌<◌, ◌≤◌, arith}
 use Rattle.lset_words.specs.Words.{target}
 use Rattle.lset_words.proofs.Numbers.{if_below, if_not_below}
-use Rattle.lset_loops.proofs.Calling.{moved, to_curr}
+use Rattle.lset_loops.proofs.StepsOfCall.{moved, to_curr}
 use Rattle.lset_loops.proofs.coarse.walk.Goals as goal
 
 pub returns-then-word-key : goal.returns-then-word-key

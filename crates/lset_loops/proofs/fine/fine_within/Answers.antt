@@ -1,5 +1,5 @@
 use Rattle.std.proofs.Common.{refl}
-use Rattle.lset_loops.proofs.Calling.{asks, called}
+use Rattle.lset_loops.proofs.StepsOfCall.{asks, called}
 use Rattle.lset_loops.proofs.fine.fine_within.Goals as goal
 
 pub returns : goal.returns

@@ -1,6 +1,6 @@
 use Rattle.std.proofs.Common.{refl}
 use Rattle.lset_lazy.specs.Lazy.{targets}
-use Rattle.lset_loops.proofs.Calling.{moved, step, stores, to_slots}
+use Rattle.lset_loops.proofs.StepsOfCall.{moved, step, stores, to_slots}
 use Rattle.lset_loops.proofs.lazy.act.Goals as goal
 
 pub put_in-requires : goal.put_in-requires

@@ -5,7 +5,7 @@ use Rattle.lset_steps.specs.declared.Action.TheVariants.{Load}
 use Rattle.lset_steps.specs.ReadRows.{continued, first_row}
 use Rattle.lset_lazy.specs.Lazy.{lazy}
 use Rattle.lset_loops.specs.Calling.{row}
-use Rattle.lset_loops.proofs.Calling.{asks, called, moved, no_rest, step}
+use Rattle.lset_loops.proofs.StepsOfCall.{asks, called, moved, no_rest, step}
 use Rattle.lset_loops.proofs.lazy.lazy_change_within.Goals as goal
 
 pub loop-round-init : goal.loop-round-init

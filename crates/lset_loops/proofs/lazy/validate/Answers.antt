@@ -4,7 +4,7 @@ use Rattle.lset_words.proofs.Numbers.{if_same, if_other}
 use Rattle.lset_steps.specs.Rows.{decided_on}
 use Rattle.lset_lazy.specs.Lazy.{targets}
 use Rattle.lset_loops.specs.Calling.{row}
-use Rattle.lset_loops.proofs.Calling.{moved, step}
+use Rattle.lset_loops.proofs.StepsOfCall.{moved, step}
 use Rattle.lset_loops.proofs.lazy.validate.Goals as goal
 
 pub returns-then-before-found : goal.returns-then-before-found

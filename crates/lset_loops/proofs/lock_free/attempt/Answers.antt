@@ -3,7 +3,7 @@ use Rattle.lset_words.specs.Words.{link_index}
 use Rattle.lset_words.proofs.Numbers.{if_same, if_other}
 use Rattle.lset_steps.specs.declared.Action.TheVariants.{Exchange}
 use Rattle.lset_lock_free.specs.LockFree.{targets, decision_of}
-use Rattle.lset_loops.proofs.Calling.{asks, step, stores, to_succ}
+use Rattle.lset_loops.proofs.StepsOfCall.{asks, step, stores, to_succ}
 use Rattle.lset_loops.proofs.lock_free.attempt.Goals as goal
 
 pub fill_slot-node-requires : goal.fill_slot-node-requires

@@ -3,7 +3,7 @@ use Rattle.lset_words.specs.Words.{target, link_index}
 use Rattle.lset_words.proofs.Numbers.{if_below, if_not_below, if_same, if_other}
 use Rattle.lset_steps.specs.declared.Action.TheVariants.{Load, Exchange}
 use Rattle.lset_steps.specs.declared.Fed.{Fed}
-use Rattle.lset_loops.proofs.Calling.{asks, moved, step, to_curr, to_pred}
+use Rattle.lset_loops.proofs.StepsOfCall.{asks, moved, step, to_curr, to_pred}
 use Rattle.lset_loops.proofs.lock_free.find.Goals as goal
 
 pub exchange-requires : goal.exchange-requires

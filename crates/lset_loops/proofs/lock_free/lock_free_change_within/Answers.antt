@@ -4,7 +4,7 @@ use Rattle.lset_steps.specs.declared.Action.TheVariants.{Load}
 use Rattle.lset_steps.specs.ReadRows.{first_row}
 use Rattle.lset_lock_free.specs.LockFree.{lock_free}
 use Rattle.lset_loops.specs.Calling.{row}
-use Rattle.lset_loops.proofs.Calling.{called, moved, no_rest, step}
+use Rattle.lset_loops.proofs.StepsOfCall.{called, moved, no_rest, step}
 use Rattle.lset_loops.proofs.lock_free.lock_free_change_within.Goals as goal
 
 pub loop-round-init : goal.loop-round-init

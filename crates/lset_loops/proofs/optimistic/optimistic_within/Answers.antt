@@ -3,7 +3,7 @@ use Rattle.lset_words.specs.Words.{link_index}
 use Rattle.lset_words.proofs.Numbers.{if_other}
 use Rattle.lset_steps.specs.declared.Action.TheVariants.{Load}
 use Rattle.lset_steps.specs.ReadRows.{continued}
-use Rattle.lset_loops.proofs.Calling.{asks, called, no_rest, step}
+use Rattle.lset_loops.proofs.StepsOfCall.{asks, called, no_rest, step}
 use Rattle.lset_loops.proofs.optimistic.optimistic_within.Goals as goal
 
 pub loop-round-init : goal.loop-round-init

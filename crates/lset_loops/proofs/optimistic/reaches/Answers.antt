@@ -1,7 +1,7 @@
 use Rattle.std.proofs.Common.{◌≢◌, ◌/◌, ◌<◌, ◌≤◌, None, sym, ap, ◌∙◌, arith}
 use Rattle.lset_words.proofs.Numbers.{if_below, if_not_below, if_same, if_other}
 use Rattle.lset_loops.specs.Calling.{row}
-use Rattle.lset_loops.proofs.Calling.{moved}
+use Rattle.lset_loops.proofs.StepsOfCall.{moved}
 use Rattle.lset_loops.proofs.optimistic.reaches.Goals as goal
 
 pub returns-then-pred-eq-HEAD : goal.returns-then-pred-eq-HEAD

@@ -1,6 +1,6 @@
 use Rattle.std.proofs.Common.{◌/◌}
 use Rattle.lset_words.proofs.Numbers.{if_same, if_other}
-use Rattle.lset_loops.proofs.Calling.{moved}
+use Rattle.lset_loops.proofs.StepsOfCall.{moved}
 use Rattle.lset_loops.proofs.optimistic.validate.Goals as goal
 
 pub returns-then-link-found : goal.returns-then-link-found

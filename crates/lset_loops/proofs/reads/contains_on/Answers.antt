@@ -2,8 +2,8 @@ use Rattle.std.proofs.Common.{◌≡◌, ◌<◌, refl, sym, ap, ◌∙◌, arit
 use Rattle.lset_words.specs.Words.{target}
 use Rattle.lset_steps.specs.declared.Fed.{Fed}
 use Rattle.lset_steps.specs.ReadRows.{leaves_with}
-use Rattle.lset_loops.proofs.Calling.{asks, called, moved, to_curr}
-use Rattle.lset_loops.proofs.Reading.{reading, begins, acts_20, acts_21, acts_22, fed_20, below, same, above, marked, falls}
+use Rattle.lset_loops.proofs.StepsOfCall.{asks, called, moved, to_curr}
+use Rattle.lset_loops.proofs.ContainsRows.{reading, begins, acts_20, acts_21, acts_22, fed_20, below, same, above, marked, falls}
 use Rattle.lset_loops.proofs.reads.contains_on.Goals as goal
 
 pub begin_at_head-requires-clause-acts : goal.begin_at_head-requires-clause-acts

@@ -3,7 +3,7 @@ use Rattle.lset_words.specs.Words.{sizes}
 use Rattle.lset_steps.specs.BoundedReads.{most_reads}
 use Rattle.lset_rule.specs.Calls.{steps_of}
 use Rattle.lset_loops.specs.Calling.{Holds}
-use Rattle.lset_loops.proofs.Reading.{reading}
+use Rattle.lset_loops.proofs.ContainsRows.{reading}
 use Rattle.lset_loops.proofs.reads.contains_on.Given as goal
 
 abbrev pub invariant-loop-curr : goal.invariant-loop-curr

@@ -1,6 +1,6 @@
 use Rattle.lset_judge.specs.Stream.{record_of, moment_of, pending_in}
 use Rattle.lset_recording.specs.Texts.{all_threads}
-use Rattle.lset_recording.proofs.Followed.{one_more, may_come}
+use Rattle.lset_recording.proofs.NextCalls.{one_more, may_come}
 use Rattle.lset_recording.proofs.judging.add_call.Goals as goal
 
 pub returns-in-Ok-clause-added : goal.returns-in-Ok-clause-added

@@ -1,7 +1,7 @@
 use Rattle.std.proofs.Common.{sym, codes}
 use Rattle.lset_text.specs.Parts.{cut_at}
 use Rattle.lset_text.proofs.PartLaws.{some_part}
-use Rattle.lset_recording.proofs.Pieces.{call_many}
+use Rattle.lset_recording.proofs.FieldCounts.{call_many}
 use Rattle.lset_recording.proofs.lines.call.Goals as goal
 
 pub returns-in-Some-cut-4 : goal.returns-in-Some-cut-4

@@ -2,7 +2,7 @@ use Rattle.std.proofs.Common.{rules, ◌≡◌, true, codes}
 use Rattle.std.specs.Str.{bytes_eq}
 use Rattle.lset_text.proofs.PartLaws.{some_part}
 use Rattle.lset_recording.specs.Reading.{takes_calls}
-use Rattle.lset_recording.proofs.Pieces.{call_pieces}
+use Rattle.lset_recording.proofs.FieldCounts.{call_pieces}
 use Rattle.lset_recording.proofs.lines.line_in.Goals as goal
 
 pub returns-then-not-takes_calls : goal.returns-then-not-takes_calls

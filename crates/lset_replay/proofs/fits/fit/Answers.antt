@@ -1,6 +1,6 @@
 use Rattle.std.proofs.Common.{subst}
 use Rattle.lset_history.specs.Changes.{IsFirst, moments_of}
-use Rattle.lset_history.proofs.Raises.{CeilingAt}
+use Rattle.lset_history.proofs.CeilingSearch.{CeilingAt}
 use Rattle.lset_history.proofs.CeilingTests.{ceiling_search}
 use Rattle.lset_replay.specs.Trace.{found_in}
 use Rattle.lset_replay.proofs.fits.fit.Goals as goal

@@ -1,9 +1,9 @@
 use Rattle.std.proofs.Common.{◌≡◌, ℕ, ◌-◌, arith, rules, sym, ap, ◌∙◌}
 use Rattle.lset_words.specs.Words.{key_of}
 use Rattle.lset_history.specs.Changes.{first_passing, is_present, moments_of}
-use Rattle.lset_history.proofs.Firsts.{one_first, first_passing_is}
+use Rattle.lset_history.proofs.FirstMoments.{one_first, first_passing_is}
 use Rattle.lset_replay.specs.Trace.{needs_key}
-use Rattle.lset_replay.proofs.LeastFits.{plain_shows}
+use Rattle.lset_replay.proofs.SmallestFits.{plain_shows}
 use Rattle.lset_replay.proofs.fits.fit_by_key.Goals as goal
 
 -- what is found is the first moment, and there is one

@@ -2,7 +2,7 @@ use Rattle.std.proofs.Common.{◌<◌, subst, arith}
 use Rattle.lset_schedule.specs.declared.TheConstants.{MOST_EVENTS}
 use Rattle.lset_replay.specs.Events.{events_from}
 use Rattle.lset_replay.specs.Follows.{HasFollowed}
-use Rattle.lset_replay.proofs.Followed.{tells_keys}
+use Rattle.lset_replay.proofs.FollowedRuns.{tells_keys}
 use Rattle.lset_replay.proofs.EventLists.{few_behind, next_line, next_event, event_done, line_done, none_behind, all_behind}
 use Rattle.lset_replay.proofs.EventSteps.{ready, followed, stopped}
 use Rattle.lset_replay.proofs.replaying.follow.Goals as goal

@@ -11,9 +11,9 @@ use Rattle.lset_replay.specs.Blocks.{StandUpTo, blocks_upto}
 use Rattle.lset_replay.specs.Events.{events_of, events_from}
 use Rattle.lset_replay.specs.Follows.{HasFollowed}
 use Rattle.lset_replay.specs.Reports.{IsRefusal, Replays}
-use Rattle.lset_replay.proofs.Followed.{tells_keys}
+use Rattle.lset_replay.proofs.FollowedRuns.{tells_keys}
 use Rattle.lset_replay.proofs.EventLists.{length_of_events}
-use Rattle.lset_replay.proofs.Reported.{few_places, places_upto, replay_is, explained_is}
+use Rattle.lset_replay.proofs.FinalReport.{few_places, places_upto, replay_is, explained_is}
 use Rattle.lset_replay.proofs.ReportWords.{words_of_version}
 use Rattle.lset_replay.proofs.replaying.replay_on.Goals as goal
 

@@ -2,7 +2,7 @@ use Rattle.std.proofs.Common.{rules}
 use Rattle.std.proofs.lemmas.List.Sorted.{IsNonDecreasingBy-from_sort_by_key, answers_always}
 use Rattle.lset_words.specs.declared.Reply.TheVariants.{False}
 use Rattle.lset_report.specs.Order.{rank_of}
-use Rattle.lset_report.proofs.Orders.{by_ranks}
+use Rattle.lset_report.proofs.SortedPlaces.{by_ranks}
 use Rattle.lset_report.proofs.order.sort_by_points.Goals as goal
 
 pub returns : goal.returns

@@ -2,7 +2,7 @@ use Rattle.lset_words.specs.declared.Call.TheVariants.{Contains}
 use Rattle.lset_rule.proofs.Calls.{Comes}
 use Rattle.lset_rule.specs.Seats.{IsSeat}
 use Rattle.lset_rule.specs.Calls.{steps_of}
-use Rattle.lset_rule.proofs.Ending.{steps_left}
+use Rattle.lset_rule.proofs.ContainsEnds.{steps_left}
 use Rattle.lset_words.specs.Words.{sizes}
 use Rattle.lset_steps.specs.BoundedReads.{most_reads}
 use Rattle.lset_rule.proofs.interpreter.interpret_read.Given as goal

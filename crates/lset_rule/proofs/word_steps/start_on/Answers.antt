@@ -1,5 +1,5 @@
 use Rattle.std.proofs.Common.{sym, ◌∙◌}
-use Rattle.lset_rule.proofs.Keeps.{goes_first, begun_at, in_words}
+use Rattle.lset_rule.proofs.MovesKeepRule.{goes_first, begun_at, in_words}
 use Rattle.lset_rule.proofs.word_steps.start_on.Goals as goal
 
 pub load-requires : goal.load-requires

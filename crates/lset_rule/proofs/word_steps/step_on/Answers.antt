@@ -1,5 +1,5 @@
 use Rattle.std.proofs.Common.{sym, ◌∙◌}
-use Rattle.lset_rule.proofs.Keeps.{goes_on, stands_at, in_words}
+use Rattle.lset_rule.proofs.MovesKeepRule.{goes_on, stands_at, in_words}
 use Rattle.lset_rule.proofs.word_steps.step_on.Goals as goal
 
 pub load-requires : goal.load-requires

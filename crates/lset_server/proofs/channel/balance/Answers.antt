@@ -1,5 +1,5 @@
 use Rattle.lset_server.specs.Tallies.{numbers}
-use Rattle.lset_server.proofs.Moves.{learns}
+use Rattle.lset_server.proofs.BalanceKept.{learns}
 use Rattle.lset_server.proofs.channel.balance.Goals as goal
 
 pub learn_as-requires-clause-rule : goal.learn_as-requires-clause-rule

@@ -1,4 +1,4 @@
-use Rattle.lset_server.proofs.Moves.{forks}
+use Rattle.lset_server.proofs.BalanceKept.{forks}
 use Rattle.lset_server.proofs.channel.cut_part.Goals as goal
 
 pub another-requires-clause-rule : goal.another-requires-clause-rule

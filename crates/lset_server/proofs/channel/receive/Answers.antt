@@ -1,4 +1,4 @@
-use Rattle.lset_server.proofs.Moves.{takes}
+use Rattle.lset_server.proofs.BalanceKept.{takes}
 use Rattle.lset_server.proofs.channel.receive.Goals as goal
 
 pub recv_as-requires-clause-rule : goal.recv_as-requires-clause-rule

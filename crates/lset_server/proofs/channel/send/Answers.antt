@@ -1,4 +1,4 @@
-use Rattle.lset_server.proofs.Moves.{puts}
+use Rattle.lset_server.proofs.BalanceKept.{puts}
 use Rattle.lset_server.proofs.channel.send.Goals as goal
 
 pub send_as-requires-clause-rule : goal.send_as-requires-clause-rule

@@ -1,4 +1,4 @@
-use Rattle.lset_server.proofs.Moves.{merges}
+use Rattle.lset_server.proofs.BalanceKept.{merges}
 use Rattle.lset_server.proofs.channel.take_back.Goals as goal
 
 pub absorb-requires-clause-rule : goal.absorb-requires-clause-rule

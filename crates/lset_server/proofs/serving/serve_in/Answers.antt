@@ -1,6 +1,6 @@
 use Rattle.std.proofs.Common.{◌≡◌, length, arith}
 use Rattle.crossbeam_channel.specs.Claims.{view}
-use Rattle.lset_live.proofs.Handing.{starts_map}
+use Rattle.lset_live.proofs.ListsHandedOn.{starts_map}
 use Rattle.lset_server.proofs.ServeLaws.{as_many, whole_again, all_gathered}
 use Rattle.lset_server.proofs.serving.serve_in.Goals as goal
 

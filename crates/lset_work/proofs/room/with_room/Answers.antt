@@ -1,5 +1,5 @@
 use Rattle.std.proofs.Common.{◌<◌, ◌^◌, length, refl}
-use Rattle.lset_live.proofs.Handing.{moved_more, all_rest}
+use Rattle.lset_live.proofs.ListsHandedOn.{moved_more, all_rest}
 use Rattle.lset_work.proofs.room.with_room.Goals as goal
 
 pub loop-calls-preserved : goal.loop-calls-preserved

@@ -2,7 +2,7 @@ use Rattle.std.proofs.Common.{◌≡◌, arith, rules}
 use Rattle.std.proofs.lemmas.Grind.{common_steps}
 use Rattle.std.specs.Vec.Iter.{into_iter_items}
 use Rattle.lset_work.specs.Programs.{IsMadeOn}
-use Rattle.lset_live.proofs.Handing.{all_rest}
+use Rattle.lset_live.proofs.ListsHandedOn.{all_rest}
 use Rattle.lset_work.proofs.ProgramLaws.{none_yet, one_more}
 use Rattle.lset_work.proofs.workers.join_all.Goals as goal
 

@@ -1,4 +1,4 @@
-use Rattle.tool_judge.proofs.Answered.{answered}
+use Rattle.tool_judge.proofs.AnswerOfBytes.{answered}
 use Rattle.tool_judge.proofs.judging.answer_of.Goals as goal
 
 pub returns-clause-judges : goal.returns-clause-judges

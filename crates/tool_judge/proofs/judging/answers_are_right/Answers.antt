@@ -1,4 +1,4 @@
-use Rattle.tool_judge.proofs.Right.{right}
+use Rattle.tool_judge.proofs.RightAnswers.{right}
 use Rattle.tool_judge.proofs.judging.answers_are_right.Goals as goal
 
 pub returns : goal.returns

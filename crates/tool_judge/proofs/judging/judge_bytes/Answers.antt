@@ -3,7 +3,7 @@ use Rattle.std.proofs.lemmas.Result.{err_from_is_err_and}
 use Rattle.lset_recording.specs.Reading.{Says}
 use Rattle.tool_base.specs.Tools.{view}
 use Rattle.tool_judge.specs.Judging.{Judges}
-use Rattle.tool_judge.proofs.Answered.{of_fault}
+use Rattle.tool_judge.proofs.AnswerOfBytes.{of_fault}
 use Rattle.tool_judge.proofs.judging.judge_bytes.Goals as goal
 
 pub returns-in_err-feed-clause-judges : goal.returns-in_err-feed-clause-judges

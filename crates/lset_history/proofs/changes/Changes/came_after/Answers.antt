@@ -1,6 +1,6 @@
 use Rattle.std.proofs.Common.{sym, subst, ◌∙◌}
 use Rattle.lset_history.specs.Changes.{moments_of}
-use Rattle.lset_history.proofs.Raises.{IsFrom, CameUpTo, after_is_from, one_more_came, below_unless}
+use Rattle.lset_history.proofs.CeilingSearch.{IsFrom, CameUpTo, after_is_from, one_more_came, below_unless}
 use Rattle.lset_history.proofs.changes.Changes.came_after.Goals as goal
 
 pub loop-next-preserved : goal.loop-next-preserved

@@ -1,7 +1,7 @@
 use Rattle.std.proofs.Common.{ℕ, ◌-◌}
 use Rattle.std.specs.Prelude.{Option, Some, None}
 use Rattle.lset_history.specs.Changes.{moments_of}
-use Rattle.lset_history.proofs.Raises.{IsFrom, CameUpTo}
+use Rattle.lset_history.proofs.CeilingSearch.{IsFrom, CameUpTo}
 use Rattle.lset_history.proofs.changes.Changes.came_after.Given as goal
 
 -- the keys below the next one are looked at

@@ -1,7 +1,7 @@
 use Rattle.std.proofs.Common.{◌≤◌, ◌<◌, sym, subst, ◌∙◌, arith}
 use Rattle.lset_history.specs.Changes.{moments_of}
 use Rattle.lset_history.specs.Raising.{IsNextNote}
-use Rattle.lset_history.proofs.Raises.{candidate_begins, candidate_raised, candidate_kept, candidate_ends}
+use Rattle.lset_history.proofs.CeilingSearch.{candidate_begins, candidate_raised, candidate_kept, candidate_ends}
 use Rattle.lset_history.proofs.changes.Changes.candidate.Goals as goal
 
 pub loop-at-init : goal.loop-at-init

@@ -3,8 +3,8 @@ use Rattle.std.proofs.Common.{rules}
 use Rattle.std.specs.Prelude.{if◌then◌else◌}
 use Rattle.lset_words.specs.SequentialSet.{has_key}
 use Rattle.lset_history.specs.Changes.{ChangesValue, IsFirst, moments_of, noted_of, is_present}
-use Rattle.lset_history.proofs.Counting.{turned_from, same_state, other_state, found_at_once, never_found, found_next}
-use Rattle.lset_history.proofs.Counting.{first_of_all, few_looks}
+use Rattle.lset_history.proofs.MomentSearch.{turned_from, same_state, other_state, found_at_once, never_found, found_next}
+use Rattle.lset_history.proofs.MomentSearch.{first_of_all, few_looks}
 use Rattle.lset_history.proofs.changes.Changes.first.Goals as goal
 use Rattle.lset_history.proofs.changes.Changes.first.Goals.{then-next-to, else-next-to}
 
@@ -15,13 +15,13 @@ moments_are self key opens noted e f =
     rw (e, f) refl
 
 pub count_upto-before-requires : goal.count_upto-before-requires
-count_upto-before-requires c = c.noted-noted.ensures.rises
+count_upto-before-requires c = c.noted-noted.ensures.increases
 
 pub returns-then-before-opens_with-clause-first : goal.returns-then-before-opens_with-clause-first
 returns-then-before-opens_with-clause-first c =
     let is = moments_are c.args.self.now c.args.key _ _ c.opens_with.ensures c.noted-noted.ensures.value in
     first_of_all c.opens_with.result c.noted-noted.result.now (moments_of c.args.self.now c.args.key) is c.args.present c.args.from c.args.to (Some c.args.from)
-    (found_at_once c.opens_with.result c.noted-noted.result.now c.noted-noted.ensures.rises c.args.present c.args.from c.args.to
+    (found_at_once c.opens_with.result c.noted-noted.result.now c.noted-noted.ensures.increases c.args.present c.args.from c.args.to
     c.count_upto-before.result.0 c.requires c.count_upto-before.ensures.count
     (sym (turned_from c.count_upto-before.result.0 c.opens_with.result) ∙ same_state _ c.args.present c.if-before-opens_with.true))
 
@@ -35,7 +35,7 @@ pub returns-then-before-noted-clause-first : goal.returns-then-before-noted-clau
 returns-then-before-noted-clause-first c =
     let is = moments_are c.args.self.now c.args.key _ _ c.opens_with.ensures c.noted-noted.ensures.value in
     first_of_all c.opens_with.result c.noted-noted.result.now (moments_of c.args.self.now c.args.key) is c.args.present c.args.from c.args.to None
-    (never_found c.opens_with.result c.noted-noted.result.now c.noted-noted.ensures.rises c.args.present c.args.from c.args.to
+    (never_found c.opens_with.result c.noted-noted.result.now c.noted-noted.ensures.increases c.args.present c.args.from c.args.to
     c.count_upto-before.result.0 c.requires c.count_upto-before.ensures.count
     (λ e. other_state _ c.args.present c.if-before-opens_with.false (turned_from c.count_upto-before.result.0 c.opens_with.result ∙ e))
     (λ l. absurd (let e : c.count_upto-before.result.0 ≡ length c.noted-noted.result.now = search rules in omega arith)))
@@ -61,14 +61,14 @@ returns-clause-first c =
           z) (sym w.found-is)
           (first_of_all c.opens_with.result c.noted-noted.result.now (moments_of c.args.self.now c.args.key) is c.args.present c.args.from c.args.to
           (Some (get_or c.noted-noted.result.now c.count_upto-before.result.0 0))
-          (found_next c.opens_with.result c.noted-noted.result.now c.noted-noted.ensures.rises c.args.present c.args.from c.args.to
+          (found_next c.opens_with.result c.noted-noted.result.now c.noted-noted.ensures.increases c.args.present c.args.from c.args.to
           c.count_upto-before.result.0 c.requires c.count_upto-before.ensures.count
           (λ e. other_state _ c.args.present c.if-before-opens_with.false (turned_from c.count_upto-before.result.0 c.opens_with.result ∙ e)) below test)))
       | else-next-to w ↦ (let test : c.args.to < get_or c.noted-noted.result.now c.count_upto-before.result.0 0 = search rules in
           subst (λ z. IsFirst (λ m. is_present (moments_of c.args.self.now) c.args.key m ≡ c.args.present) c.args.from c.args.to
           z) (sym w.found-is)
           (first_of_all c.opens_with.result c.noted-noted.result.now (moments_of c.args.self.now c.args.key) is c.args.present c.args.from c.args.to None
-          (never_found c.opens_with.result c.noted-noted.result.now c.noted-noted.ensures.rises c.args.present c.args.from c.args.to
+          (never_found c.opens_with.result c.noted-noted.result.now c.noted-noted.ensures.increases c.args.present c.args.from c.args.to
           c.count_upto-before.result.0 c.requires c.count_upto-before.ensures.count
           (λ e. other_state _ c.args.present c.if-before-opens_with.false (turned_from c.count_upto-before.result.0 c.opens_with.result ∙ e)) (λ l. test))))
     ]

@@ -2,7 +2,7 @@ use Rattle.std.proofs.Common.{rules, ◌≡◌, ◌≤◌, ℕ, Bool, true, fals
 use Rattle.std.proofs.lemmas.Bool.{both_ways}
 use Rattle.std.proofs.lemmas.Option.{same_Some}
 use Rattle.lset_history.specs.Changes.{moments_of}
-use Rattle.lset_history.proofs.Raises.{past_the_end, some_there, none_is_least, it_is_least, it_is_absent, it_is_too_low}
+use Rattle.lset_history.proofs.CeilingSearch.{past_the_end, some_there, none_is_smallest, it_is_smallest, it_is_absent, it_is_too_low}
 use Rattle.lset_history.proofs.changes.Changes.first_ceiling.Goals as goal
 use Rattle.lset_history.proofs.changes.Changes.first_ceiling.Goals.{in-Some, in-Some-2, in-None}
 use Rattle.lset_history.proofs.changes.Changes.first_ceiling.Goals.{else-moment-to-via-then-moment-to+then-is_there+else-came_after}
@@ -12,13 +12,13 @@ use Rattle.lset_history.proofs.changes.Changes.first_ceiling.Goals.{else-moment-
 pub returns-then-came_after-clause-first : goal.returns-then-came_after-clause-first
 returns-then-came_after-clause-first c = elim c.match-found.branch [
   | in-Some w ↦ absurd (both_ways c.match-found.is_there w.is_there-is c.if-is_there.true)
-  | in-Some-2 w ↦ it_is_least (moments_of c.args.self.now) c.args.key c.args.found c.args.from c.candidate-moment.result
+  | in-Some-2 w ↦ it_is_smallest (moments_of c.args.self.now) c.args.key c.args.found c.args.from c.candidate-moment.result
       c.candidate-moment.ensures c.args.to w.in-Some-2.found w.in-Some-2.is
       (subst (λ x. c.args.key ≤ x) (same_Some w.in-Some.found w.in-Some-2.found (sym w.in-Some.is ∙ w.in-Some-2.is))
       w.if-found-key.false)
       (sym w.was_present-is_there.ensures ∙ sym w.is_there-is ∙ c.if-is_there.true) c.if-moment-to.true
       (c.came_after.ensures.came c.if-came_after.true)
-  | in-None w ↦ none_is_least (moments_of c.args.self.now) c.args.key c.args.found c.args.from c.candidate-moment.result
+  | in-None w ↦ none_is_smallest (moments_of c.args.self.now) c.args.key c.args.found c.args.from c.candidate-moment.result
       c.candidate-moment.ensures c.args.to w.in-None.is c.if-moment-to.true (c.came_after.ensures.came c.if-came_after.true)
 ]
 

@@ -5,7 +5,7 @@ use Rattle.std.specs.BTreeMap.{is_at}
 use Rattle.std.proofs.lemmas.Bool.{both_ways}
 use Rattle.std.proofs.lemmas.Result.{MatchResult-from_err}
 use Rattle.lset_history.specs.Changes.{changes_in, AreKept}
-use Rattle.lset_history.proofs.Noting.{kept_beside, kept_listed, kept_present, kept_noted, has_after, others_after}
+use Rattle.lset_history.proofs.ChangeNoted.{kept_beside, kept_listed, kept_present, kept_noted, has_after, others_after}
 use Rattle.lset_history.proofs.changes.Changes.note.Goals as goal
 
 -- nothing was put in

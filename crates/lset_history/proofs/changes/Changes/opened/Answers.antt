@@ -8,7 +8,7 @@ use Rattle.std.proofs.lemmas.Iterator.Consumers.{YieldsList-at, YieldsList-from_
 use Rattle.std.proofs.lemmas.Result.{IfOk-at_ok}
 use Rattle.lset_words.specs.SequentialSet.{has_key}
 use Rattle.lset_history.proofs.KeySets.{has_key_tree}
-use Rattle.lset_history.proofs.Noting.{kept_opened}
+use Rattle.lset_history.proofs.ChangeNoted.{kept_opened}
 use Rattle.lset_history.proofs.changes.Changes.opened.Goals as goal
 
 -- the tree of the opening keys has each of them

@@ -1,7 +1,7 @@
 use Rattle.std.proofs.Common.{◌≡◌, ◌<◌, ◌≤◌, ◌-◌, length, get_or, nat_eq, nat_lt, sym, subst, ap, ◌∙◌, arith, rules}
 use Rattle.std.proofs.lemmas.List.{get_or_read}
 use Rattle.lset_history.specs.Changes.{IsCountUpTo}
-use Rattle.lset_history.proofs.Counting.{none_upto, some_upto}
+use Rattle.lset_history.proofs.MomentSearch.{none_upto, some_upto}
 use Rattle.lset_history.proofs.changes.Changes.opens_with.Goals as goal
 
 pub returns-then-upto-gt0 : goal.returns-then-upto-gt0

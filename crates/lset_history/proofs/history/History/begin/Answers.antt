@@ -1,5 +1,5 @@
 use Rattle.std.proofs.Common.{refl, sym, ◌∙◌}
-use Rattle.lset_history.proofs.Keeping.{may_begin, too_early, begun_follows}
+use Rattle.lset_history.proofs.HistoryKept.{may_begin, too_early, begun_follows}
 use Rattle.lset_history.proofs.history.History.begin.Goals as goal
 
 pub returns-then-at-self-clause-refused : goal.returns-then-at-self-clause-refused

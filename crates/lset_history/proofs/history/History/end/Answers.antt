@@ -1,6 +1,6 @@
 use Rattle.std.proofs.Common.{◌<◌, length, arith}
 use Rattle.lset_history.specs.History.{IsOpen}
-use Rattle.lset_history.proofs.Keeping.{too_early, still_open, may_end, call_read, thread_read, kept_ended_read}
+use Rattle.lset_history.proofs.HistoryKept.{too_early, still_open, may_end, call_read, thread_read, kept_ended_read}
 use Rattle.lset_history.proofs.history.History.end.Goals as goal
 
 pub returns-then-at-self-clause-refused : goal.returns-then-at-self-clause-refused

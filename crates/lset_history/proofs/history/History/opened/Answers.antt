@@ -1,5 +1,5 @@
 use Rattle.std.proofs.Common.{arith}
-use Rattle.lset_history.proofs.Keeping.{kept_new}
+use Rattle.lset_history.proofs.HistoryKept.{kept_new}
 use Rattle.lset_history.proofs.history.History.opened.Goals as goal
 
 pub invariant_of-result : goal.invariant_of-result

@@ -1,5 +1,5 @@
 use Rattle.std.proofs.Common.{arith}
-use Rattle.lset_history.proofs.Keeping.{kept_pushed, flag_is}
+use Rattle.lset_history.proofs.HistoryKept.{kept_pushed, flag_is}
 use Rattle.lset_history.proofs.history.History.push.Goals as goal
 
 pub invariant_of-self-2 : goal.invariant_of-self-2

@@ -1,5 +1,5 @@
 use Rattle.std.proofs.Common.{arith}
-use Rattle.lset_history.proofs.Keeping.{kept_reopened}
+use Rattle.lset_history.proofs.HistoryKept.{kept_reopened}
 use Rattle.lset_history.proofs.history.History.reopen.Goals as goal
 
 pub invariant_of-self : goal.invariant_of-self

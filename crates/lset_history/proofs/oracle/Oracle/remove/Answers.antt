@@ -10,4 +10,4 @@ pub returns : goal.returns
 returns c = λ thread.
     rw (← c.self.view_is, c.reply_of.ensures, c.remove.ensures.keys)
     (removed c.self.inside.quota (record { keys = c.self.inside.keys.keys; counts = c.self.inside.counts.items }) thread
-    c.args.key _ c.remove.ensures.test c.self.invariant.rising)
+    c.args.key _ c.remove.ensures.test c.self.invariant.increasing)

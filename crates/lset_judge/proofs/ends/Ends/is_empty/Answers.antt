@@ -1,7 +1,7 @@
 use Rattle.std.proofs.Common.{◌≡◌, sym, ap, ◌∙◌, arith, length}
 use Rattle.std.specs.Prelude.{◌==◌}
 use Rattle.std.specs.BinaryHeap.{heap_items, heap_len}
-use Rattle.lset_judge.proofs.Heaped.{same_length}
+use Rattle.lset_judge.proofs.EndsInHeap.{same_length}
 use Rattle.lset_judge.proofs.ends.Ends.is_empty.Goals as goal
 
 pub returns : goal.returns

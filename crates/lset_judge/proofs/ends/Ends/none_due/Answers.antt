@@ -4,7 +4,7 @@ use Rattle.std.specs.BinaryHeap.{heap_items, heap_len}
 use Rattle.std.proofs.lemmas.Bool.{true≢false}
 use Rattle.lset_words.proofs.Numbers.{below_or_not}
 use Rattle.lset_judge.specs.Rule.{not_before}
-use Rattle.lset_judge.proofs.Heaped.{due_told, none_held}
+use Rattle.lset_judge.proofs.EndsInHeap.{due_told, none_held}
 use Rattle.lset_judge.proofs.ends.Ends.none_due.Goals as goal
 
 pub returns-in-Some : goal.returns-in-Some

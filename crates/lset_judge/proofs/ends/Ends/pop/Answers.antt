@@ -1,6 +1,6 @@
 use Rattle.std.proofs.Common.{◌≡◌, ◌∙◌, sym, arith}
 use Rattle.std.specs.BinaryHeap.{heap_items, heap_len}
-use Rattle.lset_judge.proofs.Heaped.{popped, none_held}
+use Rattle.lset_judge.proofs.EndsInHeap.{popped, none_held}
 use Rattle.lset_judge.proofs.ends.Ends.pop.Goals as goal
 
 pub returns : goal.returns

@@ -1,6 +1,6 @@
 use Rattle.std.proofs.Common.{◌∙◌, ap}
 use Rattle.lset_judge.specs.Rule.{put_in}
-use Rattle.lset_judge.proofs.Heaped.{reordered}
+use Rattle.lset_judge.proofs.EndsInHeap.{reordered}
 use Rattle.lset_judge.proofs.ends.Ends.push.Goals as goal
 
 pub returns : goal.returns

@@ -1,7 +1,7 @@
 use Rattle.std.proofs.Common.{subst}
 use Rattle.lset_judge.specs.Stream.{stream_history, IsStreamVerdict}
 use Rattle.lset_judge.specs.Window.{left_by}
-use Rattle.lset_judge.proofs.Windows.{tells_now}
+use Rattle.lset_judge.proofs.WindowOfKey.{tells_now}
 use Rattle.lset_judge.proofs.judging.Judge.close.Goals as goal
 
 pub returns-in-Linearizable : goal.returns-in-Linearizable

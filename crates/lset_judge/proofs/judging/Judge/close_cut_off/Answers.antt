@@ -1,7 +1,7 @@
 use Rattle.std.proofs.Common.{refl, subst}
 use Rattle.std.specs.Prelude.{None}
 use Rattle.lset_judge.specs.Stream.{stream_history, IsStreamVerdictCutOff}
-use Rattle.lset_judge.proofs.Windows.{tells_now}
+use Rattle.lset_judge.proofs.WindowOfKey.{tells_now}
 use Rattle.lset_judge.proofs.judging.Judge.close_cut_off.Goals as goal
 
 pub returns-in-Linearizable : goal.returns-in-Linearizable

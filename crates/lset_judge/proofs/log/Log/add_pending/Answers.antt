@@ -1,7 +1,7 @@
 use Rattle.std.proofs.Common.{ap, sym, ◌∙◌}
 use Rattle.std.proofs.lemmas.List.{take_all}
 use Rattle.lset_judge.specs.Log.{log_of, pushed, unquiet, with_pending}
-use Rattle.lset_judge.proofs.Logging.{with_more, with_none, pending_more}
+use Rattle.lset_judge.proofs.LogOfKey.{with_more, with_none, pending_more}
 use Rattle.lset_judge.proofs.log.Log.add_pending.Goals as goal
 
 pub loop-call-init : goal.loop-call-init

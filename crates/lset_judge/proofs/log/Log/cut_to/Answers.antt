@@ -1,7 +1,7 @@
 use Rattle.std.proofs.Common.{rules}
 use Rattle.std.proofs.lemmas.Fn.{filter_same}
 use Rattle.lset_judge.specs.Log.{stays_after}
-use Rattle.lset_judge.proofs.Logging.{with_ended}
+use Rattle.lset_judge.proofs.LogOfKey.{with_ended}
 use Rattle.lset_judge.proofs.log.Log.cut_to.Goals as goal
 
 pub returns : goal.returns

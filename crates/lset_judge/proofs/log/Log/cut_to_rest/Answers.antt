@@ -1,6 +1,6 @@
 use Rattle.std.proofs.Common.{sym, subst}
 use Rattle.lset_judge.specs.Log.{log_of, StaysLog}
-use Rattle.lset_judge.proofs.Logging.{rest_stays}
+use Rattle.lset_judge.proofs.LogOfKey.{rest_stays}
 use Rattle.lset_judge.proofs.log.Log.cut_to_rest.Goals as goal
 
 pub returns : goal.returns

@@ -1,6 +1,6 @@
 use Rattle.std.proofs.Common.{sym, subst}
 use Rattle.lset_judge.specs.Log.{log_of, StaysLog}
-use Rattle.lset_judge.proofs.Logging.{forgot_stays}
+use Rattle.lset_judge.proofs.LogOfKey.{forgot_stays}
 use Rattle.lset_judge.proofs.log.Log.forget.Goals as goal
 
 pub returns-then-len : goal.returns-then-len

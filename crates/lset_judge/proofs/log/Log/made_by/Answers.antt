@@ -1,6 +1,6 @@
 use Rattle.std.proofs.Common.{◌∙◌, ◌<◌, ◌-◌, sym, arith, length}
 use Rattle.lset_judge.specs.Log.{log_of}
-use Rattle.lset_judge.proofs.Logging.{of_entry}
+use Rattle.lset_judge.proofs.LogOfKey.{of_entry}
 use Rattle.lset_judge.proofs.log.Log.made_by.Goals as goal
 
 pub loop-place-init : goal.loop-place-init

@@ -1,6 +1,6 @@
 use Rattle.std.proofs.Common.{sym, subst}
 use Rattle.lset_judge.specs.Log.{log_of, StaysLog}
-use Rattle.lset_judge.proofs.Logging.{stays_on}
+use Rattle.lset_judge.proofs.LogOfKey.{stays_on}
 use Rattle.lset_judge.proofs.log.Log.settle.Goals as goal
 
 pub returns : goal.returns

@@ -5,7 +5,7 @@ use Rattle.lset_judge.specs.declared.stream.StreamCall.{StreamCall}
 use Rattle.lset_judge.specs.declared.stream.StreamFault.{StreamFault}
 use Rattle.lset_judge.specs.declared.stream.Pending.{Pending}
 use Rattle.lset_judge.specs.Pending.{pending_at}
-use Rattle.lset_judge.proofs.Pendings.{all_right, told_of_few}
+use Rattle.lset_judge.proofs.PendingFound.{all_right, told_of_few}
 use Rattle.lset_judge.proofs.pending.PendingCalls.clash.Goals as goal
 
 abbrev Apart : StreamCall → Pending → Type 0

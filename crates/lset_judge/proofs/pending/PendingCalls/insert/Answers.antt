@@ -4,7 +4,7 @@ use Rattle.std.specs.HashMap.{get}
 use Rattle.lset_judge.specs.declared.stream.StreamCall.{StreamCall}
 use Rattle.lset_judge.specs.declared.stream.Pending.{Pending}
 use Rattle.lset_judge.specs.Pending.{all_pending}
-use Rattle.lset_judge.proofs.Pendings.{few_with, many_with, known_still, known_with}
+use Rattle.lset_judge.proofs.PendingFound.{few_with, many_with, known_still, known_with}
 use Rattle.lset_judge.proofs.pending.PendingCalls.insert.Goals as goal
 
 abbrev Free : Pending → Pending → Type 0

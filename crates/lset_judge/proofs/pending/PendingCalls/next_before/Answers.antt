@@ -4,7 +4,7 @@ use Rattle.std.specs.HashMap.{get}
 use Rattle.lset_judge.specs.declared.stream.StreamCall.{StreamCall}
 use Rattle.lset_judge.specs.declared.stream.Pending.{Pending}
 use Rattle.lset_judge.specs.Pending.{all_pending, IsNext}
-use Rattle.lset_judge.proofs.Pendings.{few_next, many_told, popped_rest}
+use Rattle.lset_judge.proofs.PendingFound.{few_next, many_told, popped_rest}
 use Rattle.lset_judge.proofs.pending.PendingCalls.next_before.Goals as goal
 
 pub invariant_of-self-then-many-moment : goal.invariant_of-self-then-many-moment
@@ -24,7 +24,7 @@ returns-then-few-moment c =
     subst (λ (ps : List Pending). IsNext c.args.moment ps p (all_pending now s.many.entries)) c.self.view_is
     (few_next few s.many.entries s.next c.args.moment end far p now first.0 c.swap_remove-next.ensures.value c.swap_remove-next.ensures.items
     (ap (λ (q : Pending). q.end) c.swap_remove-next.ensures.value ∙ first.1 p) c.if-few-moment.true
-    (subst (All (λ (q : Pending). end ≤ q.end)) c.deref.ensures.value c.end_of_few-few.ensures.least) c.if-few-many.true c.end_of_many-many.ensures.least)
+    (subst (All (λ (q : Pending). end ≤ q.end)) c.deref.ensures.value c.end_of_few-few.ensures.smallest) c.if-few-many.true c.end_of_many-many.ensures.smallest)
 
 pub returns-then-many-moment : goal.returns-then-many-moment
 returns-then-many-moment c =
@@ -32,5 +32,5 @@ returns-then-many-moment c =
     subst (λ (ps : List Pending). MatchOption c.pop_many.result ((all_pending s.few.items now ≡ ps) × All (λ (p : Pending). c.args.moment ≤ p.end) ps)
     (λ (p : Pending). IsNext c.args.moment ps p (all_pending s.few.items now))) c.self.view_is
     (many_told s.few.items s.many.entries now c.args.moment c.end_of_many-many.result near c.pop_many.result c.pop_many.ensures
-    c.end_of_many-many.ensures.first c.if-many-moment.true c.ranges.moment.fits c.end_of_many-many.ensures.least c.if-many-few.true
-    (subst (All (λ (q : Pending). near ≤ q.end)) c.deref.ensures.value c.end_of_few-few.ensures.least))
+    c.end_of_many-many.ensures.first c.if-many-moment.true c.ranges.moment.fits c.end_of_many-many.ensures.smallest c.if-many-few.true
+    (subst (All (λ (q : Pending). near ≤ q.end)) c.deref.ensures.value c.end_of_few-few.ensures.smallest))

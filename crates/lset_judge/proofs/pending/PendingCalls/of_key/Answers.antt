@@ -1,7 +1,7 @@
 use Rattle.std.proofs.Common.{rules, ◌≡◌, ◌++◌, ◌∙◌, List, ap}
 use Rattle.lset_judge.specs.declared.stream.StreamCall.{StreamCall}
 use Rattle.lset_judge.specs.Log.{waiting_of}
-use Rattle.lset_judge.proofs.Pendings.{of_key_split}
+use Rattle.lset_judge.proofs.PendingFound.{of_key_split}
 use Rattle.lset_judge.proofs.pending.PendingCalls.of_key.Goals as goal
 
 pub returns : goal.returns

@@ -1,5 +1,5 @@
 use Rattle.std.proofs.Common.{false}
-use Rattle.lset_judge.proofs.Heaped.{put_turned, none_turned}
+use Rattle.lset_judge.proofs.EndsInHeap.{put_turned, none_turned}
 use Rattle.lset_judge.proofs.rule.KeyState.put.Goals as goal
 
 pub returns-in-Some-clause-turned : goal.returns-in-Some-clause-turned

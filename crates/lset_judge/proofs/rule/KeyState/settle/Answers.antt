@@ -1,7 +1,7 @@
 use Rattle.std.proofs.Common.{arith, sym, ◌∙◌, suc, ◌≡◌, false, ◌<◌}
 use Rattle.lset_judge.specs.Rule.{fits, open_changes}
 use Rattle.lset_judge.specs.Code.{state_of}
-use Rattle.lset_judge.proofs.Heaped.{one_fewer, settles_on}
+use Rattle.lset_judge.proofs.EndsInHeap.{one_fewer, settles_on}
 use Rattle.lset_judge.proofs.rule.KeyState.settle.Goals as goal
 
 pub loop-event-smaller : goal.loop-event-smaller

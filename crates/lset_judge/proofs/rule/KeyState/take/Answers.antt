@@ -1,5 +1,5 @@
 use Rattle.std.proofs.Common.{true}
-use Rattle.lset_judge.proofs.Heaped.{take_turned, none_turned}
+use Rattle.lset_judge.proofs.EndsInHeap.{take_turned, none_turned}
 use Rattle.lset_judge.proofs.rule.KeyState.take.Goals as goal
 
 pub returns-in-Some-clause-turned : goal.returns-in-Some-clause-turned

@@ -3,8 +3,8 @@ use Rattle.lset_words.specs.Words.{key_of}
 use Rattle.lset_judge.specs.declared.stream.Pending.{Pending}
 use Rattle.lset_judge.specs.Events.{kind_if, begin_event}
 use Rattle.lset_judge.specs.Stream.{record_of, pending_of, key_in, IsMetBy}
-use Rattle.lset_judge.proofs.Begun.{begins_apart, call_begun}
-use Rattle.lset_judge.proofs.Logs.{begin_logged}
+use Rattle.lset_judge.proofs.CallBegins.{begins_apart, call_begun}
+use Rattle.lset_judge.proofs.LogsGoOn.{begin_logged}
 use Rattle.lset_judge.proofs.stream.Stream.begin.Goals as goal
 
 pub insert-requires : goal.insert-requires

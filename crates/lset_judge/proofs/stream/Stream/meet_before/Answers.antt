@@ -4,8 +4,8 @@ use Rattle.std.proofs.lemmas.List.Elements.{All-contains_itself, All-tail}
 use Rattle.std.proofs.lemmas.List.Sorted.{All-permutation, length_permutation}
 use Rattle.lset_judge.specs.declared.stream.Pending.{Pending}
 use Rattle.lset_judge.specs.Log.{IsStreamKept, LogsEnd}
-use Rattle.lset_judge.proofs.Begun.{end_met}
-use Rattle.lset_judge.proofs.Logs.{end_logged}
+use Rattle.lset_judge.proofs.CallBegins.{end_met}
+use Rattle.lset_judge.proofs.LogsGoOn.{end_logged}
 use Rattle.lset_judge.proofs.stream.Stream.meet_before.Goals as goal
 
 pub loop-next-init : goal.loop-next-init

@@ -4,7 +4,7 @@ use Rattle.lset_judge.specs.declared.stream.Pending.{Pending}
 use Rattle.lset_judge.specs.declared.stream.Stream.{Stream}
 use Rattle.lset_judge.specs.Stream.{IsStreamOf}
 use Rattle.lset_judge.specs.Log.{log_for, IsLog}
-use Rattle.lset_judge.proofs.Logs.{new_logged}
+use Rattle.lset_judge.proofs.LogsGoOn.{new_logged}
 use Rattle.lset_judge.proofs.stream.Stream.new.Goals as goal
 
 pub returns-clause-opened : goal.returns-clause-opened

@@ -1,5 +1,5 @@
 use Rattle.lset_judge.specs.Stream.{record_of}
-use Rattle.lset_judge.proofs.Streamed.{may_still}
+use Rattle.lset_judge.proofs.StreamSteps.{may_still}
 use Rattle.lset_judge.proofs.stream.Stream.take.Goals as goal
 
 pub begin-requires-clause-may : goal.begin-requires-clause-may

@@ -3,7 +3,7 @@ use Rattle.std.specs.Prelude.{is_some}
 use Rattle.std.specs.Bool.{nat_eq}
 use Rattle.std.specs.HashMap.{get}
 use Rattle.std.proofs.lemmas.Bool.{true≢false}
-use Rattle.lset_judge.proofs.States.{has_at, each_more, none_of}
+use Rattle.lset_judge.proofs.KeyStates.{has_at, each_more, none_of}
 use Rattle.lset_judge.proofs.stream.Stream.unknown_left.Goals as goal
 
 pub returns-then-not-contains_key : goal.returns-then-not-contains_key

@@ -1,6 +1,6 @@
 use Rattle.std.proofs.Common.{sym, subst}
 use Rattle.lset_judge.specs.Stream.{stream_history, IsJudgedTo, IsStreamVerdictCutOff}
-use Rattle.lset_judge.proofs.Closed.{stream_cut_off, stream_refused}
+use Rattle.lset_judge.proofs.ClosingVerdict.{stream_cut_off, stream_refused}
 use Rattle.lset_judge.proofs.stream.Stream.verdict_cut_off.Goals as goal
 
 pub returns-in-Some-clause-said : goal.returns-in-Some-clause-said

@@ -25,10 +25,10 @@ right_more keys xs x None Q all here = All-push (λ (p : Bor ℕ × Bor KeyState
 right_more keys xs x (Some k) Q h here = h
 
 -- the lesser of two that are left wrongly
-wrong_more : (P : ℕ → Type 0) (A : Type 0) (wrong : Option ℕ) (key least : ℕ) → (least ≡ key) ⊎ (wrong ≡ Some least) → P key → MatchOption wrong A P → P least
-wrong_more P A wrong key least (inl e) here before = subst P (sym e) here
-wrong_more P A None key least (inr e) here before = absurd (cc)
-wrong_more P A (Some k) key least (inr e) here before = subst P (let s : k ≡ least = cc in s) before
+wrong_more : (P : ℕ → Type 0) (A : Type 0) (wrong : Option ℕ) (key smallest : ℕ) → (smallest ≡ key) ⊎ (wrong ≡ Some smallest) → P key → MatchOption wrong A P → P smallest
+wrong_more P A wrong key smallest (inl e) here before = subst P (sym e) here
+wrong_more P A None key smallest (inr e) here before = absurd (cc)
+wrong_more P A (Some k) key smallest (inr e) here before = subst P (let s : k ≡ smallest = cc in s) before
 
 -- if each is left rightly, the one that is found is
 found_right : (keys : List ℕ) (k : ℕ) (es : List (ℕ × KeyState)) → AllByRecursion (λ (e : ℕ × KeyState). may_be_left (has_key e.0 keys) (state_of e.1) ≡ true) es
@@ -49,7 +49,7 @@ loop-key-preserved-then-not-may_be_left c =
     let turn = hash_map_turn deref_pair c.loop-key.yielded c.into_iter-key-iterator.result c.loop-key.key-iterator c.next.new.self c.next.result
     (c.in-Some.key, c.in-Some.state) c.loop-key.yielded_by c.in-Some.is c.next.ensures.steps nat_eq_equiv m (search rules) (search rules) in
     wrong_more (λ k. may_be_left (has_key k keys) (state_for m k) ≡ false)
-    (All (λ p. may_be_left (has_key p.0.now keys) (state_of p.1.now) ≡ true) c.loop-key.yielded) c.loop-key.wrong k c.least.result c.least.ensures
+    (All (λ p. may_be_left (has_key p.0.now keys) (state_of p.1.now) ≡ true) c.loop-key.yielded) c.loop-key.wrong k c.smallest.result c.smallest.ensures
     (ap (λ o. may_be_left (has_key k keys) (state_or o)) turn.1
     ∙ sym (c.may_be_left.ensures ∙ ap (λ b. may_be_left b (state_of s)) c.is_among.ensures) ∙ c.if-not-may_be_left.true)
     c.loop-key.invariant

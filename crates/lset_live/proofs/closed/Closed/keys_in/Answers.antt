@@ -1,7 +1,7 @@
 use Rattle.std.proofs.Common.{◌≡◌, ℕ, ◌-◌, ◌<◌, vec_capacity, ◌++◌, ◌∷◌, [], List, sym, subst, arith, rules}
 use Rattle.lset_steps.specs.Chain.{node_key}
 use Rattle.lset_live.specs.Closes.{most_keys}
-use Rattle.lset_live.proofs.Walking.{Walks, starts, keeps, skips, falls, fits, ends, has_room}
+use Rattle.lset_live.proofs.KeysWalk.{Walks, starts, keeps, skips, falls, fits, ends, has_room}
 use Rattle.lset_steps.proofs.WalkedTo.{unmarked_word, marked_word}
 use Rattle.lset_live.proofs.closed.Closed.keys_in.Goals as goal
 use Rattle.lset_live.proofs.closed.Closed.keys_in.Goals.{then-not-is_marked+in_ok-push, else-not-is_marked}

@@ -1,6 +1,6 @@
 use Rattle.std.proofs.Common.{◌-◌, ◌≤◌, vec_capacity}
 use Rattle.lset_steps.specs.Chain.{node_key}
-use Rattle.lset_live.proofs.Walking.{Walks}
+use Rattle.lset_live.proofs.KeysWalk.{Walks}
 use Rattle.lset_live.proofs.closed.Closed.keys_in.Given as goal
 
 abbrev pub invariant-loop-node : goal.invariant-loop-node

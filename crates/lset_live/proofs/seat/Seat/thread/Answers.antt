@@ -1,6 +1,6 @@
 use Rattle.std.proofs.Common.{ap, sym, ◌∙◌}
 use Rattle.lset_rule.specs.declared.slots.OwnSlots.{OwnSlots}
-use Rattle.lset_rule.proofs.Keeps.{own_number}
+use Rattle.lset_rule.proofs.MovesKeepRule.{own_number}
 use Rattle.lset_words.specs.Records.{thread_of}
 use Rattle.lset_live.specs.Seats.{SeatValue}
 use Rattle.lset_live.proofs.Dated.{root_is}

@@ -1,6 +1,6 @@
 use Rattle.std.proofs.Common.{ap, ◌∙◌}
 use Rattle.lset_steps.specs.declared.Action.TheVariants.{Load}
-use Rattle.lset_loops.proofs.Calling.{of_table_first, acts_first, begins_holding}
+use Rattle.lset_loops.proofs.StepsOfCall.{of_table_first, acts_first, begins_holding}
 use Rattle.lset_loops.proofs.caller.Caller.begin_at_head.Goals as goal
 
 pub start_on-seen-requires-clause-place : goal.start_on-seen-requires-clause-place

@@ -1,7 +1,7 @@
 use Rattle.std.proofs.Common.{◌≡◌, ◌+◌, None, sym, ap, ◌∙◌, subst}
 use Rattle.lset_steps.specs.declared.Action.TheVariants.{Exchange}
 use Rattle.lset_loops.specs.Calling.{Holds, first}
-use Rattle.lset_loops.proofs.Calling.{of_table_first, acts_first, begins_holding, first_tried}
+use Rattle.lset_loops.proofs.StepsOfCall.{of_table_first, acts_first, begins_holding, first_tried}
 use Rattle.lset_loops.proofs.caller.Caller.begin_locked.Goals as goal
 
 pub start_on-seen-requires-clause-place : goal.start_on-seen-requires-clause-place

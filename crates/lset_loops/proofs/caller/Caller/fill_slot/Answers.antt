@@ -3,7 +3,7 @@ use Rattle.lset_words.specs.declared.TheConstants.{MOST_WORDS}
 use Rattle.lset_words.specs.Words.{key_index, link_index}
 use Rattle.lset_steps.specs.declared.Action.TheVariants.{Store}
 use Rattle.lset_loops.specs.Calling.{slot}
-use Rattle.lset_loops.proofs.Calling.{few_held}
+use Rattle.lset_loops.proofs.StepsOfCall.{few_held}
 use Rattle.lset_loops.proofs.caller.Caller.fill_slot.Goals as goal
 
 pub invariant_of-node : goal.invariant_of-node

@@ -1,4 +1,4 @@
-use Rattle.lset_loops.proofs.Calling.{few_words, leads}
+use Rattle.lset_loops.proofs.StepsOfCall.{few_words, leads}
 use Rattle.lset_loops.proofs.caller.Caller.load.Goals as goal
 
 pub index-requires : goal.index-requires

@@ -1,4 +1,4 @@
-use Rattle.lset_loops.proofs.Calling.{few_locks}
+use Rattle.lset_loops.proofs.StepsOfCall.{few_locks}
 use Rattle.lset_loops.proofs.caller.Caller.lock.Goals as goal
 
 pub index-requires : goal.index-requires

@@ -1,6 +1,6 @@
 use Rattle.std.proofs.Common.{ap}
 use Rattle.lset_loops.specs.Begun.{begun_at}
-use Rattle.lset_loops.proofs.Calling.{may_begin}
+use Rattle.lset_loops.proofs.StepsOfCall.{may_begin}
 use Rattle.lset_loops.proofs.caller.Caller.new.Goals as goal
 
 pub returns-clause-begins : goal.returns-clause-begins

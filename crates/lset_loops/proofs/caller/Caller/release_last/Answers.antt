@@ -1,4 +1,4 @@
-use Rattle.lset_loops.proofs.Calling.{of_table}
+use Rattle.lset_loops.proofs.StepsOfCall.{of_table}
 use Rattle.lset_loops.proofs.caller.Caller.release_last.Goals as goal
 
 pub step_on-requires-clause-place : goal.step_on-requires-clause-place

@@ -1,5 +1,5 @@
 use Rattle.std.proofs.Common.{refl}
-use Rattle.lset_loops.proofs.Calling.{few_words, of_table, leads}
+use Rattle.lset_loops.proofs.StepsOfCall.{few_words, of_table, leads}
 use Rattle.lset_loops.proofs.caller.Caller.store.Goals as goal
 
 pub index-requires : goal.index-requires

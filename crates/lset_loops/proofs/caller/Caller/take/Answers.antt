@@ -1,4 +1,4 @@
-use Rattle.lset_loops.proofs.Calling.{of_table, still, leads_still, leads_had}
+use Rattle.lset_loops.proofs.StepsOfCall.{of_table, still, leads_still, leads_had}
 use Rattle.lset_loops.proofs.caller.Caller.take.Goals as goal
 
 pub wait_for-requires : goal.wait_for-requires

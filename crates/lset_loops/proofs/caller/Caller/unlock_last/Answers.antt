@@ -1,4 +1,4 @@
-use Rattle.lset_loops.proofs.Calling.{few_asks}
+use Rattle.lset_loops.proofs.StepsOfCall.{few_asks}
 use Rattle.lset_loops.proofs.caller.Caller.unlock_last.Goals as goal
 
 pub index-requires : goal.index-requires

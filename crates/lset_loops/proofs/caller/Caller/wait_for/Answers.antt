@@ -1,4 +1,4 @@
-use Rattle.lset_loops.proofs.Calling.{itself, of_table, leads_then, tried}
+use Rattle.lset_loops.proofs.StepsOfCall.{itself, of_table, leads_then, tried}
 use Rattle.lset_loops.proofs.caller.Caller.wait_for.Goals as goal
 
 pub loop-round-init : goal.loop-round-init

@@ -2,7 +2,7 @@ use Rattle.std.proofs.Common.{◌≡◌, true, ◌++◌, ◌∷◌, [], ap, subs
 use Rattle.std.proofs.lemmas.Result.{on_ok_weaker}
 use Rattle.lset_text.specs.Openings.{is_above}
 use Rattle.lset_recording.specs.Reading.{Comes, IsFormed}
-use Rattle.lset_recording.proofs.Judged.{opening_parts, key_parts}
+use Rattle.lset_recording.proofs.KeptByLine.{opening_parts, key_parts}
 use Rattle.lset_recording.proofs.kept.Judging.keep.Goals as goal
 
 pub returns-in-Opening-clause-kept : goal.returns-in-Opening-clause-kept

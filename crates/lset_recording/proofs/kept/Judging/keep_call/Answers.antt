@@ -1,7 +1,7 @@
 use Rattle.std.proofs.Common.{Some, subst}
 use Rattle.lset_judge.specs.Stream.{record_of}
 use Rattle.lset_recording.specs.Kept.{IsJudgeKept}
-use Rattle.lset_recording.proofs.Judged.{one_call_more}
+use Rattle.lset_recording.proofs.KeptByLine.{one_call_more}
 use Rattle.lset_recording.proofs.kept.Judging.keep_call.Goals as goal
 
 pub returns-in-Err-clause-refused : goal.returns-in-Err-clause-refused

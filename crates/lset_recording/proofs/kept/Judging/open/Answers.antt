@@ -1,6 +1,6 @@
 use Rattle.std.proofs.Common.{◌≡◌, ℕ, Ok, Some, subst, ◌∙◌}
 use Rattle.lset_recording.specs.Kept.{IsJudgeKept}
-use Rattle.lset_recording.proofs.Followed.{opened}
+use Rattle.lset_recording.proofs.NextCalls.{opened}
 use Rattle.lset_recording.proofs.kept.Judging.open.Goals as goal
 
 pub returns-in_ok-judge-in-None-clause-kept : goal.returns-in_ok-judge-in-None-clause-kept

@@ -1,6 +1,6 @@
 use Rattle.std.proofs.Common.{◌∙◌}
 use Rattle.lset_text.proofs.PartLaws.{some_part}
-use Rattle.lset_report.proofs.ReportPieces.{one_piece, two_pieces, no_call, is_call}
+use Rattle.lset_report.proofs.FieldCounts.{one_piece, two_pieces, no_call, is_call}
 use Rattle.lset_report.proofs.reading.lines.line_of_report.Goals as goal
 use Rattle.lset_report.proofs.reading.lines.line_of_report.Goals.{in_default-2-via-in-Two+in_default}
 use Rattle.lset_report.proofs.reading.lines.line_of_report.Goals.{in_default-2-via-in_default+in_default}

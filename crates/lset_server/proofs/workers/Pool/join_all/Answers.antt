@@ -2,7 +2,7 @@ use Rattle.std.proofs.Common.{◌≡◌, ◌*◌, length, ap, refl, arith, rules
 use Rattle.crossbeam_channel.specs.Ends.{sends_on, receives_on}
 use Rattle.std.specs.Vec.Iter.{into_iter_items}
 use Rattle.lset_session.specs.declared.TheConstants.{MOST_LINES}
-use Rattle.lset_live.proofs.Handing.{all_rest, held_next}
+use Rattle.lset_live.proofs.ListsHandedOn.{all_rest, held_next}
 use Rattle.lset_server.proofs.ServeLaws.{joined_none, joined_next, bound_none, bound_next, bound_next'}
 use Rattle.lset_server.proofs.workers.Pool.join_all.Goals as goal
 

@@ -1,7 +1,7 @@
 use Rattle.std.proofs.Common.{◌≡◌, length, ap, ◌∙◌, [], ◌∷◌, length-append}
 use Rattle.crossbeam_channel.specs.Ends.{sends_on, receives_on}
 use Rattle.crossbeam_channel.specs.Claims.{view}
-use Rattle.lset_live.proofs.Handing.{all_more, all_rest, moved_more}
+use Rattle.lset_live.proofs.ListsHandedOn.{all_more, all_rest, moved_more}
 use Rattle.lset_server.proofs.ServeLaws.{part_more}
 use Rattle.lset_server.proofs.workers.Pool.start_all.Goals as goal
 

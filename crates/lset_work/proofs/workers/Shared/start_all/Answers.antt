@@ -1,7 +1,7 @@
 use Rattle.std.proofs.Common.{◌≡◌, ap, arith, length, ◌∷◌, map}
 use Rattle.std.proofs.lemmas.Grind.{common_steps}
 use Rattle.std.specs.Vec.Iter.{into_iter_items}
-use Rattle.lset_live.proofs.Handing.{moved_more, all_rest, all_more}
+use Rattle.lset_live.proofs.ListsHandedOn.{moved_more, all_rest, all_more}
 use Rattle.lset_work.proofs.workers.Shared.start_all.Goals as goal
 
 pub loop-seat-preserved : goal.loop-seat-preserved

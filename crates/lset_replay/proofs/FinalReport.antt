@@ -1,0 +1,226 @@
+-- What holds of the report at the end of a run.
+use Rattle.std.proofs.Common.{◌≡◌, ℕ, suc, ◌<◌, ◌≤◌, Bool, true, false, List, [], ◌∷◌, length, map, sym, refl, subst, ap, ◌∙◌, arith}
+use Rattle.std.specs.Prelude.{Option, Some, None, IfSome}
+use Rattle.std.proofs.lemmas.List.{length-map, get_or-map}
+use Rattle.lset_words.specs.declared.Reply.{Reply}
+use Rattle.lset_words.specs.Log.{Log, TracedCall, calls_at, history_at}
+use Rattle.lset_words.specs.Account.{Contents, Counts, Account}
+use Rattle.lset_words.specs.Placement.{Standing, standing, makes_change, traced_at, no_traced, StandsBy, StandsAt, IsPlacement, reply_by}
+use Rattle.lset_words.specs.Words.{Opening}
+use Rattle.lset_words.specs.declared.history.CallRecord.{CallRecord}
+use Rattle.lset_words.specs.declared.history.Placed.{Placed}
+use Rattle.lset_words.specs.History.{Linearizes}
+use Rattle.lset_words.specs.SequentialSet.{opening_set}
+use Rattle.lset_history.proofs.Lists.{all_at}
+use Rattle.lset_history.proofs.Calls.{Traced, ChangedBy, EndedBy}
+use Rattle.lset_history.proofs.CallSteps.{run_of, calls_of}
+use Rattle.lset_report.specs.Order.{by_points, placed_in, pointed_of}
+use Rattle.lset_report.proofs.SortedPlaces.{placed_by_moments}
+use Rattle.lset_replay.specs.declared.places.Linearized.{Linearized}
+use Rattle.lset_replay.specs.Trace.{trace_at, place_at, Trace}
+use Rattle.lset_replay.specs.Blocks.{point_of, pointed_from, blocks_upto, StandUpTo}
+use Rattle.lset_replay.proofs.KeyChanges.{HoldsKeys}
+use Rattle.lset_replay.proofs.ReplayKept.{Follows, PlaceBy, PlaceOf}
+use Rattle.lset_replay.proofs.RecorderReady.{follows, few_calls}
+use Rattle.lset_steps.specs.declared.Event.{Event}
+use Rattle.lset_steps.specs.Steps.{Table, Run, event_at, log_of}
+use Rattle.lset_steps.specs.Chain.{View, contents_of, counts_of}
+use Rattle.lset_steps.specs.Laws.{view_of, views}
+use Rattle.lset_steps.specs.Worlds.{WorldState, IsContent, keys_in}
+use Rattle.lset_steps.proofs.Segments.{chain_once}
+use Rattle.lset_lists.specs.Headline.{history_of, keys_left, ExplainsRun, IsThePlacement, PlacementExplainsRuns}
+use Rattle.lset_replay.specs.declared.events.LineEvent.{LineEvent}
+use Rattle.lset_replay.specs.declared.recorder.Recorder.{Recorder}
+use Rattle.lset_replay.specs.Events.{events_of, only_events}
+use Rattle.lset_report.specs.Report.{ReportValue}
+use Rattle.lset_replay.specs.Reports.{IsReportOf, IsReplay, IsExplained}
+use Rattle.lset_replay.specs.Follows.{HasFollowed}
+use Rattle.lset_replay.proofs.FollowedRuns.{TellsKeys, shown, account_then, low_then, kept_then}
+use Rattle.lset_replay.proofs.EventLists.{as_many}
+use Rattle.lset_schedule.specs.Plan.{Plan, opening_in}
+
+-- ---- the order that is made of the places is [Placement]
+
+abbrev moment_of : Option Linearized → Option ℕ
+moment_of None = None
+moment_of (Some p) = Some p.moment
+
+-- what a place has of its call
+changes : Option ℕ → Bool
+changes None = false
+changes (Some m) = true
+
+module _ (q : ℕ) (contents : Contents) (counts : Counts) where
+  reply_there : (x : TracedCall) (changed : Option ℕ) (ended : Option (ℕ × Reply)) (p : Linearized)
+      → PlaceBy q contents counts x changed ended (Some p) → reply_by changed ended ≡ p.reply
+  reply_there x (Some m) ended p h = cc
+  reply_there x None None p h = absurd (cc)
+  reply_there x None (Some end) p h = let e = h.1 in cc
+
+  change_there : (x : TracedCall) (changed : Option ℕ) (ended : Option (ℕ × Reply)) (p : Linearized)
+      → PlaceBy q contents counts x changed ended (Some p) → changes changed ≡ p.change
+  unfolding changes
+  change_there x (Some m) ended p h = cc
+  change_there x None None p h = absurd (cc)
+  change_there x None (Some end) p h = let e = h.1 in cc
+
+  stands_there : (x : TracedCall) (changed : Option ℕ) (ended : Option (ℕ × Reply)) (p : Option Linearized)
+      → PlaceBy q contents counts x changed ended p
+      → StandsBy q contents counts x changed ended (moment_of p)
+  stands_there x (Some m) ended p h = ap moment_of h
+  stands_there x None None p h = ap moment_of h
+  stands_there x None (Some end) p h = (h.0, ap moment_of h.1, h.2)
+
+makes : (s : Standing) → makes_change s ≡ changes s.traced.changed
+unfolding changes
+makes s = at s s.traced.changed refl
+  where
+    at : (s : Standing) (c : Option ℕ) → s.traced.changed ≡ c → makes_change s ≡ changes s.traced.changed
+    at s None e = rw e refl
+    at s (Some m) e = rw e refl
+
+module _ (q : ℕ) (contents : Contents) (counts : Counts) where
+  pointed_there : (x : TracedCall) (number : ℕ) (p : Linearized) → PlaceOf q contents counts x (Some p)
+      → pointed_of (record { number = number; traced = x; moment = p.moment })
+      ≡ record { point = point_of p; placed = record { call = number; reply = p.reply } }
+  pointed_there x number p h =
+      let s : Standing = record { number = number; traced = x; moment = p.moment } in
+      rw (makes s, change_there q contents counts x x.changed x.ended p h, reply_there q contents counts x x.changed x.ended p h) refl
+
+  pointed_each : (number : ℕ) (xs : List TracedCall) (ps : List (Option Linearized)) → length ps ≡ length xs
+      → ((i : ℕ) → i < length xs → PlaceOf q contents counts (traced_at xs i) (place_at ps i))
+      → map pointed_of (standing number xs (map moment_of ps)) ≡ pointed_from number ps
+  pointed_each number [] [] l h = refl
+  pointed_each number (x ∷ xs) (None ∷ ps) l h = pointed_each (suc number) xs ps (omega arith) (λ i n. h (suc i) (omega arith))
+  pointed_each number (x ∷ xs) (Some p ∷ ps) l h = rw (
+    pointed_there x number p (h 0 (omega arith)),
+    pointed_each (suc number) xs ps (omega arith) (λ i n. h (suc i) (omega arith)),
+  ) refl
+  pointed_each number xs ps l h = absurd (omega arith)
+
+  module _ (xs : List TracedCall) (ps : List (Option Linearized)) (l : length ps ≡ length xs)
+      (h : (i : ℕ) → i < length xs → PlaceOf q contents counts (traced_at xs i) (place_at ps i)) where
+    is_placement : (last : ℕ) → IsPlacement q last xs contents counts (blocks_upto ps last)
+    is_placement last = record {
+      places = map moment_of ps;
+      one_each = length-map ps moment_of ∙ l;
+      stands = λ i n. rw (get_or-map moment_of ps i None None (omega arith)) (stands_there q contents counts
+          (traced_at xs i) (traced_at xs i).changed (traced_at xs i).ended (place_at ps i)
+          (h i n));
+      in_order = ap (λ zs. placed_in (by_points last zs)) (sym (pointed_each 0 xs ps l h))
+          ∙ placed_by_moments last (standing 0 xs (map moment_of ps));
+    }
+
+-- and no call stands after the last moment
+module _ (op : Opening) (last : ℕ) (log : Log) (contents : Contents) (counts : Counts)
+    (account : Account op last log contents counts)
+    (low : HoldsKeys last contents) where
+  upto : (x : TracedCall) (changed : Option ℕ) (ended : Option (ℕ × Reply)) (p : Option Linearized)
+      → PlaceBy op.quota contents counts x changed ended p
+      → ChangedBy (run_of op.threads op.quota log contents counts) last x.thread x.call x.begun changed
+      → EndedBy (run_of op.threads op.quota log contents counts) last x.thread x.call x.begun changed ended
+      → IfSome p (λ (z : Linearized). z.moment ≤ last)
+  upto x (Some m) ended p h c e = subst (λ y. IfSome y (λ (z : Linearized). z.moment ≤ last)) (sym h) c.0
+  upto x None None p h c e = subst (λ y. IfSome y (λ (z : Linearized). z.moment ≤ last)) (sym h) tt
+  upto x None (Some end) p h c e = rw h.1 (let a : h.0 ≤ end.0 = h.2.upto in let b : end.0 ≤ last = e.0 in omega arith)
+
+  pub stand_upto : StandUpTo last (trace_at op log last).places
+  stand_upto i l =
+      let f = follows op last log contents counts account low last (omega arith) in
+      let count : length (trace_at op log last).places ≡ length (calls_at log last) = f.numbered in
+      let t = all_at (Traced (run_of op.threads op.quota log contents counts) last) (calls_at log last) no_traced i
+      (omega arith)
+      (calls_of op last log contents counts account last (omega arith)).each in
+      upto (traced_at (calls_at log last) i) (traced_at (calls_at log last) i).changed (traced_at (calls_at log last) i).ended
+      (place_at (trace_at op log last).places i)
+      (f.placed i (omega arith)) t.changes t.ends
+
+  pub placement : IsPlacement op.quota last (calls_at log last) contents counts (blocks_upto (trace_at op log last).places last)
+  placement =
+      let f = follows op last log contents counts account low last (omega arith) in
+      is_placement op.quota contents counts (calls_at log last) (trace_at op log last).places f.numbered f.placed last
+
+-- a world has one content
+content_once : (v : View) (ks js : List ℕ) → IsContent v ks → IsContent v js → ks ≡ js
+content_once v ks js a b = a.0.2 ∙ ap (keys_in v) (chain_once v 0 a.0.0 b.0.0 a.0.1 b.0.1) ∙ sym b.0.2
+
+-- THE REPORT of a run that has been followed
+module _ (T : Table) (accounts : TellsKeys T) (op : Opening) (events : List LineEvent) (k : ℕ) (w : WorldState) (r : Recorder)
+    (h : HasFollowed T op events k w r) where
+  open shown T op events use {log, contents, counts}
+
+  pub few_places : length r.places.items ≤ k
+  few_places =
+      let kept = kept_then T accounts op events k w r h in
+      let a : length r.places.items ≡ length (calls_at log k) = kept.numbered in
+      let b : length (calls_at log k) ≤ k = few_calls log k in
+      omega arith
+
+  pub places_upto : StandUpTo k r.places.items
+  places_upto = subst (λ (s : Trace). StandUpTo k s.places) (sym h.trace)
+      (stand_upto op k log contents counts (account_then T accounts op events k w r h)
+      (low_then T accounts op events k w r h))
+
+  pub order_then : IsPlacement op.quota k (calls_at log k) contents counts
+      (blocks_upto r.places.items k)
+  order_then = subst (λ (s : Trace). IsPlacement op.quota k (calls_at log k) contents
+      counts (blocks_upto s.places k)) (sym h.trace)
+      (placement op k log contents counts (account_then T accounts op events k w r h)
+      (low_then T accounts op events k w r h))
+
+-- and of all events
+pub replay_is : (T : Table) (accounts : TellsKeys T) (p : Plan) (w : WorldState) (r : Recorder) (order : List Placed)
+    (keys : List ℕ)
+    → HasFollowed T (opening_in p) (events_of p) (length (events_of p)) w r
+    → order ≡ blocks_upto r.places.items (length (events_of p))
+    → IsContent (view_of w.sizes w.state) keys
+    → IsReplay T p (record { version = p.version; kind = p.kind; history = r.history; order = order; keys = keys })
+replay_is T accounts p w r order keys h o c =
+    let op : Opening = opening_in p in
+    let es : ℕ → Event = event_at (only_events (events_of p)) in
+    let n : ℕ = length (events_of p) in
+    let e : length (only_events (events_of p)) ≡ n = as_many (events_of p) in
+    record {
+      version_is = refl;
+      kind_is = refl;
+      opening_is = h.opening_is;
+      report = record {
+        run = subst (λ z. Run T op es z) (sym e) h.run;
+        history_is = (kept_then T accounts op (events_of p) n w r h).history ∙ ap (λ z. history_at (log_of T op es) z) (sym e);
+        placement = subst (λ z. IsPlacement op.quota z (calls_at (log_of T op es) z) (contents_of (views T op es))
+            (counts_of (views T op es)) order) (sym e)
+            (subst (λ z. IsPlacement op.quota n (calls_at (log_of T op es) n) (contents_of (views T op es))
+            (counts_of (views T op es)) z) (sym o) (order_then T accounts op (events_of p) n w r h));
+        content = subst (λ z. IsContent (views T op es z) keys) (sym e)
+            (subst (λ (z : WorldState). IsContent (view_of z.sizes z.state) keys) h.world c);
+      };
+    }
+
+-- THE HEADLINE of a report
+module _ (T : Table) (headline : PlacementExplainsRuns T) (op : Opening) (events : List Event) (history : List CallRecord)
+    (order : List Placed) (keys : List ℕ)
+    (h : IsReportOf T op events history order keys) where
+  -- the order of the run is the report's
+  run_explained : ExplainsRun T op (event_at events) (length events) order
+  run_explained =
+      let found : (o : List Placed) × ExplainsRun T op (event_at events) (length events) o
+      × IsThePlacement T op (event_at events) (length events) o =
+      headline op (length events) (event_at events) h.run in
+      subst (λ o. ExplainsRun T op (event_at events) (length events) o) (sym (found.2.alone order h.placement)) found.1
+
+  pub explains : Linearizes op.quota (opening_set op) history order
+  explains = subst (λ z. Linearizes op.quota (opening_set op) z order) (sym h.history_is) run_explained.linearizes
+
+  pub leaves : keys_left op history order ≡ keys
+  leaves = ap (λ z. keys_left op z order) h.history_is
+      ∙ content_once (views T op (event_at events) (length events))
+      (keys_left op (history_of T op (event_at events) (length events)) order) keys run_explained.content h.content
+
+pub explained_is : (T : Table) → PlacementExplainsRuns T → (p : Plan) (v : ReportValue) → IsReplay T p v → IsExplained v
+explained_is T headline p v h = record {
+  linearizes = subst (λ (o : Opening). Linearizes o.quota (opening_set o) v.history.calls v.order) (sym h.opening_is)
+      (explains T headline (opening_in p) (only_events (events_of p)) v.history.calls v.order v.keys h.report);
+  leaves = subst (λ z. keys_left z v.history.calls v.order ≡ v.keys) (sym h.opening_is)
+      (leaves T headline (opening_in p) (only_events (events_of p)) v.history.calls v.order v.keys h.report);
+  increasing = h.report.content.1;
+}

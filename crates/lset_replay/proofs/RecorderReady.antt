@@ -1,0 +1,185 @@
+-- A run's next event finds the recorder ready for it.
+use Rattle.std.proofs.Common.{◌≡◌, ℕ, zero, suc, ◌<◌, ◌≤◌, ◌^◌, Bool, true, false, List, [], ◌∷◌, get_or, sym, refl, subst, ap, ◌∙◌, arith, ◌&&◌, inl, inr, length}
+use Rattle.std.specs.Prelude.{All, if◌then◌else◌, Contains as InList, ◌==◌, Option, Some, None, is_none, IfSome, IsSomeAnd}
+use Rattle.std.specs.List.{AllByRecursion, list_any}
+use Rattle.std.proofs.lemmas.List.Elements.{All-from_get_or, All-from_recursion}
+use Rattle.std.proofs.lemmas.List.{length-map, length-replicate, get_or-replicate}
+use Rattle.std.proofs.lemmas.List.Folds.{list_any_none}
+use Rattle.std.proofs.Math.ListN.{get_or-map}
+use Rattle.std.proofs.lemmas.Bool.{cases_Bool, false_from_ne_true}
+use Rattle.lset_words.specs.Account.{Contents, Counts, Enters, Account}
+use Rattle.lset_words.specs.SequentialSet.{has_key}
+use Rattle.lset_words.specs.Words.{Opening}
+use Rattle.lset_words.specs.declared.Call.{Call}
+use Rattle.lset_words.specs.declared.Reply.{Reply}
+use Rattle.lset_words.specs.declared.history.CallRecord.{CallRecord}
+use Rattle.lset_words.specs.Log.{Log, Entry, Change, TracedCall, is_under_way, calls_at, history_at, record_of, is_open}
+use Rattle.lset_words.specs.Log.Entry.{began, stepped}
+use Rattle.lset_words.specs.Placement.{no_traced}
+use Rattle.lset_words.specs.History.{call_numbered}
+use Rattle.lset_history.specs.Changes.{opened_moments, is_present, state_at, IsBounded, moments_of}
+use Rattle.lset_history.proofs.Keys.{has_from, has_false, has_none}
+use Rattle.lset_history.specs.History.{IsLater, MayBegin, MayEnd, has_open}
+use Rattle.lset_history.proofs.Lists.{all_imply, all_map}
+use Rattle.lset_history.proofs.Calls.{Traced, EndedBy, OpenAt}
+use Rattle.lset_history.proofs.CallSteps.{run_of, calls_of, way_of}
+use Rattle.lset_replay.proofs.KeyChanges.{Tells, HoldsKeys, may_change}
+use Rattle.lset_replay.proofs.OpenCalls.{OpenNumber, length_began, length_stepped}
+use Rattle.lset_replay.specs.declared.places.OpenCall.{OpenCall}
+use Rattle.lset_replay.specs.declared.recorder.Recorder.{Recorder}
+use Rattle.lset_replay.specs.Trace.{Trace, open_call_at, trace_at, trace_after, trace_of, MayStep, MayChange}
+use Rattle.lset_replay.proofs.ReplayKept.{Follows, IsWatched, follows_beginning}
+use Rattle.lset_replay.proofs.StepKept.{follows_step}
+
+-- ---- what the opening keys are in a trace before its first event
+
+one_upto : (i : ℕ) → i < 1 → get_or (0 ∷ []) i 0 ≤ 0
+one_upto zero l = omega arith
+one_upto (suc i) l = absurd (omega arith)
+
+pub opened_upto : (keys : List ℕ) (j : ℕ) → All (λ x. x ≤ 0) (opened_moments keys j)
+opened_upto keys j = by_test (has_key j keys)
+  where
+    by_test : (b : Bool) → All (λ x. x ≤ 0) (if b then 0 ∷ [] else [])
+    by_test true = All-from_get_or (λ x. x ≤ 0) (0 ∷ []) 0 one_upto
+    by_test false = All-from_get_or (λ x. x ≤ 0) [] 0 (λ i below. absurd (omega arith))
+
+present_at_first : (keys : List ℕ) (j : ℕ) → is_present (opened_moments keys) j 0 ≡ has_key j keys
+present_at_first keys j = by_test (has_key j keys)
+  where
+    by_test : (b : Bool) → state_at false (if b then 0 ∷ [] else []) 0 ≡ b
+    by_test true = refl
+    by_test false = refl
+
+module _ (op : Opening) (contents : Contents) (opens : (k : ℕ) → (contents 0 k → InList op.keys k) × (InList op.keys k → contents 0 k)) where
+  tells_first : (j : ℕ) → Tells (is_present (opened_moments op.keys) j 0) (contents 0 j)
+  tells_first j = (
+    λ e. (opens j).1 (has_from j op.keys (sym (present_at_first op.keys j) ∙ e)),
+    λ e c. has_none j op.keys (sym (present_at_first op.keys j) ∙ e) ((opens j).0 c),
+  )
+
+  pub opened_tells : (j m : ℕ) → m ≤ 0 → Tells (is_present (opened_moments op.keys) j m) (contents m j)
+  opened_tells j m b =
+      let first : 0 ≡ m = omega arith in
+      subst (λ y. Tells (is_present (opened_moments op.keys) j y) (contents y j)) first (tells_first j)
+
+  pub opened_bounded : ((j : ℕ) → contents 0 j → j < 2 ^ 32) → IsBounded (opened_moments op.keys)
+  opened_bounded low key high = ap (λ b. if b then 0 ∷ [] else []) (has_false key op.keys (λ c.
+      let l : key < 2 ^ 32 = low key ((opens key).1 c) in omega arith))
+
+module _ (op : Opening) (last : ℕ) (log : Log) (contents : Contents) (counts : Counts)
+    (account : Account op last log contents counts)
+    (low : HoldsKeys last contents) where
+  -- THE TRACE of a run is what it has to be
+  entered : (k : ℕ) → k < last → (s : Trace) → (e : Entry) → log k ≡ e → Enters op.threads op.quota log contents counts k e
+      → Follows op log contents counts k s
+      → Follows op log contents counts (suc k) (trace_after (suc k) e s)
+  entered k l s (began t call) at en f = follows_beginning op log contents counts k t call s at en f
+  entered k l s (stepped t change reply) at en f = follows_step op last log contents counts account low k
+      (omega arith) l t change reply s at en f
+
+  pub follows : (k : ℕ) → k ≤ last → Follows op log contents counts k (trace_at op log k)
+  follows zero l = record {
+    history = refl;
+    seats = length-replicate op.threads None;
+    numbered = refl;
+    upto = opened_upto op.keys;
+    keys = opened_tells op contents account.opens;
+    bounded = opened_bounded op contents account.opens (λ j. low 0 j (omega arith));
+    idle = λ t m e. get_or-replicate op.threads t None None m;
+    busy = λ t m e. absurd (cc);
+    placed = λ i m. absurd (omega arith);
+  }
+  follows (suc k) l = entered k l (trace_at op log k) (log k) refl (account.enters k l) (follows k (omega arith))
+
+  module _ (k : ℕ) (below : k ≤ last) (r : Recorder) (threads : r.history.opening.threads ≡ op.threads) (is : trace_of r ≡ trace_at op log k) where
+    now : Follows op log contents counts k (trace_of r)
+    now = subst (λ s. Follows op log contents counts k s) (sym is) (follows k below)
+
+    each : AllByRecursion (Traced (run_of op.threads op.quota log contents counts) k) (calls_at log k)
+    each = (calls_of op last log contents counts account k below).each
+
+    begun_before : (x : TracedCall) → Traced (run_of op.threads op.quota log contents counts) k x → (record_of x).begun < suc k
+    begun_before x t = let a : x.begun ≤ k = t.already in omega arith
+
+    ended_before : (x : TracedCall) → Traced (run_of op.threads op.quota log contents counts) k x
+        → IfSome (record_of x).ended (λ (e : ℕ × Reply). e.0 < suc k)
+    ended_before x t = at x.ended t.ends
+      where
+        at : (ended : Option (ℕ × Reply)) → EndedBy (run_of op.threads op.quota log contents counts) k x.thread x.call x.begun
+            x.changed ended
+            → IfSome ended (λ (e : ℕ × Reply). e.0 < suc k)
+        at None h = tt
+        at (Some e) h = let a : e.0 ≤ k = h.0 in omega arith
+
+    later : IsLater r.history.calls (suc k)
+    later = subst (λ (xs : List CallRecord). IsLater xs (suc k)) (sym now.history) (record {
+      counted = omega arith;
+      begins = All-from_recursion (λ (y : CallRecord). y.begun < suc k) (history_at log k)
+          (all_map record_of (λ (y : CallRecord). y.begun < suc k) (calls_at log k) (all_imply (Traced
+          (run_of op.threads op.quota log contents counts) k) (λ x. (record_of x).begun < suc k) begun_before (calls_at log k)
+          each));
+      ends = All-from_recursion (λ (y : CallRecord). IfSome y.ended (λ (e : ℕ × Reply). e.0 < suc k)) (history_at log k)
+          (all_map record_of (λ (y : CallRecord). IfSome y.ended (λ (e : ℕ × Reply). e.0 < suc k)) (calls_at log k)
+          (all_imply (Traced (run_of op.threads op.quota log contents counts) k) (λ x. IfSome (record_of x).ended
+          (λ (e : ℕ × Reply). e.0 < suc k)) ended_before (calls_at log k) each));
+    })
+
+    shut : (t : ℕ) → is_open log t k ≡ false → (x : TracedCall) → Traced (run_of op.threads op.quota log contents counts) k x
+        → is_under_way t x ≡ false
+    shut t e x h = false_from_ne_true (is_under_way t x) (λ y. grind arith)
+
+    pub may_begin : (t : ℕ) (call : Call) → Enters op.threads op.quota log contents counts k (began t call)
+        → MayBegin r.history t (suc k) × (t < length r.under_way.items)
+    may_begin t call en = (
+      record {
+        of_a_thread = rw threads en.of_a_thread;
+        idle = ap (λ (xs : List CallRecord). has_open xs t) now.history
+            ∙ list_any_none (λ (x : CallRecord). x.thread == t && is_none x.ended) (history_at log k)
+            (All-from_recursion _ (history_at log k) (all_map record_of (λ (x : CallRecord). (x.thread == t && is_none x.ended) ≡ false) (calls_at log k)
+            (all_imply (Traced (run_of op.threads op.quota log contents counts) k)
+            (λ x. is_under_way t x ≡ false) (shut t en.idle) (calls_at log k) each)));
+        later = later;
+      },
+      (let a : t < op.threads = en.of_a_thread in let b : length r.under_way.items ≡ op.threads = now.seats in omega arith),
+    )
+
+    pub may_step : (t : ℕ) (change : Option Change) (reply : Option Reply)
+        → Enters op.threads op.quota log contents counts k (stepped t change reply)
+        → MayStep r.history r.under_way.items r.places.items t (suc k) × MayChange (moments_of r.changes) (suc k) change
+    may_step t change reply en =
+        let o = now.busy t en.of_a_thread en.under_way in
+        let number : OpenNumber (calls_at log k) t o.0.number o.0.call o.0.begun = o.2.here in
+        let inside : o.0.number < length (calls_at log k) = number.below in
+        let places : length r.places.items ≡ length (calls_at log k) = now.numbered in
+        let records = ap (λ (xs : List CallRecord). length xs) now.history ∙ length-map (calls_at log k) record_of in
+        let seats : length r.under_way.items ≡ op.threads = now.seats in
+        let th : t < op.threads = en.of_a_thread in
+        let since : o.0.begun ≤ k = o.2.since in (
+          record {
+            of_a_thread = omega arith;
+            goes = rw o.1 (
+              omega arith,
+              omega arith,
+              record {
+                open_call = record {
+                  known = omega arith;
+                  not_ended = ap (λ (xs : List CallRecord). (call_numbered xs o.0.number).ended) now.history
+                      ∙ ap (λ (x : CallRecord). x.ended) (get_or-map record_of (calls_at log k) o.0.number no_traced)
+                      ∙ number.open_call.1;
+                };
+                later = later;
+              },
+            );
+          },
+          may_change contents k (moments_of r.changes) now.upto now.keys change en.content,
+        )
+
+-- there are no more calls than events
+pub few_calls : (log : Log) (k : ℕ) → length (calls_at log k) ≤ k
+few_calls log zero = omega arith
+few_calls log (suc k) = at (log k) refl (few_calls log k)
+  where
+    at : (e : Entry) → log k ≡ e → length (calls_at log k) ≤ k → length (calls_at log (suc k)) ≤ suc k
+    at (began t call) h b = let a = length_began log k t call h in omega arith
+    at (stepped t change reply) h b = let a = length_stepped log k t change reply h in omega arith
