@@ -47,7 +47,7 @@ fn act<P: Pause>(
     }
 }` },
     { name: "coarse_within", first: 58, steps: [{"line": 71, "rows": [1]}, {"line": 74, "rows": [10]}], calls: [[72, "walk"], [73, "act"]], text: `
-/// Makes a whole call: it takes the lock, walks to its key, acts there, and gives the lock back. (Herlihy and Shavit's
+/// Makes a whole call: it takes the lock, walks to its key, acts there, and releases the lock. (Herlihy and Shavit's
 /// coarse-grained list.) \`None\` where a loop of it has made \`N::MOST\` rounds.
 pub fn coarse_within<P: Pause, N: Rounds>(
     table: &Words<CoarseList>,
@@ -240,7 +240,7 @@ fn act<P: Pause>(
 }` },
     { name: "optimistic_within", first: 124, steps: [{"line": 138, "rows": [1], "begins": true, "answers": false}, {"line": 142, "rows": [4]}, {"line": 143, "rows": [5]}, {"line": 146, "rows": [14], "begins": false, "answers": true}, {"line": 147, "rows": [15], "begins": false, "answers": true}, {"line": 150, "rows": [14], "begins": false, "answers": false}, {"line": 151, "rows": [15], "begins": false, "answers": false}, {"line": 152, "rows": [1], "begins": false, "answers": false}], calls: [[140, "walk"], [144, "validate"], [145, "act"]], text: `
 /// Makes a whole call: it walks to its key without a lock, locks the two nodes there, looks by a second walk whether they
-/// are still neighbours in the list, and acts, or gives them back and starts over. (Herlihy and Shavit's optimistic list.)
+/// are still neighbours in the list, and acts, or releases them and starts over. (Herlihy and Shavit's optimistic list.)
 /// \`None\` where a loop of it has made \`N::MOST\` rounds.
 pub fn optimistic_within<P: Pause, N: Rounds>(
     table: &Words<OptimisticList>,
@@ -344,7 +344,7 @@ fn act<P: Pause>(
 }` },
     { name: "lazy_change_within", first: 86, steps: [{"line": 101, "rows": [1], "begins": true, "answers": false}, {"line": 104, "rows": [4]}, {"line": 105, "rows": [5]}, {"line": 109, "rows": [13], "begins": false, "answers": true}, {"line": 110, "rows": [14], "begins": false, "answers": true}, {"line": 114, "rows": [13], "begins": false, "answers": false}, {"line": 115, "rows": [14], "begins": false, "answers": false}, {"line": 116, "rows": [1], "begins": false, "answers": false}], calls: [[103, "walk"], [106, "validate"], [108, "act"]], text: `
 /// Makes a whole \`add\` or \`remove\` on a LazyList: it walks to its place without a lock, locks the two nodes there, looks
-/// whether they are still neighbours in the list, and acts, or gives them back and starts over. (Herlihy and Shavit's lazy
+/// whether they are still neighbours in the list, and acts, or releases them and starts over. (Herlihy and Shavit's lazy
 /// list, after Heller and others.) \`None\` where a loop of it has made \`N::MOST\` rounds.
 pub fn lazy_change_within<P: Pause, N: Rounds>(
     table: &Words<LazyList>,
@@ -386,7 +386,7 @@ pub fn lazy_change_within<P: Pause, N: Rounds>(
 /// that has it. (Herlihy and Shavit's wait-free \`contains\`.)
 ///
 /// \`place\` is the place of an idle seat of these words, and \`slots\` are those of its thread. The answer is the slots and the
-/// reply. \`pause\` is asked after each step that does not answer. It waits for nobody, and returns.
+/// reply. \`pause\` is asked after each step that does not answer. It does not block, and returns.
 pub fn contains_on<M: ReadsByRows, P: Pause>(
     table: &Words<M>,
     place: &mut TableSeat,
