@@ -17,8 +17,8 @@ use Rattle.lset_words.specs.declared.history.CallRecord.{CallRecord}
 use Rattle.lset_words.specs.History.{IsHistory, MayFollow, call_numbered, no_call}
 use Rattle.lset_history.specs.History.{HistoryValue, IsLater, IsOpen, ended_with, has_open, latest_moment, last_moment, moment_of}
 use Rattle.lset_history.specs.History.{MayBegin, MayEnd, IsKept, with_begun, with_ended}
-use Rattle.lset_history.proofs.Histories.{may_follow, call_of, follows_of, IsCall, Follows, history_begun, history_ended}
-use Rattle.lset_history.proofs.Histories.{calls_of, pairs_of, never_ended}
+use Rattle.lset_history.proofs.CallByCall.{may_follow, call_of, follows_of, IsCall, Follows, history_begun, history_ended}
+use Rattle.lset_history.proofs.CallByCall.{calls_of, pairs_of, never_ended}
 use Rattle.lset_history.proofs.Pairs.{read_written, read_other}
 
 -- THE LATEST MOMENT

@@ -11,7 +11,7 @@ pub mod RunHistories
 pub mod Standings
 pub mod SetStates
 pub mod Pairs
-pub mod Histories
+pub mod CallByCall
 pub mod HistoryKept
 pub mod KeySets
 pub mod SetReplies

@@ -21,7 +21,7 @@ use Rattle.lset_history.specs.declared.fault.OrderFault.TheVariants.{Memory}
 use Rattle.lset_history.specs.Faults.{Explains, IsFault, Passes, RefusesFirst, MissesNone, MissesFirst, IsMissing, IsUnknown}
 use Rattle.lset_history.specs.Faults.{IsTwice, HasWrongReply, IsTooEarly, place_at, set_left_by}
 use Rattle.lset_history.specs.Checks.{HasKnownCalls, stands, MarksCalls, IsLeftOut, HasReplies, after_order}
-use Rattle.lset_history.proofs.Histories.{calls_of}
+use Rattle.lset_history.proofs.CallByCall.{calls_of}
 use Rattle.lset_history.proofs.EarlierPlaces.{stands_earlier, legal_at, passes_replies}
 
 -- a place, read with any default

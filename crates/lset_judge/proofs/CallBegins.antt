@@ -13,7 +13,7 @@ use Rattle.lset_words.specs.SequentialSet.{has_key}
 use Rattle.lset_words.specs.Words.{key_of}
 use Rattle.lset_words.specs.History.{call_numbered, no_call}
 use Rattle.lset_words.proofs.Numbers.{below_or_not}
-use Rattle.lset_history.proofs.Histories.{Follows, history_begun}
+use Rattle.lset_history.proofs.CallByCall.{Follows, history_begun}
 use Rattle.lset_judge.specs.declared.stream.Failed.{Failed}
 use Rattle.lset_judge.specs.declared.stream.Pending.{Pending}
 use Rattle.lset_judge.specs.declared.stream.Stream.{Stream}

@@ -16,7 +16,7 @@ use Rattle.lset_words.specs.Words.{key_of}
 use Rattle.lset_words.specs.History.{IsHistory, call_numbered, no_call}
 use Rattle.lset_words.proofs.Numbers.{unequal_test, below_or_not}
 use Rattle.lset_history.specs.History.{HistoryValue, latest_moment, moment_of}
-use Rattle.lset_history.proofs.Histories.{Follows, IsCall, calls_of, pairs_of, history_of}
+use Rattle.lset_history.proofs.CallByCall.{Follows, IsCall, calls_of, pairs_of, history_of}
 use Rattle.lset_judge.specs.Rule.{Event, state_after, may_leave, State, leaves, same, options, nearest, turned_by, turned_if, settled, open_changes, found, entered}
 use Rattle.lset_judge.specs.Rule.{stepped}
 use Rattle.lset_judge.specs.Events.{event_at, rule_explains}

@@ -14,7 +14,7 @@ use Rattle.lset_words.proofs.Numbers.{same_number, equal_test, unequal_test, sam
 use Rattle.lset_words.specs.declared.Reply.{Reply}
 use Rattle.lset_words.specs.History.{IsHistory}
 use Rattle.lset_history.specs.History.{HistoryValue, latest_moment}
-use Rattle.lset_history.proofs.Histories as history
+use Rattle.lset_history.proofs.CallByCall as history
 use Rattle.lset_judge.specs.Rule.{idle, Event, may_leave}
 use Rattle.lset_judge.specs.Events.{event_at, rule_explains, RulePasses}
 use Rattle.lset_judge.specs.Locality.{calls_in, keys_in, part_of}

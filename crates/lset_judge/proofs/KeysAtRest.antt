@@ -15,7 +15,7 @@ use Rattle.lset_words.specs.Words.{key_of}
 use Rattle.lset_words.specs.History.{IsHistory}
 use Rattle.lset_words.proofs.Numbers.{unequal_test, same_number, same_or_not}
 use Rattle.lset_history.specs.History.{HistoryValue, latest_moment}
-use Rattle.lset_history.proofs.Histories.{Follows, IsCall, calls_of, pairs_of, history_of}
+use Rattle.lset_history.proofs.CallByCall.{Follows, IsCall, calls_of, pairs_of, history_of}
 use Rattle.lset_history.proofs.Pairs.{pairs_head, pairs_tail}
 use Rattle.lset_judge.specs.declared.stream.Stream.{Stream}
 use Rattle.lset_judge.specs.Rule.{State, idle, leaves, same, stepped, state_after, may_leave}

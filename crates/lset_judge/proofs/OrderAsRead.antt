@@ -18,7 +18,7 @@ use Rattle.lset_words.specs.SequentialSet.{SetState, has_key, ceiling_in, count_
 use Rattle.lset_words.proofs.Numbers.{equal_test, same_or_not, below_or_not}
 use Rattle.lset_words.specs.declared.history.Placed.{Placed}
 use Rattle.lset_words.specs.Words.{Opening}
-use Rattle.lset_history.proofs.Histories.{Follows, calls_of, pairs_of, IsCall, history_of}
+use Rattle.lset_history.proofs.CallByCall.{Follows, calls_of, pairs_of, IsCall, history_of}
 use Rattle.lset_history.specs.Faults.{Explains}
 use Rattle.lset_judge.specs.declared.stream.Pending.{Pending}
 use Rattle.lset_judge.specs.declared.stream.Stream.{Stream}

@@ -20,7 +20,7 @@ use Rattle.lset_judge.specs.Rule.{found, entered, stepped, state_after, may_leav
 use Rattle.lset_judge.specs.Events.{Kind, changes, sees, nothing, kind_of, kind_if, event_at, begin_event, end_event}
 use Rattle.lset_judge.specs.Verdict.{is_plain}
 use Rattle.lset_judge.proofs.EventLemmas.{kind, until, Begins, told, begins_at, ends_there, end_below, none_or_some}
-use Rattle.lset_history.proofs.Histories.{pairs_of}
+use Rattle.lset_history.proofs.CallByCall.{pairs_of}
 use Rattle.lset_judge.proofs.RuleLeads.{nearest_stands, at, at_once, later, no_state, settled_none, some_or_none}
 use Rattle.lset_judge.proofs.TimelineFromOrder.{does_own, other_stays, untils_differ, begins_told, is_call}
 use Rattle.lset_judge.proofs.TimelineOfKey.{becomes, NoTwice, left_in, others_stay, gone, no_twice_left, has_head, has_tail, has_split, has_put, no_twice_put, until_of}

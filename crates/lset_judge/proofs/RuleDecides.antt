@@ -22,7 +22,7 @@ use Rattle.lset_words.proofs.IncreasingLists.{IncreasesFrom, same_increasing, in
 use Rattle.lset_history.proofs.Pairs.{pairs_head, pairs_tail}
 use Rattle.lset_history.specs.History.{HistoryValue, latest_moment}
 use Rattle.lset_history.proofs.Keys.{has_true, has_from, has_none, with_increases, without_increases}
-use Rattle.lset_history.proofs.Histories.{calls_of}
+use Rattle.lset_history.proofs.CallByCall.{calls_of}
 use Rattle.lset_judge.specs.Verdict.{may_add, is_true_or_open, is_true, adds_of, is_plain, IsJudged, IsExplained, IsUnexplained}
 use Rattle.lset_judge.specs.Events.{changes, kind_of, kind_if, event_at, rule_explains, RulePasses}
 use Rattle.lset_judge.proofs.EventLemmas.{kind}

@@ -15,7 +15,7 @@ use Rattle.lset_words.specs.SequentialSet.{has_key}
 use Rattle.lset_words.specs.Words.{key_of}
 use Rattle.lset_words.specs.History.{IsHistory, call_numbered, no_call}
 use Rattle.lset_words.proofs.Numbers.{below_or_not, same_or_not, equal_test, unequal_test, same_number, other_number}
-use Rattle.lset_history.proofs.Histories.{calls_of, pairs_of}
+use Rattle.lset_history.proofs.CallByCall.{calls_of, pairs_of}
 use Rattle.lset_history.proofs.Pairs.{pairs_head, pairs_tail}
 use Rattle.lset_judge.specs.declared.stream.Failed.{Failed}
 use Rattle.lset_judge.specs.declared.stream.Pending.{Pending}

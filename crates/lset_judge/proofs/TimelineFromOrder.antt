@@ -20,7 +20,7 @@ use Rattle.lset_history.specs.History.{HistoryValue, latest_moment}
 use Rattle.lset_history.specs.Faults.{Explains, set_left_by}
 use Rattle.lset_history.proofs.Lists.{Pairs}
 use Rattle.lset_history.proofs.Pairs.{pairs_head, pairs_tail}
-use Rattle.lset_history.proofs.Histories.{Follows, IsCall, calls_of, pairs_of}
+use Rattle.lset_history.proofs.CallByCall.{Follows, IsCall, calls_of, pairs_of}
 use Rattle.lset_judge.specs.Rule.{Event, begins, looks, leaves, idle, opened, changes_to}
 use Rattle.lset_judge.specs.Events.{Kind, changes, sees, nothing, kind_of, open_kind, kind_if, until_if, begin_event, end_event, event_at}
 use Rattle.lset_judge.specs.Events.{RulePasses}

@@ -30,9 +30,9 @@ use Rattle.lset_live.specs.Dated.{record_of}
 use Rattle.lset_live.specs.Explained.{IsOneLegalOrder, IsOneOrderInTime}
 use Rattle.lset_live.specs.Closes.{LastWords, HasKeys, HasLaws, IsLast}
 use Rattle.lset_live.proofs.Dated.{in_named, said_by}
-use Rattle.lset_live.proofs.Orders.{calls_by_is}
+use Rattle.lset_live.proofs.OrderKeepsRecord.{calls_by_is}
 use Rattle.lset_live.proofs.PastCalls.{none_in}
-use Rattle.lset_live.proofs.Explained.{own, order, explains, part, turns, kept}
+use Rattle.lset_live.proofs.SeenExplained.{own, order, explains, part, turns, kept}
 
 -- THE KEYS OF SOME WORDS
 -- chain and keys are read of keys and links alone

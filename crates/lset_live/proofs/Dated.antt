@@ -5,8 +5,8 @@ use Rattle.lset_words.specs.SequentialSet.{Answered}
 use Rattle.lset_rule.specs.declared.view.OwnCall.{OwnCall}
 use Rattle.lset_rule.specs.declared.view.Past.{Past, Fresh, Called', Gathered'}
 use Rattle.lset_rule.specs.Pasts.{root, IsIn}
-use Rattle.lset_rule.proofs.Runs.{HasGathered}
-use Rattle.lset_rule.proofs.Runs as dated
+use Rattle.lset_rule.proofs.RecordsOfRuns.{HasGathered}
+use Rattle.lset_rule.proofs.RecordsOfRuns as dated
 use Rattle.lset_words.specs.Records.{HasOwnCalls, Names, NamesGathered, thread_of, own_calls, calls_by, placed_by}
 use Rattle.lset_live.specs.Dated.{call_of, record_of}
 

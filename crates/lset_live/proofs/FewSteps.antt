@@ -26,7 +26,7 @@ use Rattle.lset_rule.specs.Runs.{Here, done_at, done_next, ending, own, under_af
 use Rattle.lset_rule.proofs.OneMoreEvent.{Tied, tied}
 use Rattle.lset_live.specs.Dated.{record_of}
 use Rattle.lset_live.proofs.Dated.{root_is}
-use Rattle.lset_live.proofs.Explained.{seat_at}
+use Rattle.lset_live.proofs.SeenExplained.{seat_at}
 use Rattle.lset_live.specs.Explained.{HasMadeAtMost}
 use Rattle.lset_live.specs.Seats.{SeatValue, SetValue}
 use Rattle.lset_words.specs.Records.{thread_of}

@@ -1,10 +1,10 @@
 pub mod Records
 pub mod ListsHandedOn
 mod Dated
-mod Histories
+mod CallsOfThread
 mod PastCalls
-mod Orders
-mod Explained
+mod OrderKeepsRecord
+mod SeenExplained
 mod FewSteps
 mod Closing
 pub mod Receipts

@@ -6,8 +6,8 @@ use Rattle.lset_words.proofs.Numbers.{equal_test, unequal_test}
 use Rattle.lset_rule.specs.declared.view.OwnCall.{OwnCall}
 use Rattle.lset_rule.specs.declared.view.Past.{Past, Fresh, Called', Gathered'}
 use Rattle.lset_rule.specs.Pasts.{root, GatheredBefore, Before, Apart, IsIn, calls_of}
-use Rattle.lset_rule.proofs.Runs.{HasGathered}
-use Rattle.lset_rule.proofs.Runs as dated
+use Rattle.lset_rule.proofs.RecordsOfRuns.{HasGathered}
+use Rattle.lset_rule.proofs.RecordsOfRuns as dated
 
 pub root_in : (r : Past) → IsIn (root r) r
 root_in (Fresh t) = refl

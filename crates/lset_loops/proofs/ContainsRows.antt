@@ -18,7 +18,7 @@ use Rattle.lset_rule.specs.declared.slots.OwnSlots.{OwnSlots}
 use Rattle.lset_rule.specs.OwnSlots.{resting}
 use Rattle.lset_rule.specs.Seats.{TableSeat}
 use Rattle.lset_rule.specs.Calls.{Goes, steps_of}
-use Rattle.lset_rule.proofs.Calls.{Comes}
+use Rattle.lset_rule.proofs.CallKnows.{Comes}
 use Rattle.lset_rule.proofs.ContainsEnds.{not_yet, one_more}
 use Rattle.lset_loops.specs.Begun.{Begun}
 use Rattle.lset_loops.specs.Calling.{Holds, first, row}

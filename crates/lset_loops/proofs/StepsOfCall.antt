@@ -18,7 +18,7 @@ use Rattle.lset_rule.specs.declared.slots.OwnSlots.{OwnSlots}
 use Rattle.lset_rule.specs.OwnSlots.{slots_of, resting}
 use Rattle.lset_rule.specs.Views.{IsOpen, Stands}
 use Rattle.lset_rule.specs.Calls.{Goes, Starts}
-use Rattle.lset_rule.proofs.Calls.{comes_first, comes_next, is_mid, mid_open}
+use Rattle.lset_rule.proofs.CallKnows.{comes_first, comes_next, is_mid, mid_open}
 use Rattle.lset_rule.proofs.MovesKeepRule.{stands_at, in_words}
 use Rattle.lset_loops.specs.Begun.{Begun, begun_at, IsCall}
 use Rattle.lset_loops.specs.Calling.{Holds, MayStep, HasStepped, MayLock, MayAnswer, MayBegin, first, Rest, row}

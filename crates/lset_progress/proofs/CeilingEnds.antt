@@ -20,10 +20,10 @@ use Rattle.lset_lazy.specs.Lawful.{lazy_lawful}
 use Rattle.lset_lazy.specs.Lawful.Outline.{At, has_read_rows}
 use Rattle.lset_progress.specs.Progress.{IsPending, SomeEnds, counted, lazy_steps}
 use Rattle.lset_progress.specs.DeadlockFreedom.{IsFair, IsDeadlockFree, each_call, is_lock_word, unless_failed, moves}
-use Rattle.lset_progress.proofs.LazyAlone.{follows, lazy_marks, shape, shows, counts, uncounted_reads, lazy_deadlock_free}
+use Rattle.lset_progress.proofs.LazyProgress.{follows, lazy_marks, shape, shows, counts, uncounted_reads, lazy_deadlock_free}
 use Rattle.lset_progress.proofs.Marks.{plain_then}
-use Rattle.lset_progress.proofs.LocksAlone.{IsFree, own_step}
-use Rattle.lset_progress.proofs.Rows.{Timed, no_time, at_row}
+use Rattle.lset_progress.proofs.ProgressWithLocks.{IsFree, own_step}
+use Rattle.lset_progress.proofs.RowsWithLocks.{Timed, no_time, at_row}
 use Rattle.lset_progress.proofs.Windows.{counted_or_not, ends_later}
 
 -- a step that counts for some calls counts for each

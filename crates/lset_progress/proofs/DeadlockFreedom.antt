@@ -19,8 +19,8 @@ use Rattle.lset_steps.proofs.Discipline.{put_same, put_other}
 use Rattle.lset_progress.specs.Progress.{IsPending, GetsOn, SomeEnds, steps_among}
 use Rattle.lset_progress.specs.DeadlockFreedom.{IsLivelockFree, IsFair, IsDeadlockFree, is_lock_word, unless_failed, moves}
 use Rattle.lset_progress.proofs.LivelockFreedom.{Counts}
-use Rattle.lset_progress.proofs.LocksAlone.{Shows, some_meant}
-use Rattle.lset_progress.proofs.Rows.{Shape}
+use Rattle.lset_progress.proofs.ProgressWithLocks.{Shows, some_meant}
+use Rattle.lset_progress.proofs.RowsWithLocks.{Shape}
 use Rattle.lset_progress.proofs.Windows.{ends_later}
 
 lock_or_not : (x : ℕ) → IsLockWord x ⊎ (is_lock_word x ≡ false)

@@ -23,12 +23,12 @@ use Rattle.lset_lock_free.specs.LockFree.{lock_free}
 use Rattle.lset_lock_free.specs.Lawful.{lock_free_lawful}
 use Rattle.lset_progress.specs.Progress.{IsCeiling, Answers, IsLockFree, counted, steps_of, lock_free_steps, lock_free_window}
 use Rattle.lset_progress.proofs.Holders.{one_or_more}
-use Rattle.lset_progress.proofs.LockFreeAlone.{Timed, Valid, shape, round, left, full_time, own_step}
+use Rattle.lset_progress.proofs.LockFreeProgress.{Timed, Valid, shape, round, left, full_time, own_step}
 use Rattle.lset_progress.proofs.LockFreeSteps.{IsUpdate, Known, Place, Stepped, known, place_of, walk_at, ceiling_at_marks}
 use Rattle.lset_progress.proofs.LockFreeSteps.{step_is, same_call, keys_on}
 use Rattle.lset_progress.proofs.LockFreeSteps.Stepped.{still, marks, unlinks}
 use Rattle.lset_progress.proofs.Rest.{SameKeys}
-use Rattle.lset_progress.proofs.Rows.{no_time, timed_more}
+use Rattle.lset_progress.proofs.RowsWithLocks.{no_time, timed_more}
 use Rattle.lset_progress.proofs.Totals.{total, total_less, total_all, total_at, total_step, one_price, put, put_this, put_that}
 use Rattle.lset_progress.proofs.Windows.{Then, some_ends, counted_or_not}
 

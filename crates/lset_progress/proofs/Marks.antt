@@ -28,7 +28,7 @@ use Rattle.lset_steps.proofs.Segments.{gap}
 use Rattle.lset_progress.specs.Progress.{NoOtherHolds}
 use Rattle.lset_progress.proofs.HeadPlain.{the_step, words_are, the_move, the_memory, the_keeping}
 use Rattle.lset_progress.proofs.Paths.{Path, in_chain_of, path_of}
-use Rattle.lset_progress.proofs.ReadAlone.{Plain}
+use Rattle.lset_progress.proofs.ReadProgress.{Plain}
 
 -- thread u is about to take out node b
 pub record TakesOut (threads : ℕ) (locals : ℕ → Local) (b : ℕ) : Type 0 where

@@ -39,14 +39,14 @@ ghost use Rattle.lset_progress.specs.Wrong.{
 
 /// Theorem: while no other thread holds the lock of a CoarseList, a call that runs alone ends within `2N + 3` steps. (Solo
 /// termination, of Herlihy and Shavit's coarse-grained list.)
-#[tactic(auto, using(crate::proofs::CoarseAlone::coarse_calls_end))]
+#[tactic(auto, using(crate::proofs::CoarseProgress::coarse_calls_end))]
 pub fn coarse_calls_end_alone()
     ensures { CallsEndAlone coarse coarse_steps }
 {}
 
 /// Theorem: while no other thread holds a lock of a FineList, a call that runs alone ends within `4N + 3` steps. (Solo
 /// termination, of Herlihy and Shavit's fine-grained list.)
-#[tactic(auto, using(crate::proofs::FineAlone::fine_calls_end))]
+#[tactic(auto, using(crate::proofs::FineProgress::fine_calls_end))]
 pub fn fine_calls_end_alone()
     ensures { CallsEndAlone fine fine_steps }
 {}
@@ -54,7 +54,7 @@ pub fn fine_calls_end_alone()
 /// Theorem: while no other thread holds a lock of an OptimisticList, a call that runs alone ends within `8N + 9` steps: it
 /// walks from the head at most once more, since validation fails only if another thread has changed what the walk read.
 /// (Solo termination, of Herlihy and Shavit's optimistic list.)
-#[tactic(auto, using(crate::proofs::OptimisticAlone::optimistic_calls_end))]
+#[tactic(auto, using(crate::proofs::OptimisticProgress::optimistic_calls_end))]
 pub fn optimistic_calls_end_alone()
     ensures { CallsEndAlone optimistic optimistic_steps }
 {}
@@ -62,7 +62,7 @@ pub fn optimistic_calls_end_alone()
 /// Theorem: while no other thread holds a lock of a LazyList, a call that runs alone ends within `4N + 15` steps, a
 /// `ceiling` too: a thread that has marked a node holds its lock until the node is unlinked. (Solo termination, of Heller
 /// and others' lazy list.)
-#[tactic(auto, using(crate::proofs::LazyAlone::lazy_calls_end))]
+#[tactic(auto, using(crate::proofs::LazyProgress::lazy_calls_end))]
 pub fn lazy_calls_end_alone()
     ensures { CallsEndAlone lazy lazy_steps }
 {}
@@ -70,7 +70,7 @@ pub fn lazy_calls_end_alone()
 /// Theorem: whatever the other threads of a LockFreeList are about to do, a call that runs alone ends within `4N + 5` steps.
 /// A `ceiling` does so if no node of the chain is marked: if it reaches a marked node it begins again, and it unlinks none.
 /// (Obstruction freedom, which is Herlihy, Luchangco and Moir's; the list is Harris's and Michael's.)
-#[tactic(auto, using(crate::proofs::LockFreeAlone::lock_free_calls_end))]
+#[tactic(auto, using(crate::proofs::LockFreeProgress::lock_free_calls_end))]
 pub fn lock_free_calls_end_alone()
     ensures { CallsEndUnhindered lock_free lock_free_steps }
 {}
@@ -93,70 +93,70 @@ pub fn a_lock_free_ceiling_may_never_end()
 
 /// Theorem: while a call of a CoarseList is pending, some thread can make a step that is not a failed attempt to take the
 /// lock.
-#[tactic(auto, using(crate::proofs::CoarseAlone::coarse_gets_on))]
+#[tactic(auto, using(crate::proofs::CoarseProgress::coarse_gets_on))]
 pub fn some_coarse_call_gets_on()
     ensures { SomeThreadGetsOn coarse }
 {}
 
 /// Theorem: of any `n(2N + 3)(5n + 1)` steps of the n threads of a CoarseList that follow one another and are no failed
 /// attempts to take the lock, one ends its call. (Freedom from livelock.)
-#[tactic(auto, using(crate::proofs::CoarseAlone::coarse_livelock_free))]
+#[tactic(auto, using(crate::proofs::CoarseProgress::coarse_livelock_free))]
 pub fn coarse_list_is_livelock_free()
     ensures { IsLivelockFree each_call coarse (lock_window coarse_steps) }
 {}
 
 /// Theorem: in each run of a CoarseList without an end in which each thread with a call goes on, while a call is pending, one
 /// ends later. (Freedom from deadlock, as Herlihy and Shavit define it.)
-#[tactic(auto, using(crate::proofs::CoarseAlone::coarse_deadlock_free))]
+#[tactic(auto, using(crate::proofs::CoarseProgress::coarse_deadlock_free))]
 pub fn coarse_list_is_deadlock_free()
     ensures { IsDeadlockFree each_call coarse }
 {}
 
 /// Theorem: while a call of a FineList is pending, some thread can make a step that is not a failed attempt to take a lock.
 /// (Herlihy and Shavit's order of the nodes.)
-#[tactic(auto, using(crate::proofs::FineAlone::fine_gets_on))]
+#[tactic(auto, using(crate::proofs::FineProgress::fine_gets_on))]
 pub fn some_fine_call_gets_on()
     ensures { SomeThreadGetsOn fine }
 {}
 
 /// Theorem: of any `n(4N + 3)(5n + 1)` steps of the n threads of a FineList that follow one another and are no failed
 /// attempts to take a lock, one ends its call. (Freedom from livelock.)
-#[tactic(auto, using(crate::proofs::FineAlone::fine_livelock_free))]
+#[tactic(auto, using(crate::proofs::FineProgress::fine_livelock_free))]
 pub fn fine_list_is_livelock_free()
     ensures { IsLivelockFree each_call fine (lock_window fine_steps) }
 {}
 
 /// Theorem: in each run of a FineList without an end in which each thread with a call goes on, while a call is pending, one
 /// ends later. (Freedom from deadlock, as Herlihy and Shavit define it.)
-#[tactic(auto, using(crate::proofs::FineAlone::fine_deadlock_free))]
+#[tactic(auto, using(crate::proofs::FineProgress::fine_deadlock_free))]
 pub fn fine_list_is_deadlock_free()
     ensures { IsDeadlockFree each_call fine }
 {}
 
 /// Theorem: while a call of an OptimisticList is pending, some thread can make a step that is not a failed attempt to take a
 /// lock. (Herlihy and Shavit's order of the nodes.)
-#[tactic(auto, using(crate::proofs::OptimisticAlone::optimistic_gets_on))]
+#[tactic(auto, using(crate::proofs::OptimisticProgress::optimistic_gets_on))]
 pub fn some_optimistic_call_gets_on()
     ensures { SomeThreadGetsOn optimistic }
 {}
 
 /// Theorem: of any `n(8N + 9)(5n + 1)` steps of the n threads of an OptimisticList that follow one another and are no failed
 /// attempts to take a lock, one ends its call. (Freedom from livelock.)
-#[tactic(auto, using(crate::proofs::OptimisticAlone::optimistic_livelock_free))]
+#[tactic(auto, using(crate::proofs::OptimisticProgress::optimistic_livelock_free))]
 pub fn optimistic_list_is_livelock_free()
     ensures { IsLivelockFree each_call optimistic (lock_window optimistic_steps) }
 {}
 
 /// Theorem: in each run of an OptimisticList without an end in which each thread with a call goes on, while a call is
 /// pending, one ends later. (Freedom from deadlock, as Herlihy and Shavit define it.)
-#[tactic(auto, using(crate::proofs::OptimisticAlone::optimistic_deadlock_free))]
+#[tactic(auto, using(crate::proofs::OptimisticProgress::optimistic_deadlock_free))]
 pub fn optimistic_list_is_deadlock_free()
     ensures { IsDeadlockFree each_call optimistic }
 {}
 
 /// Theorem: while a call of a LazyList is pending, some thread can make a step that is not a failed attempt to take a lock.
 /// (Herlihy and Shavit's order of the nodes.)
-#[tactic(auto, using(crate::proofs::LazyAlone::lazy_gets_on))]
+#[tactic(auto, using(crate::proofs::LazyProgress::lazy_gets_on))]
 pub fn some_lazy_call_gets_on()
     ensures { SomeThreadGetsOn lazy }
 {}
@@ -171,7 +171,7 @@ pub fn lazy_list_is_livelock_free()
 /// Theorem: in each run of a LazyList without an end in which each thread with a call goes on, while a call is pending, one
 /// ends later; while an `add` or a `remove` is, one of these; and while an `add`, a `remove` or a `contains` is, one of
 /// these. (Freedom from deadlock, as Herlihy and Shavit define it.)
-#[tactic(auto, using(crate::proofs::CeilingEnds::all_deadlock_free, crate::proofs::LazyAlone::lazy_deadlock_free))]
+#[tactic(auto, using(crate::proofs::CeilingEnds::all_deadlock_free, crate::proofs::LazyProgress::lazy_deadlock_free))]
 pub fn lazy_list_is_deadlock_free()
     ensures all { IsDeadlockFree each_call lazy }
     ensures counted { (reads : Bool) → IsDeadlockFree (counted reads) lazy }

@@ -7,7 +7,7 @@ use Rattle.std.proofs.lemmas.List.Elements.{Contains-push}
 use Rattle.lset_words.specs.declared.Reply.{Reply}
 use Rattle.lset_words.specs.declared.history.CallRecord.{CallRecord}
 use Rattle.lset_words.specs.History.{MayFollow, IsHistory, call_numbered, no_call}
-use Rattle.lset_history.proofs.Histories.{IsCall, Follows, calls_of, pairs_of, may_follow, follows_of}
+use Rattle.lset_history.proofs.CallByCall.{IsCall, Follows, calls_of, pairs_of, may_follow, follows_of}
 use Rattle.lset_judge.specs.declared.stream.Pending.{Pending}
 use Rattle.lset_judge.specs.declared.judging.Judge.{Judge}
 use Rattle.lset_judge.specs.Events.{until_if}

@@ -33,7 +33,7 @@ pub struct RecordingAnswer {
 }
 
 /// The judge of the calls so far, or one of no calls of a set that opens with these keys.
-#[tactic(auto, using(crate::proofs::Followed::opened))]
+#[tactic(auto, using(crate::proofs::NextCalls::opened))]
 fn or_opened(alloc: Global, judge: Option<Judge>, opening: &[u32]) -> Result<Judge, AllocError>
     requires { IsStrictlyIncreasing opening.now }
     ensures { IfOk result (λ j. (calls : List RecordedCall) → IsJudgeKept opening.now calls judge → IsJudgeKept opening.now calls (Some j)) }

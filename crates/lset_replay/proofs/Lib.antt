@@ -8,4 +8,4 @@ pub mod RecorderReady
 pub mod FollowedRuns
 pub mod EventSteps
 pub mod FinalReport
-pub mod ReportWords
+pub mod WordsOfVersion

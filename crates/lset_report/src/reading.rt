@@ -222,8 +222,8 @@ fn report(alloc: Global, bytes: &[u8]) -> Result<Report, ReportFault>
 ///
 /// # Errors
 ///
-/// The first line that is wrong, and the first check that it fails. That it is not ended comes before all others; the
-/// others come in the order of `Cause`. If a header line is due and no byte is left, it is the error of that line. `Memory`, in place
+/// The first line that is wrong, and the first check that it fails. `NotEnded` comes before all others, which come in
+/// the order of `Cause`. If a header line is due and no byte is left, it is the error of that line. `Memory`, in place
 /// of any other answer, if an allocation fails: its line is the last that was read, which is not `end` and has no other
 /// error, and neither has a line above it.
 #[tactic(auto, using(crate::proofs::ReportTexts::found_in, crate::proofs::ReportTexts::only_in))]

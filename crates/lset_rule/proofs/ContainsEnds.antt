@@ -15,7 +15,7 @@ use Rattle.lset_steps.specs.Promises.{IsContains}
 use Rattle.lset_rule.specs.declared.view.PendingCall.{PendingCall}
 use Rattle.lset_rule.specs.declared.view.View.{View}
 use Rattle.lset_rule.specs.Runs.{Here, under_after, under_next, under_at, end_of, log_by}
-use Rattle.lset_rule.proofs.Calls.{Comes, is_mid, mid_open}
+use Rattle.lset_rule.proofs.CallKnows.{Comes, is_mid, mid_open}
 use Rattle.lset_rule.specs.Calls.{Goes, steps_of}
 use Rattle.lset_rule.proofs.OneMoreEvent.{Tied}
 use Rattle.lset_rule.proofs.MovesKeepRule.{stands_at, own_tied}

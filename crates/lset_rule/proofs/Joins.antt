@@ -22,7 +22,7 @@ use Rattle.lset_rule.specs.Runs.{Here, here, at_end, IsRunOf, StartsWith}
 use Rattle.lset_rule.specs.Rule.{Holds, MatchesLog, StandsIn, IsQuiet, left_view, right_view, longer, aside, joined, nobody, learned}
 use Rattle.lset_rule.specs.Rule.{without_thread, informed}
 use Rattle.lset_rule.specs.Views.{Stands, HasThread, HasAside, AreIdle, InTime}
-use Rattle.lset_rule.proofs.Runs.{still_quiet, before_more, none_of_another, asides_stay}
+use Rattle.lset_rule.proofs.RecordsOfRuns.{still_quiet, before_more, none_of_another, asides_stay}
 use Rattle.lset_rule.proofs.OneMoreEvent.{run_of_first}
 use Rattle.lset_rule.proofs.ViewsFit.{Fits, St, each_set, each_more, each_fits, fits, spent_fits, holding}
 use Rattle.lset_rule.proofs.ViewsFit.{is_in, set_there, stands_else, stands_still, stands_more, stands_last}

@@ -1,8 +1,8 @@
 pub mod OneMoreEvent
-pub mod Runs
+pub mod RecordsOfRuns
 pub mod ViewsFit
 pub mod MovesKeepRule
-pub mod Calls
+pub mod CallKnows
 pub mod Joins
 pub mod Counts
 pub mod RuleAtOpening

@@ -26,8 +26,8 @@ use Rattle.lset_rule.specs.Rule.{Holds, MatchesLog}
 use Rattle.lset_rule.proofs.ViewsFit.{Fits, St, each_set, fits, holding, set_there, set_twice, stands_still}
 use Rattle.lset_rule.specs.Views.{Stands, HasThread, InTime, IsOpen, IsIdle}
 use Rattle.lset_rule.specs.Calls.{gone_view, begun_view, record_after, Goes, Starts}
-use Rattle.lset_rule.proofs.Runs.{still_quiet, quiet_append, starts_more, asides_stay, before_more, after_calls, after_calls_other}
-use Rattle.lset_rule.proofs.Runs.{after_root, after_apart, after_in, after_in_order, after_before, BegunBy, begun_by, after_in_time}
+use Rattle.lset_rule.proofs.RecordsOfRuns.{still_quiet, quiet_append, starts_more, asides_stay, before_more, after_calls, after_calls_other}
+use Rattle.lset_rule.proofs.RecordsOfRuns.{after_root, after_apart, after_in, after_in_order, after_before, BegunBy, begun_by, after_in_time}
 
 -- the thread has a call under way after the run of these events, and holds this
 abbrev pub IsAt : Table → Opening → List Event → ℕ → Local → Type 0

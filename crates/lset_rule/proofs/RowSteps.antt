@@ -11,7 +11,7 @@ use Rattle.lset_rule.specs.declared.slots.OwnSlots.{OwnSlots}
 use Rattle.lset_rule.specs.OwnSlots.{slots_of}
 use Rattle.lset_rule.specs.Seats.{TableSeat, IsSeat, MayCall, HasCalled}
 use Rattle.lset_rule.specs.RowSteps.{MayStep, HasStepped}
-use Rattle.lset_rule.proofs.Calls.{Comes, is_mid, mid_open, reached, comes_next, made}
+use Rattle.lset_rule.proofs.CallKnows.{Comes, is_mid, mid_open, reached, comes_next, made}
 
 -- the call c of the seat s has come to f, and the seat to s'
 abbrev pub Reached : Table → Call → TableSeat → Fed → TableSeat → Type 0

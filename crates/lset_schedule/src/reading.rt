@@ -104,8 +104,8 @@ fn schedule(alloc: Global, bytes: &[u8]) -> Result<Schedule, ScheduleFault>
 ///
 /// # Errors
 ///
-/// The first line that is wrong, and the first check that it fails. That the line has bytes and no newline comes before all
-/// others; the others come in the order of `Cause`. If a header line is due and no byte is left, it is the error
+/// The first line that is wrong, and the first check that it fails. `NotEnded`, if the line has bytes and no newline, comes before
+/// all others; they come in the order of `Cause`. If a header line is due and no byte is left, it is the error
 /// of that line. Lines that only version 2 has are `Event` in version 1, as is an opening key below an event. `Number` if a
 /// thread or a key is no number up to 4294967295, or the steps are none from 1 to 10000. `TooMany` if there are more than
 /// 1,000,000 events or 1,048,576 opening keys. `Memory` if an allocation fails; the line then has no other error.

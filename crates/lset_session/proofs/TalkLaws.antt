@@ -23,7 +23,7 @@ use Rattle.lset_session.specs.Devices.{CutShort, Writes}
 use Rattle.lset_session.specs.SessionText.{Turn, line, long, limit, turns_after, turns_at, turns_of, request_of, end_after, end_of}
 use Rattle.lset_session.specs.SessionText.{Exchange, made, too_long, at_limit, turn_of, answer_of, call_of, turns_in, answers_in, calls_in}
 use Rattle.lset_session.specs.Sessions.{Wrote, text_end, IsSession}
-use Rattle.lset_session.specs.Talks.{WroteSoFar, IsLast, Told, Heard, IsTalk, pending_of, counted, ending}
+use Rattle.lset_session.specs.SessionSoFar.{WroteSoFar, IsLast, Told, Heard, IsTalk, pending_of, counted, ending}
 use Rattle.lset_session.specs.declared.sessions.Talk.{Talk}
 
 -- ---- the parts of a text that goes on

@@ -1,4 +1,4 @@
 pub mod Devices
 pub mod SessionText
 pub mod Sessions
-pub mod Talks
+pub mod SessionSoFar

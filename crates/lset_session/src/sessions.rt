@@ -4,7 +4,7 @@ ghost use Rattle.lset_words.specs.Records.{with_calls};
 ghost use Rattle.lset_session.specs.Devices.{Writes};
 ghost use Rattle.lset_session.specs.SessionText.{Exchange, turn_of, line, answer_of, call_of, reply_word};
 ghost use Rattle.lset_session.specs.Sessions.{IsSession};
-ghost use Rattle.lset_session.specs.Talks.{Hears, IsTalk, Nearer, counted, failed_by};
+ghost use Rattle.lset_session.specs.SessionSoFar.{Hears, IsTalk, Nearer, counted, failed_by};
 ghost use Rattle.lset_text.specs.Parts.{ended};
 
 use crate::devices::{Sink, Source, write_all};

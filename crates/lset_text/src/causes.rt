@@ -5,7 +5,7 @@ ghost use Rattle.lset_text.specs.declared.causes.Cause.TheVariants.{Memory};
 use std::alloc::{AllocError, AllocFailed};
 use thiserror::Error;
 
-/// Why a line of a text is refused, with examples. Of the causes that a line has, the first in this order is told; `NotEnded`
+/// Why a line of a text is refused, with examples. Of the causes that a line has, the first in this order is named; `NotEnded`
 /// comes before all others.
 #[derive(Clone, Copy, Debug, PartialEq, Eq)]
 pub enum Cause {
@@ -21,7 +21,7 @@ pub enum Cause {
     /// The line has not the fields and the words of a line that may come there: `take 0 5`; `go  0 1` (two spaces);
     /// `opening 5` below an event; an empty line.
     Event,
-    /// As `Event`, in the other texts: `place 0 maybe`; `place 0 true` below a `key` line; in version 1 `place 0 at-5`; in a
+    /// As `Event`, in a report or a recording: `place 0 maybe`; `place 0 true` below a `key` line; in version 1 `place 0 at-5`; in a
     /// recording `call 0 add 5 1 8 full`.
     Line,
     /// A field that is to be a number is none, or one outside its limits: `begin 0 add 05`, `go 0 10001`, `place 01 true`.

@@ -9,7 +9,8 @@ const EXPLAINED: &[u8] = b"another order explains this report\n";
 
 const UNKNOWN: &[u8] = b"it is not known whether another order explains this report\n";
 
-const NOT_RISING: &[u8] = b"not linearizable\nno order leaves these keys, which do not increase\n";
+const NOT_INCREASING: &[u8] =
+    b"not linearizable\nno order leaves these keys, which do not increase\n";
 
 /// What is known of all orders of the calls of a report.
 #[derive(Drop)]
@@ -38,7 +39,7 @@ pub fn claim_on(alloc: Global, picture: &Picture) -> Result<Claim, AllocError> {
 
 fn claim_text(alloc: Global, picture: &Picture) -> Result<Vec<u8>, AllocError> {
     match claim_on(alloc, picture)? {
-        Claim::NotIncreasing => Vec::from_slice(alloc, NOT_RISING),
+        Claim::NotIncreasing => Vec::from_slice(alloc, NOT_INCREASING),
         Claim::NotLinearizable(refusal, window) => refused_text(alloc, refusal, window),
         Claim::Explained => Vec::from_slice(alloc, EXPLAINED),
         Claim::Unknown => Vec::from_slice(alloc, UNKNOWN),

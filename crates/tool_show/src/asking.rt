@@ -14,7 +14,7 @@ pub enum Form {
     Svg,
 }
 
-/// The number from `least` on that the text spells, or `absent` if there is no text.
+/// The number from `smallest` on that the text spells, or `absent` if there is no text.
 fn number_or(text: Option<&str>, smallest: u32, absent: u32) -> Option<u32> {
     match text {
         Some(text) => number(text.as_bytes(), smallest, u32::MAX),

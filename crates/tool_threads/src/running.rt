@@ -63,10 +63,12 @@ fn run_round<M: Running + Send + Sync, R: Threads + Wait + Sync>(
 /// The counts, the number of keys, and each key.
 fn summary_text(alloc: Global, counts: Counts, keys: &[u32]) -> Result<Vec<u8>, AllocError> {
     let mut out = String::new(alloc);
-    let (calls, left) = (counts.calls, keys.len());
-    let (trues, falses, fulls) = (counts.trues, counts.falses, counts.fulls);
-    writeln!(out, "calls {calls}\ntrue {trues}\nfalse {falses}")?;
-    writeln!(out, "full {fulls}\nkeys {left}")?;
+    writeln!(
+        out,
+        "calls {}\ntrue {}\nfalse {}",
+        counts.calls, counts.trues, counts.falses
+    )?;
+    writeln!(out, "full {}\nkeys {}", counts.fulls, keys.len())?;
     put_keys(&mut out, keys)?;
     Ok(out.into_bytes())
 }

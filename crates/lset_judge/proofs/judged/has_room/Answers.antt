@@ -7,7 +7,7 @@ use Rattle.lset_words.specs.declared.history.CallRecord.{CallRecord}
 use Rattle.lset_words.specs.Words.{Opens, Opening}
 use Rattle.lset_words.specs.History.{IsHistory}
 use Rattle.lset_words.proofs.Numbers.{below_or_not, unequal_test, same_or_not}
-use Rattle.lset_history.proofs.Histories.{calls_of}
+use Rattle.lset_history.proofs.CallByCall.{calls_of}
 use Rattle.lset_judge.specs.Verdict.{may_add, adds_of}
 use Rattle.lset_judge.proofs.judged.has_room.Goals as goal
 

@@ -14,7 +14,7 @@ use Rattle.lset_replay.specs.Reports.{IsRefusal, Replays}
 use Rattle.lset_replay.proofs.FollowedRuns.{tells_keys}
 use Rattle.lset_replay.proofs.EventLists.{length_of_events}
 use Rattle.lset_replay.proofs.FinalReport.{few_places, places_upto, replay_is, explained_is}
-use Rattle.lset_replay.proofs.ReportWords.{words_of_version}
+use Rattle.lset_replay.proofs.WordsOfVersion.{words_of_version}
 use Rattle.lset_replay.proofs.replaying.replay_on.Goals as goal
 
 -- what holds of an opening and lines that are those of a schedule holds of the schedule's

@@ -2,7 +2,7 @@ use Rattle.std.proofs.Common.{rules, ◌≡◌, ◌<◌, None, sym, ap, ◌∙�
 use Rattle.lset_words.specs.declared.Call.TheVariants.{Contains}
 use Rattle.lset_words.specs.Words.{target, tail_word}
 use Rattle.lset_rule.specs.OwnSlots.{slots_of}
-use Rattle.lset_rule.proofs.Calls.{first_comes, first_reached, comes_next, made}
+use Rattle.lset_rule.proofs.CallKnows.{first_comes, first_reached, comes_next, made}
 use Rattle.lset_rule.proofs.RowSteps.{may_step}
 use Rattle.lset_rule.proofs.ContainsEnds.{falls}
 use Rattle.lset_rule.proofs.interpreter.interpret_read.Goals as goal

@@ -1,5 +1,5 @@
 use Rattle.lset_words.specs.declared.Call.TheVariants.{Contains}
-use Rattle.lset_rule.proofs.Calls.{Comes}
+use Rattle.lset_rule.proofs.CallKnows.{Comes}
 use Rattle.lset_rule.specs.Seats.{IsSeat}
 use Rattle.lset_rule.specs.Calls.{steps_of}
 use Rattle.lset_rule.proofs.ContainsEnds.{steps_left}

@@ -1,6 +1,6 @@
 use Rattle.std.proofs.Common.{rules, ◌<◌}
 use Rattle.lset_words.specs.Words.{target, tail_word}
-use Rattle.lset_rule.proofs.Calls.{first_comes, first_reached}
+use Rattle.lset_rule.proofs.CallKnows.{first_comes, first_reached}
 use Rattle.lset_rule.proofs.RowSteps.{Reached, may_step, stepped, answered}
 use Rattle.lset_rule.proofs.interpreter.interpret_within.Given.{Over}
 use Rattle.lset_rule.proofs.interpreter.interpret_within.Goals.{After-one_step-second, After-one_step-third, After-one_step-fourth}

@@ -4,7 +4,7 @@ use Rattle.std.proofs.lemmas.Bool.{ne_eqb}
 use Rattle.std.proofs.lemmas.List.Elements.{All-cons, All-nil}
 use Rattle.lset_text.proofs.PartLaws.{Lacks-append}
 use Rattle.lset_text.specs.Parts.{Lacks}
-use Rattle.lset_session.specs.Talks.{pending_of}
+use Rattle.lset_session.specs.SessionSoFar.{pending_of}
 use Rattle.lset_session.proofs.TalkLaws.{heard_long}
 use Rattle.lset_session.proofs.sessions.byte_in.Goals as goal
 

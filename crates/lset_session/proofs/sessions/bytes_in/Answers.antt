@@ -1,5 +1,5 @@
 use Rattle.std.proofs.Common.{◌+◌, None, Some, refl, ◌∙◌, arith}
-use Rattle.lset_session.specs.Talks.{pending_of}
+use Rattle.lset_session.specs.SessionSoFar.{pending_of}
 use Rattle.lset_session.proofs.TalkLaws.{heard_byte, heard_rest}
 use Rattle.lset_session.proofs.sessions.bytes_in.Goals as goal
 

@@ -1,5 +1,5 @@
 use Rattle.std.proofs.Common.{◌≡◌, take, None, false}
-use Rattle.lset_session.specs.Talks.{Hears, IsTalk, Nearer}
+use Rattle.lset_session.specs.SessionSoFar.{Hears, IsTalk, Nearer}
 use Rattle.lset_session.proofs.sessions.bytes_in.Given as goal
 
 abbrev pub invariant-loop-byte : goal.invariant-loop-byte

@@ -2,7 +2,7 @@ use Rattle.std.proofs.Common.{◌≡◌, ◌++◌, ◌<◌, None, Some, take, le
 use Rattle.std.specs.Io.KnownBytes.{Consumes}
 use Rattle.std.proofs.KnownBytes.{Consumes-trans, Consumes-kept}
 use Rattle.lset_session.specs.declared.sessions.EndReason.TheVariants.{End, ReadFault}
-use Rattle.lset_session.specs.Talks.{pending_of}
+use Rattle.lset_session.specs.SessionSoFar.{pending_of}
 use Rattle.lset_session.proofs.TalkLaws.{heard_then, spoken_rest, spoken_last}
 use Rattle.lset_session.proofs.sessions.session.Goals as goal
 

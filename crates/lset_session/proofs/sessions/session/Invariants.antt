@@ -1,7 +1,7 @@
 use Rattle.std.proofs.Common.{◌≡◌, ◌*◌, ◌-◌, ◌+◌, ℕ, List, false, None}
 use Rattle.lset_session.specs.declared.TheConstants.{LONGEST_LINE, MOST_LINES}
 use Rattle.std.specs.Io.KnownBytes.{Consumes}
-use Rattle.lset_session.specs.Talks.{Heard, IsTalk, pending_of}
+use Rattle.lset_session.specs.SessionSoFar.{Heard, IsTalk, pending_of}
 use Rattle.lset_session.proofs.sessions.session.Given as goal
 
 abbrev pub invariant-loop-count : goal.invariant-loop-count

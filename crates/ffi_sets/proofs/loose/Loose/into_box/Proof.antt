@@ -3,7 +3,7 @@ use contract.BorrowLft.{◌⊑◌}
 use denote.Triple.Clauses.{Lasts, lasts}
 use denote.Triple.Call.{calls_at_last}
 use Rattle.std_alloc.proofs.BoxSteps.Form as box
-use Rattle.ffi_sets.proofs.Walks.{◌≡◌, List, [], ◌∷◌, ◌++◌, refl, sym, ap, subst, a_type, dcons, dnil, Val, vptr, inst_fn, SProp, ent, id⊢, ftrue, flft, WpFn, ‵, raw, ◌⊛◌, some, later, at_ret, ◌$◌, ◌∵◌, !, qed, by, move, keep, drop, split, split3, join, fsplit, fjoin, pick, suffices, use1, await, rewrite, feq_i, stop, fld, of_opd, no_more, and_then, first, blocks, exec, returns, enter, alloc_all, pass_all, free_all, look_at, get, get_in, sets, lands_last, env, sub, whole, fact, tables, no, RattleType, owns, types_at, plain, block_ptr, nothing, only, param, layout, bounded, param_laws, triple_of, Stays, stay_dropped, walk_of, Goes-blank, after, fm, Good, box_out, box_in, proved_at, leaves, both, Loose, loose_good, loose_out}
+use Rattle.ffi_sets.proofs.MachineValues.{◌≡◌, List, [], ◌∷◌, ◌++◌, refl, sym, ap, subst, a_type, dcons, dnil, Val, vptr, inst_fn, SProp, ent, id⊢, ftrue, flft, WpFn, ‵, raw, ◌⊛◌, some, later, at_ret, ◌$◌, ◌∵◌, !, qed, by, move, keep, drop, split, split3, join, fsplit, fjoin, pick, suffices, use1, await, rewrite, feq_i, stop, fld, of_opd, no_more, and_then, first, blocks, exec, returns, enter, alloc_all, pass_all, free_all, look_at, get, get_in, sets, lands_last, env, sub, whole, fact, tables, no, RattleType, owns, types_at, plain, block_ptr, nothing, only, param, layout, bounded, param_laws, triple_of, Stays, stay_dropped, walk_of, Goes-blank, after, fm, Good, box_out, box_in, proved_at, leaves, both, Loose, loose_good, loose_out}
 use Rattle.std_alloc.specs.contracts.boxed.Box.from_raw as callee
 use Rattle.std_alloc.proofs.boxed.Box.from_raw.Met.{met}
 use Rattle.ffi_sets.specs.contracts.loose.Loose.into_box.{ended, clauses}

@@ -7,7 +7,7 @@ use denote.Struct.Tuple.{Tuple}
 use denote.Triple.Call.{calls_at}
 use Rattle.std_alloc.specs.Box.Ownership.{box_owns}
 use Rattle.std_alloc.proofs.BoxSteps.Form as box
-use Rattle.ffi_sets.proofs.Walks.{◌≡◌, List, [], ◌∷◌, ◌++◌, refl, sym, ap, ◌∙◌, subst, a_type, dcons, dnil, Val, vptr, inst_fn, SProp, ent, emp, id⊢, ftrue, flft, WpFn, ‵, raw, ◌⊛◌, some, later, ◌$◌, ◌∵◌, !, qed, by, move, keep, drop, split, split3, join, fsplit, fjoin, fpick, pick, suffices, use0, use1, await, rewrite, feq_l, stop, fld, of_opd, no_more, and_then, returns, enter, alloc_all, pass_all, free_all, look_at, get, get_in, sets, lands_as, agg, sub, whole, fact, fact_i, tables, no, RattleType, owns, types_at, plain, Ptr, block_ptr, null_ptr, ptr_val, in_a_block, nothing, only, heard, param, layout, bounded, param_laws, triple_of, Stays, stay_dropped, walk_of, Goes-blank, fm, box_out, box_in, proved_at, leaves, both, loose_good, loose_in, vstruct, of_list, never, fst∗, handle_tells}
+use Rattle.ffi_sets.proofs.MachineValues.{◌≡◌, List, [], ◌∷◌, ◌++◌, refl, sym, ap, ◌∙◌, subst, a_type, dcons, dnil, Val, vptr, inst_fn, SProp, ent, emp, id⊢, ftrue, flft, WpFn, ‵, raw, ◌⊛◌, some, later, ◌$◌, ◌∵◌, !, qed, by, move, keep, drop, split, split3, join, fsplit, fjoin, fpick, pick, suffices, use0, use1, await, rewrite, feq_l, stop, fld, of_opd, no_more, and_then, returns, enter, alloc_all, pass_all, free_all, look_at, get, get_in, sets, lands_as, agg, sub, whole, fact, fact_i, tables, no, RattleType, owns, types_at, plain, Ptr, block_ptr, null_ptr, ptr_val, in_a_block, nothing, only, heard, param, layout, bounded, param_laws, triple_of, Stays, stay_dropped, walk_of, Goes-blank, fm, box_out, box_in, proved_at, leaves, both, loose_good, loose_in, vstruct, of_list, never, fst∗, handle_tells}
 use Rattle.std_alloc.specs.contracts.boxed.Box.into_raw_with_allocator as callee
 use Rattle.std_alloc.proofs.boxed.Box.into_raw_with_allocator.Met.{met}
 use Rattle.ffi_sets.specs.contracts.loose.Loose.of.{ended, clauses}

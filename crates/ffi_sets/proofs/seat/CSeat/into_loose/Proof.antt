@@ -9,7 +9,7 @@ use Rattle.std_heap.specs.contracts.Global as HP
 use Rattle.std_heap.specs.contracts.GlobalAllocator.TheImpl as GI
 use Rattle.std_heap.proofs.Global.TheLaws as HL
 use Rattle.std_heap.proofs.Handle.{heap_val, heap_Tells}
-use Rattle.ffi_sets.proofs.Walks.{◌≡◌, List, [], ◌∷◌, ◌++◌, refl, Bool, true, false, Fn, Val, vcons, vnil, SProp, emp, ftrue, WpFn, fact, fact_i, tables, ‵, raw, ◌⊛◌, prop, at_ret, ◌$◌, ◌∵◌, !, qed, by, move, drop, use0, use1, split, regoal, rewrite, fsplit, fjoin, whole, sub, agg, stop, fld, lit, of_opd, no_more, and_then, first, branches, exec, returns, enter, alloc_all, pass_all, free_all, look_at, get, get_in, sets, sets_last, env, RattleType, owns, layout, types_at, nothing, alive, Stays, stay_dropped, walk_of, Goes-blank, after, Good, proved_at, leaves, slot_at, ptr_typed, seat_val, seat_told, seat_typed, loose_in, Freed, freed_val, freed_typed, lit<}
+use Rattle.ffi_sets.proofs.MachineValues.{◌≡◌, List, [], ◌∷◌, ◌++◌, refl, Bool, true, false, Fn, Val, vcons, vnil, SProp, emp, ftrue, WpFn, fact, fact_i, tables, ‵, raw, ◌⊛◌, prop, at_ret, ◌$◌, ◌∵◌, !, qed, by, move, drop, use0, use1, split, regoal, rewrite, fsplit, fjoin, whole, sub, agg, stop, fld, lit, of_opd, no_more, and_then, first, branches, exec, returns, enter, alloc_all, pass_all, free_all, look_at, get, get_in, sets, sets_last, env, RattleType, owns, layout, types_at, nothing, alive, Stays, stay_dropped, walk_of, Goes-blank, after, Good, proved_at, leaves, slot_at, ptr_typed, seat_val, seat_told, seat_typed, loose_in, Freed, freed_val, freed_typed, lit<}
 use Rattle.ffi_sets.specs.Owned.{seat_owns}
 use Rattle.ffi_sets.specs.contracts.held.Held as held
 use Rattle.ffi_sets.specs.contracts.seat.CSeat.into_loose.{ended, clauses}

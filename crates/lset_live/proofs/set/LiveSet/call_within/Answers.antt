@@ -1,4 +1,4 @@
-use Rattle.lset_live.proofs.Explained.{has_answered}
+use Rattle.lset_live.proofs.SeenExplained.{has_answered}
 use Rattle.lset_live.proofs.set.LiveSet.call_within.Goals as goal
 
 pub returns : goal.returns

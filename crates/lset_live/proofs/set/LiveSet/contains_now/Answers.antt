@@ -1,6 +1,6 @@
 use Rattle.lset_words.specs.declared.Call.TheVariants.{Contains}
 use Rattle.lset_live.proofs.FewSteps.{few_steps}
-use Rattle.lset_live.proofs.Explained.{has_answered}
+use Rattle.lset_live.proofs.SeenExplained.{has_answered}
 use Rattle.lset_live.proofs.TypedReplies.{contains_reply, stands_for}
 use Rattle.lset_live.proofs.set.LiveSet.contains_now.Goals as goal
 

@@ -19,7 +19,7 @@ use Rattle.lset_rule.specs.Runs.{own, under_after, StartsWith}
 use Rattle.lset_rule.specs.Views.{Stands, IsIdle, IsOpen}
 use Rattle.lset_rule.specs.Calls.{IsMid, Makes, Goes, Starts, gone_view, begun_view, record_after}
 use Rattle.lset_rule.proofs.MovesKeepRule.{IsAt, begun_at, stands_at}
-use Rattle.lset_rule.proofs.Runs.{starts_more}
+use Rattle.lset_rule.proofs.RecordsOfRuns.{starts_more}
 
 -- what a call knows after each of its steps
 abbrev pub Comes : Table → Call → View → Fed → View → Type 0

@@ -18,7 +18,7 @@ use Rattle.lset_steps.proofs.ReadTables.{IsReadRow}
 use Rattle.lset_progress.proofs.Ahead.{ahead}
 use Rattle.lset_progress.proofs.Decided.{by_same, by_below}
 use Rattle.lset_progress.proofs.Rest.{SameKeys, rest_by, few_by, fewer_by}
-use Rattle.lset_progress.proofs.Rows.{Shape, Then, Any, When}
+use Rattle.lset_progress.proofs.RowsWithLocks.{Shape, Then, Any, When}
 use Rattle.lset_progress.proofs.Paths.{Path, no_steps, path_on}
 use Rattle.lset_progress.proofs.Standing.{Standing}
 

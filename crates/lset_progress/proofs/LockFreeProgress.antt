@@ -34,10 +34,10 @@ use Rattle.lset_progress.proofs.Alone.{Nears, ends_alone}
 use Rattle.lset_progress.proofs.Decided.{by_same, by_below, by_decision}
 use Rattle.lset_progress.proofs.LockFreeSteps.{known, keeps, step_is, keys_on, place_of, ceiling_at_marks}
 use Rattle.lset_progress.proofs.Paths.{Path, in_chain_of}
-use Rattle.lset_progress.proofs.ReadAlone.{Along, Plain, Reads, ReadsAt, reads_left, reads_then}
-use Rattle.lset_progress.proofs.ReadAlone.{from_20, from_21, from_22, from_23}
-use Rattle.lset_progress.proofs.ReadAlone.{from_24, from_25}
-use Rattle.lset_progress.proofs.Rows.{Shape, TimedBy, Then, Any, Only, at_row, no_time, again, on, stops}
+use Rattle.lset_progress.proofs.ReadProgress.{Along, Plain, Reads, ReadsAt, reads_left, reads_then}
+use Rattle.lset_progress.proofs.ReadProgress.{from_20, from_21, from_22, from_23}
+use Rattle.lset_progress.proofs.ReadProgress.{from_24, from_25}
+use Rattle.lset_progress.proofs.RowsWithLocks.{Shape, TimedBy, Then, Any, Only, at_row, no_time, again, on, stops}
 use Rattle.lset_progress.proofs.Standing.{Standing, stands}
 
 -- HOW MANY STEPS are left behind the next one, row by row from row 0, of a walk whose exchanges succeed. Where one fails, the

@@ -1,5 +1,5 @@
 -- WHAT A LIST WITH LOCKS SHOWS OF EACH ROW, once: which locks a thread holds behind it, and how much is left of its call. From
--- these rows follow all laws of progress of the list (LocksAlone).
+-- these rows follow all laws of progress of the list (ProgressWithLocks).
 use Rattle.std.specs.Prelude.{◌≡◌, ◌≢◌, ℕ, ◌+◌, ◌-◌, ◌/◌, ◌<◌, ◌≤◌, ◌⊎◌, ◌&&◌, nat_le, nat_lt, Bool, true, false, MatchBool}
 use Rattle.std.specs.Prelude.{Some, None, List, slice_index, slice_set}
 use Rattle.std.proofs.Common.{arith, inl, inr, subst, sym, ap, suc, refl}

@@ -19,12 +19,12 @@ use Rattle.lset_history.proofs.Lists.{Pairs, all_filter, all_left, all_both, all
 use Rattle.lset_rule.specs.declared.view.OwnCall.{OwnCall}
 use Rattle.lset_rule.specs.declared.view.Past.{Past, Fresh, Called', Gathered'}
 use Rattle.lset_rule.specs.Pasts.{root, InOrder, Apart, IsIn, calls_of}
-use Rattle.lset_rule.proofs.Runs.{HasGathered}
+use Rattle.lset_rule.proofs.RecordsOfRuns.{HasGathered}
 use Rattle.lset_words.specs.Records.{Follows, Keeps, KeepsItems, calls_by}
 use Rattle.lset_live.specs.Dated.{call_of, record_of}
 use Rattle.lset_live.proofs.Dated.{said_by, root_is, has_gathered, has_own}
-use Rattle.lset_live.proofs.Histories.{of_thread, ended_record}
-use Rattle.lset_rule.proofs.Runs as dated
+use Rattle.lset_live.proofs.CallsOfThread.{of_thread, ended_record}
+use Rattle.lset_rule.proofs.RecordsOfRuns as dated
 use Rattle.lset_live.proofs.PastCalls.{EndsBefore, gathered_before, gathered_in, gathered_other, none_in, own_is, own_last}
 use Rattle.lset_live.proofs.PastCalls.{root_in}
 

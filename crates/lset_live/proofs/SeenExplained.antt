@@ -13,7 +13,7 @@ use Rattle.lset_words.specs.declared.history.CallRecord.{CallRecord}
 use Rattle.lset_words.specs.declared.history.Placed.{Placed}
 use Rattle.lset_words.specs.History.{Precedes, answered, call_numbered, no_call}
 use Rattle.lset_words.specs.SequentialSet.{opening_set}
-use Rattle.lset_history.proofs.Histories.{IsPart, part_of}
+use Rattle.lset_history.proofs.CallByCall.{IsPart, part_of}
 use Rattle.lset_lists.specs.Headline.{ExplainsRun, RunsAreLinearizable}
 use Rattle.lset_steps.specs.declared.Event.{Event}
 use Rattle.lset_steps.specs.declared.Event.TheVariants.{Begin, Go}
@@ -35,8 +35,8 @@ use Rattle.lset_live.specs.Dated.{record_of}
 use Rattle.lset_live.specs.Explained.{HasAnswered, IsAnswered, SeenIsLinearizable}
 use Rattle.lset_live.specs.Seats.{SeatValue, SetValue}
 use Rattle.lset_live.proofs.Dated.{root_is}
-use Rattle.lset_live.proofs.Histories.{of_thread, ended_record, thread_records, MayBegin, thread_calls}
-use Rattle.lset_live.proofs.Orders.{keeps}
+use Rattle.lset_live.proofs.CallsOfThread.{of_thread, ended_record, thread_records, MayBegin, thread_calls}
+use Rattle.lset_live.proofs.OrderKeepsRecord.{keeps}
 use Rattle.lset_words.specs.Words.{Opening}
 
 -- a thread that begins a call has none under way

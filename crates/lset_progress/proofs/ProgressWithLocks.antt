@@ -20,7 +20,7 @@ use Rattle.lset_progress.specs.Progress.{IsPending, Answers, NoOtherHolds, Calls
 use Rattle.lset_progress.proofs.Alone.{Nears, ends_alone}
 use Rattle.lset_progress.proofs.Holders.{MayHold, after_store, after_try, holder_known, one_or_more, try_succeeds, others_wait}
 use Rattle.lset_progress.proofs.Rest.{SameList, stay, tried}
-use Rattle.lset_progress.proofs.Rows.{Shape, LateBy, Timed, Goes, RowBy, RowOf, rank, timed_same, no_time}
+use Rattle.lset_progress.proofs.RowsWithLocks.{Shape, LateBy, Timed, Goes, RowBy, RowOf, rank, timed_same, no_time}
 
 pub record Shows (T : Table) (S : Shape) (most : Sizes → ℕ) : Type 0 where
   pub rows : (op : Opening) (last k t : ℕ) (es : ℕ → Event) → Run T op es last → k ≤ last → t < op.threads

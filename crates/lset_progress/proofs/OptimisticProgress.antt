@@ -23,11 +23,11 @@ use Rattle.lset_progress.proofs.Ahead.{ahead, ahead_less}
 use Rattle.lset_progress.proofs.LivelockFreedom.{is_livelock_free, each_counts}
 use Rattle.lset_progress.proofs.Decided.{by_same, by_below, by_decision, some_or_none}
 use Rattle.lset_progress.proofs.DeadlockFreedom.{is_deadlock_free}
-use Rattle.lset_progress.proofs.LocksAlone.{Shows, calls_end, gets_on}
+use Rattle.lset_progress.proofs.ProgressWithLocks.{Shows, calls_end, gets_on}
 use Rattle.lset_progress.proofs.Paths.{Path, no_steps, path_on, path_from, path_up}
 use Rattle.lset_progress.proofs.Rest.{rest, few_by, fewer}
-use Rattle.lset_progress.proofs.Rows.{Shape, Loads, Stores, RowOf, NodeLocks, within, When, Only, at_row, no_lock, pred_only}
-use Rattle.lset_progress.proofs.Rows.{gave_pred, gave_curr, after_pred, again, goes, on, takes, timed, unlocks, writes}
+use Rattle.lset_progress.proofs.RowsWithLocks.{Shape, Loads, Stores, RowOf, NodeLocks, within, When, Only, at_row, no_lock, pred_only}
+use Rattle.lset_progress.proofs.RowsWithLocks.{gave_pred, gave_curr, after_pred, again, goes, on, takes, timed, unlocks, writes}
 use Rattle.lset_progress.proofs.Standing.{Standing, stands}
 
 -- HOW MANY STEPS are left behind the next one, row by row from row 0, of a walk that is valid. If there is no reply, both locks

@@ -20,9 +20,9 @@ use Rattle.lset_progress.proofs.Ahead.{ahead}
 use Rattle.lset_progress.proofs.Decided.{by_below, by_decision}
 use Rattle.lset_progress.proofs.LivelockFreedom.{is_livelock_free, each_counts}
 use Rattle.lset_progress.proofs.DeadlockFreedom.{is_deadlock_free}
-use Rattle.lset_progress.proofs.LocksAlone.{Shows, calls_end, gets_on}
+use Rattle.lset_progress.proofs.ProgressWithLocks.{Shows, calls_end, gets_on}
 use Rattle.lset_progress.proofs.Rest.{rest, few_by, fewer}
-use Rattle.lset_progress.proofs.Rows.{Shape, Loads, RowOf, within, Only, at_row, goes, on, takes, timed, unlocks, writes}
+use Rattle.lset_progress.proofs.RowsWithLocks.{Shape, Loads, RowOf, within, Only, at_row, goes, on, takes, timed, unlocks, writes}
 use Rattle.lset_progress.proofs.Standing.{Standing, stands}
 
 -- how many steps are left behind the next one, row by row from row 0

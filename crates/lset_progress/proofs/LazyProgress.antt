@@ -34,13 +34,13 @@ use Rattle.lset_progress.proofs.Ahead.{ahead, ahead_less}
 use Rattle.lset_progress.proofs.Decided.{by_same, by_below, by_decision, some_or_none}
 use Rattle.lset_progress.proofs.DeadlockFreedom.{is_deadlock_free}
 use Rattle.lset_progress.proofs.Marks.{Stands, Marking, no_marks, unmarked_unless, ceiling_row}
-use Rattle.lset_progress.proofs.LocksAlone.{Shows, calls_end, gets_on}
+use Rattle.lset_progress.proofs.ProgressWithLocks.{Shows, calls_end, gets_on}
 use Rattle.lset_progress.proofs.Paths.{Path, no_steps, path_on}
-use Rattle.lset_progress.proofs.ReadAlone.{Plain, Along, Reads, ReadsAt, reads_left, reads_then, from_20, from_21, from_22}
-use Rattle.lset_progress.proofs.ReadAlone.{from_23, from_24, from_25}
+use Rattle.lset_progress.proofs.ReadProgress.{Plain, Along, Reads, ReadsAt, reads_left, reads_then, from_20, from_21, from_22}
+use Rattle.lset_progress.proofs.ReadProgress.{from_23, from_24, from_25}
 use Rattle.lset_progress.proofs.Rest.{rest, few_by, fewer}
-use Rattle.lset_progress.proofs.Rows.{Shape, Loads, Stores, RowOf, NodeLocks, within, When, Only, at_row, stops, no_lock}
-use Rattle.lset_progress.proofs.Rows.{pred_only, gave_pred, gave_curr, after_pred, again, goes, on, takes, timed, unlocks, writes}
+use Rattle.lset_progress.proofs.RowsWithLocks.{Shape, Loads, Stores, RowOf, NodeLocks, within, When, Only, at_row, stops, no_lock}
+use Rattle.lset_progress.proofs.RowsWithLocks.{pred_only, gave_pred, gave_curr, after_pred, again, goes, on, takes, timed, unlocks, writes}
 use Rattle.lset_progress.proofs.Standing.{Standing, stands}
 use Rattle.lset_progress.proofs.Windows.{counted_or_not}
 
