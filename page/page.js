@@ -5320,7 +5320,8 @@ function runOfSchedule(ask, schedule, lacks) {
   const trace = new Trace(made, versionOf(schedule));
   const { refused } = trace;
   if (refused === null) return { trace, fault: null };
-  return { trace: null, fault: { ...refused, says: `Line ${refused.line} of the schedule is refused: ${refused.cause}.` } };
+  const why = sentenceOn(ask, refused.cause, "a schedule") ?? refused.cause;
+  return { trace: null, fault: { ...refused, says: `Line ${refused.line} of the schedule is refused: ${why}.` } };
 }
 
 const unjudged = (reason, fault = null) => ({ isSolved: false, reason, fault, conditions: [], deadEnd: null });
@@ -7114,7 +7115,7 @@ const BREAK_LEVELS = {
     missing: [{ row: 5, part: "new " }],
   },
   "second-lock": {
-    story: "Hand over hand, the book says: two locks at a time. Here one hand stays in the pocket.",
+    story: "Hand over hand means two locks at a time. Here a remove takes only one.",
     hints: [
       "An add of 5 beside a remove of 3, its neighbour.",
       "The add must hold the lock of 3 while the other thread removes that node.",
@@ -7174,7 +7175,7 @@ const BREAK_LEVELS = {
     missing: [{ row: 6, part: "pred unmarked," }, { row: 7, part: "and curr unmarked" }],
   },
   "mark-in-add": {
-    story: "A marked link must not change. Somebody changes it all the same.",
+    story: "A marked arrow must not change. Somebody changes it all the same.",
     hints: [
       "An add of 5, and a remove of the node in front of it.",
       "The remove must have marked the node of 3, and done no more.",
@@ -7461,7 +7462,7 @@ function startAfresh(button) {
     for (const name of Object.keys(localStorage)) if (name.startsWith("listset-")) localStorage.removeItem(name);
   } catch {
   }
-  location.hash = "#story=1";
+  location.hash = "#story=1&gone=yes"; // the first screen says so
   location.reload();
 }
 return { keptStory, keepStory, brokenLines, isBrokenOnce, keepBrokenLine, isNamed, keepNamed, startAfresh };
@@ -7797,8 +7798,8 @@ const head = (kicker, title, more = "", kind = "") =>
 
 const FIGURE_AND_TALK = '<div id="figure"></div><div id="talk" class="talk" aria-live="polite"></div>';
 
-const hintAndOn = (next) =>
-  `<button id="hint" class="primary" data-do="hint"></button>${tag("a", { id: "go-on", class: "button quiet", href: next }, "Skip →")}`;
+const hintAndOn = ({ href, words }) =>
+  `<button id="hint" class="primary" data-do="hint"></button>${tag("a", { id: "go-on", class: "button quiet", href, "data-words": words }, "Skip →")}`;
 
 const foot = (left, right) => tag("footer", { class: "foot" }, left, tag("span", { class: "spread" }), right);
 
@@ -7871,10 +7872,10 @@ function html() {
     change it.</p>`;
   const verb = seen === 0 ? "Begin" : seen < QUESTIONS.length ? "Go on" : "Once more";
   return `${head("", "Guess, then see", lead + (seen === 0 ? "" : score), "title")}<div class="cards">${QUESTIONS.map(cardOf).join("")}</div>
-    <h2>Beyond the chapter</h2><p class="prose">These lists have a fourth call, <b>ceiling</b>: the smallest number that is as big as the one
+    <h2>Seven more</h2><p class="prose">These lists have a fourth call, <b>ceiling</b>: the smallest number that is as big as the one
     that is asked for, or more. And each thread may add only so many numbers.</p>
     <div class="cards">${APPENDIX.map(cardOf).join("")}</div>
-    <footer class="foot"><a class="button quiet" href="#story=1">The path of fifteen minutes</a><span class="spread"></span>
+    <footer class="foot"><a class="button quiet" href="#story=1">The path of twenty minutes</a><span class="spread"></span>
     <a class="button primary" href="#ask=${next.name}">${verb} →</a></footer>`;
 }
 
@@ -7899,7 +7900,7 @@ const { NO_TASK } = $run_broken;
 const { inLetters } = $run_markup;
 const { eventsAsked } = $run_schedule_text;
 const { partsOfSeed, scheduleOfSeed } = $run_seed;
-const { brokenLines } = $story_kept_story;
+const { brokenLines, keptStory } = $story_kept_story;
 const known = { course: null };
 
 const bookCourse = () => (known.course ??= triedCourse(askNow, BOOK));
@@ -7943,6 +7944,14 @@ function hasTask(given, { activity, id }, { kind, id: seed }) {
   return ["learn", "break"].includes(activity) && wordsIn(given[activity]).includes(id);
 }
 
+function wayOn({ activity, id }, own) {
+  const { homework } = keptStory();
+  if (homework === null || !hasTask(homework.given, { activity, id }, { kind: "", id: "" })) return own;
+  const { tasks } = tasksOf(homework.given);
+  const next = tasks[tasks.findIndex(({ href }) => href === `#${activity}=${id}`) + 1];
+  return next === undefined ? { href: addressOfAssignment(homework), words: "All tasks →" } : { href: next.href, words: "Next task →" };
+}
+
 function tasksOf(given) {
   const unknown = [];
   const taken = (words, taskOf, what) =>
@@ -7984,7 +7993,7 @@ function linesDone(tasks) {
   };
   return Object.fromEntries(tasks.map((task) => [task.id, lineOf[task.kind](task)]));
 }
-return { bookCourse, allLevels, addressOfTasks, hasTask, tasksOf, taskOfJudged, linesDone };
+return { bookCourse, allLevels, addressOfTasks, hasTask, wayOn, tasksOf, taskOfJudged, linesDone };
 })();
 
 // story/kept_lessons.js
@@ -8090,10 +8099,6 @@ class Learning {
     return this.course.lessons.find(({ name }) => !this.isSolved(name));
   }
 
-  after() {
-    return this.course.lessons[this.course.lessons.indexOf(this.lesson) + 1];
-  }
-
 
   get workName() {
     return `lesson ${this.lesson.name}${this.course.name === BOOK_NAME ? "" : ` of ${this.course.name}`}`;
@@ -8156,7 +8161,7 @@ function html() {
   const next = panel.firstUnsolved() ?? lessons[0];
   const lead = `<p class="lead">In each lesson you choose which thread makes the next step, until the run shows what is asked. There is more
     than one way.</p>${count === 0 ? "" : `<p class="score"><b>${count}</b> of ${lessons.length} solved</p>`}`;
-  const back = isBook ? "" : '<p><button id="lesson-book" data-do="book">Back to the twelve lessons of the book</button></p>';
+  const back = isBook ? "" : '<p><button id="lesson-book" data-do="book">Back to the twelve lessons</button></p>';
   const on = tag("a", { class: "button primary", href: `#learn=${next.name}` }, `${count === 0 ? "Begin" : "Go on"} →`);
   return `${head("", isBook ? "Solve it" : escaped(name), lead, "title")}<div class="cards">${lessons.map(cardOf).join("")}</div>
     ${back}<div id="learn-folds"></div>${foot("", on)}`;
@@ -8649,7 +8654,7 @@ function beginJudging() {
   if (trace.total > MOST_JUDGED) return tell(`A run of at most ${MOST_JUDGED} events can be judged; this one has ${trace.total}.`);
   tell("");
   judging.begin(judgePart("level").value);
-  judgePart("level").focus();
+  byId("next").focus(); // the arrows step; on the level they would change it
 }
 
 function listenToJudging() {
@@ -9151,7 +9156,7 @@ const HAND = ({ student, number }, count) => `<section class="panel hand" id="ha
   <label>Student number <input id="hand-number" inputmode="numeric" value="${escaped(number)}"></label>
   <button data-do="copy">Copy the text</button><button data-do="save">Save as a file</button>
   <button class="quiet" data-do="afresh">Start afresh on this computer</button></div>
-  <p class="small" id="scene-told" role="status">The text has your ${count} solutions as schedules. Your teacher’s page runs each of them again.</p>
+  <p class="small" id="scene-told" role="status">The text has your ${counted(count, "solution")}. Your teacher’s page runs ${count === 1 ? "it" : "each of them"} again.</p>
   <details><summary>See the text</summary><pre id="hand-text"></pre></details></section>`;
 
 function html(place) {
@@ -9160,7 +9165,7 @@ function html(place) {
   const wrong = unknown.length === 0 ? "" : `<p class="again">This page does not know: ${escaped(unknown.join(", "))}. Tell your teacher.</p>`;
   const lead = `<p class="lead">${counted(tasks.length, "task")}, ${done.length} done in this browser. Come back by the same link: what is done stays ticked.</p>
     <progress max="${tasks.length || 1}" value="${done.length}" aria-label="${done.length} of ${tasks.length} done"></progress>${wrong}
-    <p class="small">New to this? <a href="#story=1">Why not just one lock?</a> Fifteen minutes, from nothing.</p>`;
+    <p class="small">New to this? <a href="#story=1">Why not just one lock?</a> Twenty minutes, from nothing.</p>`;
   const verb = done.length === 0 ? "Begin" : "Go on";
   const next = (task) => tag("a", { class: "button primary", href: task.href }, `${verb}: ${escaped(task.title)} →`);
   const bar = first === undefined ? foot("All done.", '<button class="primary" data-do="hand">Hand in ↑</button>') : foot("", next(first));
@@ -9420,14 +9425,15 @@ function html(place) {
   const item = itemOf(place);
   const at = ALL.indexOf(item);
   const next = ALL[(at + 1) % ALL.length];
-  const which = QUESTIONS.includes(item) ? `${at + 1} of ${QUESTIONS.length}` : "beyond the chapter";
-  const kicker = `<a href="#ask">Guess, then see</a> · ${which} · ${LIST_WORDS[item.list]}`;
+  const which = QUESTIONS.includes(item) ? `${at + 1} of ${QUESTIONS.length}` : "one more";
+  const kicker = `${isEmbed() ? "Guess, then see" : '<a href="#ask">Guess, then see</a>'} · ${which} · ${LIST_WORDS[item.list]}`;
   const out = `<a class="button quiet small" target="_blank" href="${location.pathname}#ask=${item.name}">open in a page ↗</a>`;
+  const all = '<a class="button quiet" href="#ask">All questions</a>';
   return `<section class="screen">${head(kicker, `<span id="what-if-mark" class="what-if" hidden>What if?</span>${item.question}`)}
     <div id="branches" class="branches" hidden></div>${FIGURE_AND_TALK}</section>
-    <footer class="foot"><a class="button quiet" href="#ask">All questions</a><span class="spread"></span>${isEmbed() ? out : ""}
+    <footer class="foot">${isEmbed() ? "" : all}<span class="spread"></span>${isEmbed() ? out : ""}
     <button id="show-me" class="primary" data-do="show">${isNarrow() ? "Show me" : "I do not know: show me"}</button>
-    <a id="go-on" class="button quiet" href="#ask=${next.name}">Skip →</a></footer>`;
+    <a id="go-on" class="button quiet" href="#ask=${next.name}" ${isEmbed() ? "hidden" : ""}>Skip →</a></footer>`;
 }
 
 function begin(place) {
@@ -9535,11 +9541,11 @@ function cardOf(name) {
 function html() {
   const count = CHAPTER.filter(isBrokenOnce).length;
   const next = CHAPTER.find((name) => !isBrokenOnce(name)) ?? CHAPTER[0];
-  const lead = `<p class="lead">Ten lists, in the order of the chapter. Each lacks one check. Let A and B step until a number is lost, or two
+  const lead = `<p class="lead">Ten lists, from one lock to none. Each lacks one check. Let A and B step until a number is lost, or two
     answers cannot both be right. Then say what is missing.</p>`;
   const score = count === 0 ? "" : `<p class="score"><b>${count}</b> of ${CHAPTER.length} broken</p>`;
   return `${head("", "Break it", lead + score, "title")}<div class="cards">${CHAPTER.map(cardOf).join("")}</div>
-    <h2>Beyond the chapter</h2><div class="cards">${BEYOND.map(cardOf).join("")}</div>
+    <h2>Three more</h2><div class="cards">${BEYOND.map(cardOf).join("")}</div>
     ${foot("", `<a class="button primary" href="#break=${numberOfLevel(next)}">${count === 0 ? "Begin" : "Go on"} →</a>`)}`;
 }
 
@@ -9573,6 +9579,7 @@ const { BREAK_LEVELS } = $data_levels;
 const { askNow, now } = $page_now;
 const { addressOf } = $run_address;
 const { departureOf, isTaskDone, NO_TASK } = $run_broken;
+const { wayOn } = $story_assignment;
 const { Figure } = $story_figure;
 const { isBrokenOnce, isNamed, keepBrokenLine, keepNamed } = $story_kept_story;
 const { runOfText } = $story_run_of_text;
@@ -9585,10 +9592,10 @@ function html(place) {
   const name = levelOf(place);
   const at = CHAPTER.indexOf(name);
   const next = CHAPTER[(at + 1) % CHAPTER.length];
-  const which = at === -1 ? "beyond the chapter" : `${at + 1} of ${CHAPTER.length}`;
+  const which = at === -1 ? "one more" : `${at + 1} of ${CHAPTER.length}`;
   const kicker = `<a href="#break">Break it</a> · ${which} · ${LISTS[LACKING[name]].name} without one check`;
   return `<section class="screen">${head(kicker, BREAK_LEVELS[name].story)}${FIGURE_AND_TALK}</section>
-    ${foot('<a class="button quiet" href="#break">All lists</a>', hintAndOn(`#break=${numberOfLevel(next)}`))}`;
+    ${foot('<a class="button quiet" href="#break">All lists</a>', hintAndOn(wayOn(place, { href: `#break=${numberOfLevel(next)}`, words: "Next list →" })))}`;
 }
 
 function begin(place) {
@@ -9671,7 +9678,7 @@ function draw(state) {
   hint.hidden = isDone;
   hint.textContent = state.hints === 0 ? "Hint" : state.hints < HINTS ? "Another hint" : "Start over";
   const on = part("#go-on");
-  on.textContent = isDone ? "Next list →" : "Skip →";
+  on.textContent = isDone ? on.dataset.words : "Skip →";
   on.className = isDone ? "button primary ready" : "button quiet";
   if (isDone && isNamed(nameNow())) strike();
 }
@@ -9815,6 +9822,7 @@ const { setHtml } = $page_dom;
 const { now } = $page_now;
 const { versionOf } = $run_schedule_text;
 const { escaped, inLetters, tag } = $run_markup;
+const { wayOn } = $story_assignment;
 const { Figure } = $story_figure;
 const { learning } = $story_learning;
 const { linesOf } = $story_live_run;
@@ -9824,18 +9832,19 @@ const HINT = 1; // of `hints`, in the scene: the hint is shown; the answer is sh
 const ANSWER = 2;
 const shown = { verdict: null, ticks: new Set() }; // of the run that is shown, and what was met before
 
-function html({ id }) {
+function html(place) {
   const { panel } = learning;
-  const lesson = panel.lessonNamed(id);
+  const lesson = panel.lessonNamed(place.id);
   const { lessons, name } = panel.course;
   const at = lessons.indexOf(lesson);
   const next = lessons[at + 1];
+  const own = next === undefined ? { href: "#learn", words: "All lessons →" } : { href: `#learn=${next.name}`, words: "Next lesson →" };
   const numbers = lesson.opening.length === 0 ? "no numbers at first" : `${lesson.opening.join(", ")} at first`;
   const kicker = `<a href="#learn">${escaped(name)}</a> · ${at + 1} of ${lessons.length} · ${LIST_WORDS[lesson.list]}, ${numbers}`;
   const asked = `<p class="asked">${escaped(inLetters(lesson.question))}</p>`;
   const goal = '<div class="goal"><p class="kicker">A solution shows</p><div id="goal" aria-live="polite"></div></div>';
   return `<section class="screen"><div class="two">${head(kicker, escaped(lesson.title), asked)}${goal}</div>${FIGURE_AND_TALK}</section>
-    ${foot('<a class="button quiet" href="#learn">All lessons</a>', hintAndOn(`#learn${next === undefined ? "" : `=${next.name}`}`))}`;
+    ${foot('<a class="button quiet" href="#learn">All lessons</a>', hintAndOn(wayOn(place, own)))}`;
 }
 
 function begin({ id, given }) {
@@ -9925,7 +9934,7 @@ function draw(state) {
   hint.hidden = isDone;
   if (hint.textContent !== words) hint.textContent = words;
   const on = part("#go-on");
-  on.textContent = !isDone ? "Skip →" : learning.panel.after() === undefined ? "All lessons →" : "Next lesson →";
+  on.textContent = isDone ? on.dataset.words : "Skip →";
   on.className = isDone ? "button primary ready" : "button quiet";
 }
 
@@ -10128,7 +10137,7 @@ const $story_path_parts = (() => {
 const { tag } = $run_markup;
 const { SCREENS } = $story_path;
 const HERO = `<div class="hero"><p class="kicker">Concurrent lists, from nothing</p><p class="title">Why not just one lock?</p>
-  <p class="lead">Two threads share one list. In fifteen minutes you break it, mend it, and meet the five list sets of Herlihy and Shavit.
+  <p class="lead">Two threads share one list. In twenty minutes you break it, mend it, and meet the five list sets of Herlihy and Shavit.
   You press, and the threads step. You need no book.</p></div>`;
 
 function dots(number, done) {
@@ -10145,12 +10154,14 @@ function dots(number, done) {
 const barHtml = (number) => `<footer class="foot"><button class="quiet" data-do="back" ${number === 1 ? "hidden" : ""}>← Back</button>
   <span class="spread"></span><button id="show-me" data-do="show"></button><button id="go-on" data-do="on"></button></footer>`;
 
+const GONE = '<p class="welcome" role="status">All that was kept here is gone.</p>';
+
 function welcome(done) {
   const count = SCREENS.filter(({ id }) => done[id]).length;
   const words = `Welcome back: you have done ${count} of ${SCREENS.length}. You are where you stopped.`;
   return `<p class="welcome">${words} <a href="#story=1">From the start</a></p>`;
 }
-return { HERO, dots, barHtml, welcome };
+return { HERO, dots, barHtml, GONE, welcome };
 })();
 
 // story/path_end.js
@@ -10164,7 +10175,7 @@ const WAYS = [
   ["#code=lock-free", "Step by the code", "Any list, any calls: press a line, and its thread makes it."],
   ["#break", "Break it", "Lists that lack one check each. Find a run that shows it."],
   ["#learn", "Solve it", "Twelve lessons: choose the steps until the run shows what is asked."],
-  ["#teachers", "Teach it", "A lecture of twenty minutes, homework in one link, hand-ins checked."],
+  ["#teachers", "Teach it", "A lecture of 45 minutes, homework in one link, hand-ins checked."],
 ];
 
 const TRUTH = `<details class="truth"><summary>How true is this?</summary><p>Each step that you saw was computed by a program that is proved by
@@ -10201,7 +10212,7 @@ const { Figure } = $story_figure;
 const { isNarrow } = $story_figure_parts;
 const { keepStory, keptStory, startAfresh } = $story_kept_story;
 const { SCREENS } = $story_path;
-const { barHtml, dots, HERO, welcome } = $story_path_parts;
+const { barHtml, dots, GONE, HERO, welcome } = $story_path_parts;
 const { endHtml, LAST } = $story_path_end;
 const { FIGURE_AND_TALK, drawLedger, head, numberOfKey, optionButtons, part, replyTo, scene, setScene, takeFigure, talk, threadOfKey } = $story_scene;
 const numberOf = ({ id }) => Math.max(1, Math.min(LAST, Number(id) || 1));
@@ -10216,7 +10227,7 @@ function html(place) {
   const number = numberOf(place);
   const { done } = keptStory();
   const screen = screenOf(place);
-  const path = dots(number, done) + (place.given.back === "yes" ? welcome(done) : "");
+  const path = dots(number, done) + (place.given.gone === "yes" ? GONE : place.given.back === "yes" ? welcome(done) : "");
   if (screen === null) return path + endHtml(done);
   const question = head("", screen.question, `<p class="prose">${screen.prose}</p>`);
   const top = number === 1 ? `<div class="two">${HERO}${question}</div>` : question;
@@ -10415,7 +10426,7 @@ const { bookCourse, taskOfJudged } = $story_assignment;
 const stripped = (name) => name.replace(/^.*\//, "").replace(/\.[A-Za-z]+$/, "");
 
 function studentOf(text, file) {
-  const [, name, number] = /^(.*?)\s*(?:[([#]\s*(\w[\w-]{2,20})\s*[)\]]?)?\s*$/.exec(text ?? "") ?? [];
+  const [, name, number] = /^(.*?)\s*(?:[([#]\s*((?=\D*\d)\w[\w-]{0,20})\s*[)\]]?)?\s*$/.exec(text ?? "") ?? [];
   return { name: name || stripped(file), number: number ?? "" };
 }
 
@@ -10428,10 +10439,10 @@ async function checkAll(files, tasks, tellProgress = (_at, _of) => {}) {
   for (const [index, text] of handed.entries()) {
     const read = readHandIn(text);
     const who = studentOf(read.student, text.file);
-    const key = who.number || who.name.toLowerCase();
-    const own = students.get(key) ?? { ...who, files: [], solved: new Map(), notes: [] };
+    const key = `${who.number} ${who.name.toLowerCase()}`;
+    const own = students.get(key) ?? { ...who, files: [], solved: new Map(), wrong: new Set(), notes: [] };
     students.set(key, own);
-    own.files.push(text.file);
+    if (!own.files.includes(text.file)) own.files.push(text.file);
     own.notes.push(...read.faults.map(({ line, fault }) => `line ${line}: ${fault}`));
     const lessons = (courses.find(({ name }) => name === read.course) ?? courses[0]).lessons;
     for (const { line } of read.solutions) judgePart(own, lessons, line, tasks ?? []);
@@ -10440,6 +10451,7 @@ async function checkAll(files, tasks, tellProgress = (_at, _of) => {}) {
   }
   const rows = [...students.values()].sort((one, other) => one.name.localeCompare(other.name));
   noteSame(rows);
+  noteNumbers(rows);
   const columns = tasks === null ? columnsOf(rows) : tasks.map(({ id, title }) => ({ id, title }));
   return { rows, columns, empty };
 }
@@ -10449,7 +10461,10 @@ function judgePart(own, lessons, line, tasks) {
   const task = line.startsWith("judge ") ? (taskOfJudged(line, tasks)?.id ?? verdict.task) : verdict.task;
   const isOwn = verdict.schedule !== undefined && !verdict.isVeryAnswer; // what two may have in common only by copying
   if (verdict.isSolved) own.solved.set(task, isOwn ? verdict.schedule : null);
-  else own.notes.push(`${task ?? line.slice(0, 40)}: ${verdict.says}`);
+  else {
+    own.wrong.add(task);
+    own.notes.push(`${task ?? line.slice(0, 40)}: ${verdict.says}`);
+  }
   if (verdict.isVeryAnswer) own.notes.push(`${task}: the very answer of the lesson`);
   if (verdict.ofExample) own.notes.push(`${task}: the very run of an example`);
 }
@@ -10457,6 +10472,15 @@ function judgePart(own, lessons, line, tasks) {
 function columnsOf(rows) {
   const ids = new Set(rows.flatMap(({ solved }) => [...solved.keys()]));
   return [...ids].sort().map((id) => ({ id, title: id }));
+}
+
+const markOf = ({ solved, wrong }, { id }) => (solved.has(id) ? "solved" : wrong.has(id) ? "wrong" : "none");
+
+function noteNumbers(rows) {
+  for (const row of rows) {
+    const names = rows.filter(({ number }) => number !== "" && number === row.number).map(({ name }) => name);
+    if (names.length > 1) row.notes.unshift(`two names for one number: ${names.join(", ")}`);
+  }
 }
 
 function noteSame(rows) {
@@ -10490,26 +10514,27 @@ function csvOf({ rows, columns }) {
   };
   const head = ["student", "number", ...columns.map(({ title }) => title), "solved", "of", "same schedules as", "notes", "files"];
   const line = (row) => {
-    const marks = columns.map(({ id }) => (row.solved.has(id) ? 1 : 0));
-    const solved = marks.reduce((sum, one) => sum + one, 0);
+    const marks = columns.map((column) => ({ solved: 1, wrong: 0, none: "" })[markOf(row, column)]);
+    const solved = marks.filter((mark) => mark === 1).length;
     return [row.name, row.number, ...marks, solved, columns.length, sameText(row), row.notes.join(" | "), row.files.join(" ")];
   };
   return `${[head, ...rows.map(line)].map((cells) => cells.map(cell).join(",")).join("\r\n")}\r\n`;
 }
-return { checkAll, sameText, csvOf };
+return { checkAll, markOf, sameText, csvOf };
 })();
 
 // story/handins_view.js
 const $story_handins_view = (() => {
 const { saveText } = $page_files;
 const { linkTo } = $page_visit;
-const { escaped, tag } = $run_markup;
+const { counted, escaped, tag } = $run_markup;
 const { tasksOf } = $story_assignment;
-const { checkAll, csvOf, sameText } = $story_handins;
+const { checkAll, csvOf, markOf, sameText } = $story_handins;
 const { part } = $story_scene;
 const MOST_BYTES = 2_000_000; // of a file
 const MOST_NOTES = 2; // that the table has of a student; the CSV has all
 const given = { files: [], tooLong: [], result: null };
+const MARKS = { solved: '<b class="yes">✓</b>', wrong: '<b class="no" title="handed in, and wrong">✗</b>', none: "–" };
 const piece = (name) => part(`#in-${name}`);
 
 const handInsHtml = () => `<section class="panel" id="handins"><h2>What they handed in</h2>
@@ -10585,9 +10610,10 @@ function notesOf(row) {
 }
 
 function drawRow(row, columns) {
-  const mark = ({ id }) => `<td class="mark">${row.solved.has(id) ? '<b class="yes">✓</b>' : '<span class="no">–</span>'}</td>`;
-  const count = columns.filter(({ id }) => row.solved.has(id)).length;
-  return `<tr><th scope="row">${escaped(row.name)}</th><td>${escaped(row.number)}</td>${columns.map(mark).join("")}
+  const marks = columns.map((column) => markOf(row, column));
+  const cells = marks.map((mark) => `<td class="mark">${MARKS[mark]}</td>`).join("");
+  const count = marks.filter((mark) => mark === "solved").length;
+  return `<tr><th scope="row">${escaped(row.name)}</th><td>${escaped(row.number)}</td>${cells}
     <td class="mark"><b>${count}</b></td><td class="notes">${notesOf(row)}</td></tr>`;
 }
 
@@ -10595,7 +10621,10 @@ function drawResult({ rows, columns, empty }) {
   const full = rows.filter(({ solved }) => columns.every(({ id }) => solved.has(id))).length;
   const odd = [["Without a hand-in", empty], ["Too long", given.tooLong]].filter(([, names]) => names.length > 0);
   const wrong = odd.map(([what, names]) => tag("span", { class: "odd" }, `${what}: ${escaped(names.join(", "))}.`)).join(" ");
-  piece("told").innerHTML = `<b>${rows.length} students</b>, ${full} with all ${columns.length} tasks. ${wrong}`;
+  const merged = rows.reduce((sum, { files }) => sum + files.length - 1, 0);
+  const counts = [merged > 0 ? `${merged} merged` : "", empty.length > 0 ? `${empty.length} without a hand-in` : ""].filter((words) => words !== "");
+  const files = `${counted(given.files.length + given.tooLong.length, "file")}: <b>${counted(rows.length, "student")}</b>`;
+  piece("told").innerHTML = `${[files, ...counts].join(", ")}. ${full} with all ${columns.length} tasks. ${wrong}`;
   const heads = ["Student", "Number", ...columns.map(({ title }) => title), "Solved", "Notes"].map((name) => `<th scope="col">${escaped(name)}</th>`);
   const body = rows.map((row) => drawRow(row, columns)).join("");
   piece("table").innerHTML = `<table class="class"><thead><tr>${heads.join("")}</tr></thead><tbody>${body}</tbody></table>`;
@@ -10609,7 +10638,7 @@ function clear() {
   piece("files").value = "";
 }
 
-const handInDeeds = { csv: () => saveText("hand-ins.csv", csvOf(given.result), "text/csv"), clear };
+const handInDeeds = { csv: () => saveText("hand-ins.csv", `\ufeff${csvOf(given.result)}`, "text/csv"), clear };
 return { handInsHtml, beginHandIns, handInDeeds };
 })();
 
@@ -10713,12 +10742,16 @@ const { startAfresh } = $story_kept_story;
 const { head, part } = $story_scene;
 /** @type {[number, string, string, string][]} */
 const LECTURE = [
-  [2, "Lose a number", "#story=2&view=lecture", "No lock. Let the class call out A or B until a number is lost."],
-  [3, "One lock", "#story=3&view=lecture", "A has the lock and is stopped. How far does B get? Let the class guess, then press 1, 2 or 3."],
-  [5, "Why a second walk", "#ask=stale-pred&view=lecture", "May A write? After the answer, press “And without this check?”: 5 is lost."],
-  [4, "In another thread’s step", "#ask=read-in-anothers-step&view=lecture", "A will answer false. When is that right? In a step of B."],
+  [4, "Lose a number", "#story=2&view=lecture", "No lock. Let the class call out A or B until a number is lost."],
+  [4, "One lock", "#story=3&view=lecture", "A has the lock and is stopped. How far does B get? Let the class guess, then press 1, 2 or 3."],
+  [5, "FineList: hand over hand", "#story=4&view=lecture", "A has locked 3 and 7. How far does B get now? Then let B follow A, node by node."],
+  [5, "A walk without locks", "#story=5&view=lecture", "Both lock what they change, and 5 gets lost all the same. Let the class find the order."],
+  [6, "Why a second walk", "#ask=stale-pred&view=lecture", "May A write? After the answer, press “And without this check?”: 5 is lost."],
+  [5, "LazyList: a mark", "#story=7&view=lecture", "B has marked 5, and its node is still in the chain. What may A answer?"],
+  [5, "In another thread’s step", "#ask=read-in-anothers-step&view=lecture", "A will answer false. When is that right? In a step of B."],
   [3, "Who waits?", "#sides=coarse.lazy&quota=4&calls=0.add.5,1.contains.5&turns=0.0.0.0&view=lecture",
     "Press B three times: LazyList has answered, CoarseList tries its lock."],
+  [5, "LockFreeList: compare-and-set", "#story=9&view=lecture", "Two removes of 5, no lock. Who comes first? Let the class decide, then step A and B."],
   [3, "Everybody judges", "#seed=lazy.2.5.2.17&judge", "Write the link on the board. All get the same run, without its answers."],
 ];
 const PANELS = { slides: "Lecture", embed: "Embed", homework: "Homework", handins: "Hand-ins", own: "Your own lessons" };
@@ -10768,7 +10801,7 @@ const OWN = `<section class="panel" id="own"><h2>Lessons of your own</h2>
 
 function html() {
   const jump = ([id, name]) => tag("button", { class: "quiet", "data-do": "jump", "data-panel": id }, name);
-  const lead = `<p class="lead">A lecture of twenty minutes, figures for your own pages, homework as one link, and hand-ins that check themselves.
+  const lead = `<p class="lead">A lecture of 45 minutes, figures for your own pages, homework as one link, and hand-ins that check themselves.
     No account, no server: all of it happens in the browser.</p><p class="jump">${Object.entries(PANELS).map(jump).join("")}</p>`;
   return `${head("", "For teachers", lead, "title")}${lectureHtml()}${embedHtml()}${homeworkHtml()}${handInsHtml()}${OWN}
     <footer class="foot"><span id="scene-told" class="small" role="status"></span><span class="spread"></span>

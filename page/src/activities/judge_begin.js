@@ -12,7 +12,7 @@ export function beginJudging() {
   if (trace.total > MOST_JUDGED) return tell(`A run of at most ${MOST_JUDGED} events can be judged; this one has ${trace.total}.`);
   tell("");
   judging.begin(judgePart("level").value);
-  judgePart("level").focus();
+  byId("next").focus(); // the arrows step; on the level they would change it
 }
 
 export function listenToJudging() {

@@ -60,7 +60,7 @@ export const BREAK_LEVELS = {
     missing: [{ row: 5, part: "new " }],
   },
   "second-lock": {
-    story: "Hand over hand, the book says: two locks at a time. Here one hand stays in the pocket.",
+    story: "Hand over hand means two locks at a time. Here a remove takes only one.",
     hints: [
       "An add of 5 beside a remove of 3, its neighbour.",
       "The add must hold the lock of 3 while the other thread removes that node.",
@@ -120,7 +120,7 @@ export const BREAK_LEVELS = {
     missing: [{ row: 6, part: "pred unmarked," }, { row: 7, part: "and curr unmarked" }],
   },
   "mark-in-add": {
-    story: "A marked link must not change. Somebody changes it all the same.",
+    story: "A marked arrow must not change. Somebody changes it all the same.",
     hints: [
       "An add of 5, and a remove of the node in front of it.",
       "The remove must have marked the node of 3, and done no more.",

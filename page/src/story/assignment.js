@@ -14,7 +14,7 @@ import { NO_TASK } from "../run/broken.js";
 import { inLetters } from "../run/markup.js";
 import { eventsAsked } from "../run/schedule_text.js";
 import { partsOfSeed, scheduleOfSeed } from "../run/seed.js";
-import { brokenLines } from "./kept_story.js";
+import { brokenLines, keptStory } from "./kept_story.js";
 
 const known = { course: null };
 
@@ -59,6 +59,15 @@ function seedTask(seed) {
 export function hasTask(given, { activity, id }, { kind, id: seed }) {
   if (activity === "judge") return kind === "seed" && wordsIn(given.judge, ",").includes(seed);
   return ["learn", "break"].includes(activity) && wordsIn(given[activity]).includes(id);
+}
+
+// Where a place leads on: a task of the assignment that was opened last to the next one or back to all, others their own way.
+export function wayOn({ activity, id }, own) {
+  const { homework } = keptStory();
+  if (homework === null || !hasTask(homework.given, { activity, id }, { kind: "", id: "" })) return own;
+  const { tasks } = tasksOf(homework.given);
+  const next = tasks[tasks.findIndex(({ href }) => href === `#${activity}=${id}`) + 1];
+  return next === undefined ? { href: addressOfAssignment(homework), words: "All tasks →" } : { href: next.href, words: "Next task →" };
 }
 
 // The tasks of an assignment, in order, and what its address names that there is not.

@@ -1,4 +1,4 @@
-// Break it, the map: the lists that lack a check, in the order of the chapter.
+// Break it, the map: the lists that lack a check, the simplest first.
 import { LACKING } from "../../made/classics.js";
 import { BEYOND, CHAPTER, numberOfLevel } from "../data/chapter.js";
 import { BREAK_LEVELS } from "../data/levels.js";
@@ -16,11 +16,11 @@ function cardOf(name) {
 function html() {
   const count = CHAPTER.filter(isBrokenOnce).length;
   const next = CHAPTER.find((name) => !isBrokenOnce(name)) ?? CHAPTER[0];
-  const lead = `<p class="lead">Ten lists, in the order of the chapter. Each lacks one check. Let A and B step until a number is lost, or two
+  const lead = `<p class="lead">Ten lists, from one lock to none. Each lacks one check. Let A and B step until a number is lost, or two
     answers cannot both be right. Then say what is missing.</p>`;
   const score = count === 0 ? "" : `<p class="score"><b>${count}</b> of ${CHAPTER.length} broken</p>`;
   return `${head("", "Break it", lead + score, "title")}<div class="cards">${CHAPTER.map(cardOf).join("")}</div>
-    <h2>Beyond the chapter</h2><div class="cards">${BEYOND.map(cardOf).join("")}</div>
+    <h2>Three more</h2><div class="cards">${BEYOND.map(cardOf).join("")}</div>
     ${foot("", `<a class="button primary" href="#break=${numberOfLevel(next)}">${count === 0 ? "Begin" : "Go on"} →</a>`)}`;
 }
 

@@ -7,6 +7,7 @@ import { BREAK_LEVELS } from "../data/levels.js";
 import { askNow, now } from "../page/now.js";
 import { addressOf } from "../run/address.js";
 import { departureOf, isTaskDone, NO_TASK } from "../run/broken.js";
+import { wayOn } from "./assignment.js";
 import { Figure } from "./figure.js";
 import { isBrokenOnce, isNamed, keepBrokenLine, keepNamed } from "./kept_story.js";
 import { runOfText } from "./run_of_text.js";
@@ -22,10 +23,10 @@ function html(place) {
   const name = levelOf(place);
   const at = CHAPTER.indexOf(name);
   const next = CHAPTER[(at + 1) % CHAPTER.length];
-  const which = at === -1 ? "beyond the chapter" : `${at + 1} of ${CHAPTER.length}`;
+  const which = at === -1 ? "one more" : `${at + 1} of ${CHAPTER.length}`;
   const kicker = `<a href="#break">Break it</a> · ${which} · ${LISTS[LACKING[name]].name} without one check`;
   return `<section class="screen">${head(kicker, BREAK_LEVELS[name].story)}${FIGURE_AND_TALK}</section>
-    ${foot('<a class="button quiet" href="#break">All lists</a>', hintAndOn(`#break=${numberOfLevel(next)}`))}`;
+    ${foot('<a class="button quiet" href="#break">All lists</a>', hintAndOn(wayOn(place, { href: `#break=${numberOfLevel(next)}`, words: "Next list →" })))}`;
 }
 
 function begin(place) {
@@ -112,7 +113,7 @@ function draw(state) {
   hint.hidden = isDone;
   hint.textContent = state.hints === 0 ? "Hint" : state.hints < HINTS ? "Another hint" : "Start over";
   const on = part("#go-on");
-  on.textContent = isDone ? "Next list →" : "Skip →";
+  on.textContent = isDone ? on.dataset.words : "Skip →";
   on.className = isDone ? "button primary ready" : "button quiet";
   if (isDone && isNamed(nameNow())) strike();
 }

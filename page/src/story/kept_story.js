@@ -32,6 +32,6 @@ export function startAfresh(button) {
   } catch {
     // nothing is kept in this browser
   }
-  location.hash = "#story=1";
+  location.hash = "#story=1&gone=yes"; // the first screen says so
   location.reload();
 }

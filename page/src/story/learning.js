@@ -62,10 +62,6 @@ class Learning {
     return this.course.lessons.find(({ name }) => !this.isSolved(name));
   }
 
-  after() {
-    return this.course.lessons[this.course.lessons.indexOf(this.lesson) + 1];
-  }
-
   // ---- the tries: each is kept among the works, under the name of its lesson
 
   get workName() {

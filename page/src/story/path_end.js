@@ -9,7 +9,7 @@ const WAYS = [
   ["#code=lock-free", "Step by the code", "Any list, any calls: press a line, and its thread makes it."],
   ["#break", "Break it", "Lists that lack one check each. Find a run that shows it."],
   ["#learn", "Solve it", "Twelve lessons: choose the steps until the run shows what is asked."],
-  ["#teachers", "Teach it", "A lecture of twenty minutes, homework in one link, hand-ins checked."],
+  ["#teachers", "Teach it", "A lecture of 45 minutes, homework in one link, hand-ins checked."],
 ];
 
 const TRUTH = `<details class="truth"><summary>How true is this?</summary><p>Each step that you saw was computed by a program that is proved by

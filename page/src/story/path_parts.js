@@ -3,7 +3,7 @@ import { tag } from "../run/markup.js";
 import { SCREENS } from "./path.js";
 
 export const HERO = `<div class="hero"><p class="kicker">Concurrent lists, from nothing</p><p class="title">Why not just one lock?</p>
-  <p class="lead">Two threads share one list. In fifteen minutes you break it, mend it, and meet the five list sets of Herlihy and Shavit.
+  <p class="lead">Two threads share one list. In twenty minutes you break it, mend it, and meet the five list sets of Herlihy and Shavit.
   You press, and the threads step. You need no book.</p></div>`;
 
 export function dots(number, done) {
@@ -19,6 +19,8 @@ export function dots(number, done) {
 
 export const barHtml = (number) => `<footer class="foot"><button class="quiet" data-do="back" ${number === 1 ? "hidden" : ""}>← Back</button>
   <span class="spread"></span><button id="show-me" data-do="show"></button><button id="go-on" data-do="on"></button></footer>`;
+
+export const GONE = '<p class="welcome" role="status">All that was kept here is gone.</p>';
 
 export function welcome(done) {
   const count = SCREENS.filter(({ id }) => done[id]).length;

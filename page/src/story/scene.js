@@ -113,8 +113,8 @@ export const head = (kicker, title, more = "", kind = "") =>
 export const FIGURE_AND_TALK = '<div id="figure"></div><div id="talk" class="talk" aria-live="polite"></div>';
 
 // The buttons of a task at its right: a hint, and on to the next one.
-export const hintAndOn = (next) =>
-  `<button id="hint" class="primary" data-do="hint"></button>${tag("a", { id: "go-on", class: "button quiet", href: next }, "Skip →")}`;
+export const hintAndOn = ({ href, words }) =>
+  `<button id="hint" class="primary" data-do="hint"></button>${tag("a", { id: "go-on", class: "button quiet", href, "data-words": words }, "Skip →")}`;
 
 // The bar at the bottom.
 export const foot = (left, right) => tag("footer", { class: "foot" }, left, tag("span", { class: "spread" }), right);
