@@ -3,14 +3,13 @@
 import { now } from "../page/now.js";
 import { QUESTIONS } from "./ask.js";
 import { drawBranches, goBack, openBranch, seeAgain, talkOfBranch, whatIf, withoutCheck } from "./ask_branches.js";
-import { ALL, itemOf, takeBranch } from "./ask_figure.js";
+import { ALL, isEmbed, itemOf, takeBranch } from "./ask_figure.js";
 import { isNarrow } from "./figure_parts.js";
 import { keepStory, keptStory } from "./kept_story.js";
 import { LiveRun } from "./live_run.js";
 import { FIGURE_AND_TALK, head, LIST_WORDS, numberOfKey, optionButtons, part, replyTo, scene, setScene, talk, threadOfKey } from "./scene.js";
 
 const here = () => itemOf(now.place);
-const isEmbed = () => now.place.view === "embed";
 
 function html(place) {
   const item = itemOf(place);

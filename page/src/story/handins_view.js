@@ -99,9 +99,8 @@ function drawResult({ rows, columns, empty }) {
   const odd = [["Without a hand-in", empty], ["Too long", given.tooLong]].filter(([, names]) => names.length > 0);
   const wrong = odd.map(([what, names]) => tag("span", { class: "odd" }, `${what}: ${escaped(names.join(", "))}.`)).join(" ");
   const merged = rows.reduce((sum, { files }) => sum + files.length - 1, 0);
-  const counts = [merged > 0 ? `${merged} merged` : "", empty.length > 0 ? `${empty.length} without a hand-in` : ""].filter((words) => words !== "");
   const files = `${counted(given.files.length + given.tooLong.length, "file")}: <b>${counted(rows.length, "student")}</b>`;
-  piece("told").innerHTML = `${[files, ...counts].join(", ")}. ${full} with all ${columns.length} tasks. ${wrong}`;
+  piece("told").innerHTML = `${files}, ${merged} merged, ${empty.length} without a hand-in. ${full} with all ${columns.length} tasks. ${wrong}`;
   const heads = ["Student", "Number", ...columns.map(({ title }) => title), "Solved", "Notes"].map((name) => `<th scope="col">${escaped(name)}</th>`);
   const body = rows.map((row) => drawRow(row, columns)).join("");
   piece("table").innerHTML = `<table class="class"><thead><tr>${heads.join("")}</tr></thead><tbody>${body}</tbody></table>`;

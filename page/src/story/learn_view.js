@@ -8,8 +8,7 @@ import { escaped, inLetters, tag } from "../run/markup.js";
 import { wayOn } from "./assignment.js";
 import { Figure } from "./figure.js";
 import { learning } from "./learning.js";
-import { linesOf } from "./live_run.js";
-import { runOfText } from "./run_of_text.js";
+import { linesOf, runOfText } from "./live_run.js";
 import { FIGURE_AND_TALK, foot, head, hintAndOn, LIST_WORDS, part, scene, setScene, takeFigure, talk, threadOfKey } from "./scene.js";
 
 const HINT = 1; // of `hints`, in the scene: the hint is shown; the answer is shown
@@ -33,7 +32,7 @@ function html(place) {
 
 function begin({ id, given }) {
   const { panel } = learning;
-  panel.choose(panel.lessonNamed(id));
+  panel.lesson = panel.lessonNamed(id);
   const { lesson } = panel;
   const own = given.text ?? panel.lastTry();
   Object.assign(shown, { verdict: null, ticks: new Set() });

@@ -4,8 +4,7 @@ import { Figure } from "./figure.js";
 import { isNarrow } from "./figure_parts.js";
 import { keepStory, keptStory, startAfresh } from "./kept_story.js";
 import { SCREENS } from "./path.js";
-import { barHtml, dots, GONE, HERO, welcome } from "./path_parts.js";
-import { endHtml, LAST } from "./path_end.js";
+import { barHtml, dots, endHtml, GONE, HERO, LAST, welcome } from "./path_parts.js";
 import { FIGURE_AND_TALK, drawLedger, head, numberOfKey, optionButtons, part, replyTo, scene, setScene, takeFigure, talk, threadOfKey } from "./scene.js";
 
 const numberOf = ({ id }) => Math.max(1, Math.min(LAST, Number(id) || 1));

@@ -3,6 +3,7 @@
 // A button with `data-do` does the deed of its view that has this name.
 import { change, dispatch, now } from "../page/now.js";
 import { byId, setHtml } from "../page/dom.js";
+import { copied } from "../page/visit.js";
 import { tag } from "../run/markup.js";
 import { isNarrow } from "./figure_parts.js";
 
@@ -29,6 +30,11 @@ export const titleOfScene = (place) => viewOf(place).title(place);
 export const faultOfScene = (place) => viewOf(place).fault?.(place) ?? null;
 export const isScene = ({ place }) => place.screen === "scene";
 export const setScene = (given) => dispatch("scene", given);
+
+// Copies a text and says so, or shows it, to be copied by hand.
+export async function copyText(text, words) {
+  part("#scene-told").textContent = (await copied(text)) ? words : `Copy this by hand: ${text}`;
+}
 
 // What is said below the figure. What is new comes in sight, above the bar at the bottom.
 export function talk(html) {

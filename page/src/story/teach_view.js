@@ -4,11 +4,10 @@ import { OWN_COURSE } from "../data/own_course.js";
 import { linkTo } from "../page/visit.js";
 import { escaped, tag } from "../run/markup.js";
 import { QUESTIONS } from "./ask.js";
-import { copyText } from "./give.js";
 import { beginHandIns, handInDeeds, handInsHtml } from "./handins_view.js";
 import { beginHomework, homeworkDeeds, homeworkHtml } from "./homework_view.js";
 import { startAfresh } from "./kept_story.js";
-import { head, part } from "./scene.js";
+import { copyText, head, part } from "./scene.js";
 
 // Of each slide its minutes, its title, its address, and what to ask.
 /** @type {[number, string, string, string][]} */

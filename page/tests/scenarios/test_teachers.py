@@ -69,7 +69,7 @@ def test_a_class_is_checked(visitor):
     assert csv == 1
     rows = visitor.wait("return window.csv").splitlines()
     assert len(rows) == 41 and rows[0].startswith("student,number,")
-    assert "41 files: 40 students, 1 without a hand-in." in visitor.text("#in-told") and "✗" in visitor.text(".class tbody")
+    assert "41 files: 40 students, 0 merged, 1 without a hand-in." in visitor.text("#in-told") and "✗" in visitor.text(".class tbody")
 
 
 def test_two_names_for_one_number_are_two_rows(visitor):
@@ -78,7 +78,7 @@ def test_two_names_for_one_number_are_two_rows(visitor):
     visitor.open("#teachers")
     dropped(visitor, [[f"{at}.txt", text.format(name)] for at, name in enumerate(names)])
     visitor.wait("return document.querySelectorAll('.class tbody tr').length === 4")
-    assert "5 files: 4 students, 1 merged." in visitor.text("#in-told")
+    assert "5 files: 4 students, 1 merged, 0 without a hand-in." in visitor.text("#in-told")
     assert visitor.text(".class tbody").count("two names for one number: Anna Abel, Hana Gök") == 2
 
 
