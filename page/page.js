@@ -2850,13 +2850,23 @@ const { askNow } = $page_now;
 const { askList, verdictOnLacking } = $run_broken;
 const { scheduleOfDraft } = $run_draft;
 const { isFailed, isLock } = $run_outcomes;
-const { scheduleOfTrace, titleOf } = $run_schedule_text;
+const { openingIn, scheduleOfTrace, titleOf } = $run_schedule_text;
 const { keysInChain, promisedKeys, State } = $run_state;
 const { isTrace, Trace } = $run_trace;
 const { joinedRows, phaseAt } = $story_phases;
 const MOST_STEPS = 80; // of one call, in the short lists of the story
 
 const linesOf = (schedule) => schedule.split("\n").filter((line) => /^(begin|go) /.test(line));
+
+function runOfText(text) {
+  const valueOf = (word) => new RegExp(`^${word} (.*)$`, "m").exec(text)?.[1];
+  return {
+    threads: Number(valueOf("threads")),
+    quota: Number(valueOf("quota")),
+    opening: openingIn(text).map(Number),
+    lines: linesOf(text),
+  };
+}
 
 class ShownRun {
   /** @param {any} trace @param {any} state */
@@ -2997,7 +3007,7 @@ class LiveRun extends ShownRun {
     return this.spec.lacks !== null && this.verdict().kind === "broken";
   }
 }
-return { linesOf, ShownRun, LiveRun };
+return { linesOf, runOfText, ShownRun, LiveRun };
 })();
 
 // draw/glide.js
@@ -3434,6 +3444,7 @@ const BOOK_CODE = {
     { of: ["add"], text: "    pred.next = node", rows: [7] },
     { of: ["remove"], text: "remove, if curr.key = key:" },
     { of: ["remove"], text: "    pred.next = curr.next", rows: [8, 9] },
+    { of: ["contains"], text: "contains: true if curr.key = key" },
     { text: "unlock the list; return", rows: [10] },
   ],
   fine: [
@@ -3448,6 +3459,7 @@ const BOOK_CODE = {
     { of: ["add"], text: "    pred.next = node", rows: [9] },
     { of: ["remove"], text: "remove, if curr.key = key:" },
     { of: ["remove"], text: "    pred.next = curr.next", rows: [10, 11] },
+    { of: ["contains"], text: "contains: true if curr.key = key" },
     { text: "unlock curr; unlock pred; return", rows: [12, 13] },
   ],
   optimistic: [
@@ -3463,6 +3475,7 @@ const BOOK_CODE = {
     { of: ["add"], text: "    pred.next = node", rows: [11] },
     { of: ["remove"], text: "remove, if curr.key = key:" },
     { of: ["remove"], text: "    pred.next = curr.next", rows: [12, 13] },
+    { of: ["contains"], text: "contains: true if curr.key = key" },
     { text: "unlock pred; unlock curr", rows: [14, 15] },
     { text: "if not valid: start again; return", isPlain: true },
   ],
@@ -4619,8 +4632,7 @@ const BOOK = [
   "teaches",
   "  A walk without locks may be at a node that is removed meanwhile. That does no harm: the node",
   "  keeps its link, which leads on to larger keys and back into the chain, and it is not used again as",
-  "  long as a thread may be there (in the book by garbage collection, here since each slot is used",
-  "  once).",
+  "  long as a thread may be there, since each slot is used once.",
   "hint",
   "  At which node is thread 0, and what can thread 1 do with it?",
   "answer",
@@ -5320,7 +5332,8 @@ function runOfSchedule(ask, schedule, lacks) {
   const trace = new Trace(made, versionOf(schedule));
   const { refused } = trace;
   if (refused === null) return { trace, fault: null };
-  return { trace: null, fault: { ...refused, says: `Line ${refused.line} of the schedule is refused: ${refused.cause}.` } };
+  const why = sentenceOn(ask, refused.cause, "a schedule") ?? refused.cause;
+  return { trace: null, fault: { ...refused, says: `Line ${refused.line} of the schedule is refused: ${why}.` } };
 }
 
 const unjudged = (reason, fault = null) => ({ isSolved: false, reason, fault, conditions: [], deadEnd: null });
@@ -6765,49 +6778,19 @@ function keepWork() {
 return { HERE, keptUnder, keepUnder, isText, works, keepWork };
 })();
 
-// page/run_text.js
-const $page_run_text = (() => {
-const { askList } = $run_broken;
-const { eventsAsked, openingIn, versionOf } = $run_schedule_text;
-const { isTrace, Trace } = $run_trace;
-const { byId } = $page_dom;
-const { works } = $page_kept;
-const { MANY_EVENTS, runLong, stopLong } = $page_long_run;
-const { announce, askNow, change, held, NO_ENGINE, now, takeTrace, tell, tellFault, tellLine } = $page_now;
-const { stopPlay } = $page_play;
-function runText(text, at, told = "") {
-  stopPlay();
-  change("text", { text });
-  byId("schedule").value = text;
-  byId("opening").value = openingIn(text).join(" ");
-  if (held.engine === null) return tellFault(null, "", NO_ENGINE);
-  const asked = eventsAsked(text);
-  if (asked >= MANY_EVENTS && now.run.lacks === null) return runLong(text, asked, (answer) => takeAnswer(answer, text, at, told));
-  stopLong();
-  takeAnswer(askList(askNow, "listset_trace", now.run.lacks, text), text, at, told);
-}
-
-function takeAnswer(answer, text, at, told) {
-  const source = now.run.lacks === null ? "run by the proved replayer" : "a run of a broken list";
-  if (isTrace(answer.text)) takeTrace(new Trace(answer.text, versionOf(text), now.run.trace), at, source);
-  else tellLine(answer.text.trim());
-  tell(works.isKept ? told : `${told} This browser keeps nothing: save the schedule before you leave the page.`);
-  announce("ran");
-}
-return { runText };
-})();
-
 // page/work.js
 const $page_work = (() => {
+const { askList } = $run_broken;
 const { scheduleOfDraft } = $run_draft;
-const { withOpening } = $run_schedule_text;
-const { eventsInCommon } = $run_trace;
+const { eventsAsked, openingIn, versionOf, withOpening } = $run_schedule_text;
+const { eventsInCommon, isTrace, Trace } = $run_trace;
 const { byId } = $page_dom;
 const { showMarks } = $page_editor;
 const { exampleText } = $page_example;
 const { keepWork, works } = $page_kept;
-const { askNow, change, now, tellLine } = $page_now;
-const { runText } = $page_run_text;
+const { MANY_EVENTS, runLong, stopLong } = $page_long_run;
+const { announce, askNow, change, held, NO_ENGINE, now, takeTrace, tell, tellFault, tellLine } = $page_now;
+const { stopPlay } = $page_play;
 function beginTask(task, lacks = null) {
   keepWork();
   change("task", { task, lacks });
@@ -6828,8 +6811,8 @@ function openWork(name, at = null) {
   showMarks();
 }
 
-const openExample = (name, count, told = "") =>
-  openTask({ kind: "example", id: name, work: works.newName(`from ${name}`) }, exampleText(name), count, told);
+const openExample = (name, count) =>
+  openTask({ kind: "example", id: name, work: works.newName(`from ${name}`) }, exampleText(name), count);
 
 const newSchedule = (list, threads, quota) =>
   openTask(ownTask("my schedule"), `listset-schedule 1\nlist ${list}\nthreads ${threads}\nquota ${quota}\n`, 0);
@@ -6859,6 +6842,26 @@ function showHeader(trace) {
   byId("new-list").value = trace.kind;
   byId("new-threads").value = trace.threads;
   byId("new-quota").value = trace.quota;
+}
+
+function runText(text, at, told = "") {
+  stopPlay();
+  change("text", { text });
+  byId("schedule").value = text;
+  byId("opening").value = openingIn(text).join(" ");
+  if (held.engine === null) return tellFault(null, "", NO_ENGINE);
+  const asked = eventsAsked(text);
+  if (asked >= MANY_EVENTS && now.run.lacks === null) return runLong(text, asked, (answer) => takeAnswer(answer, text, at, told));
+  stopLong();
+  takeAnswer(askList(askNow, "listset_trace", now.run.lacks, text), text, at, told);
+}
+
+function takeAnswer(answer, text, at, told) {
+  const source = now.run.lacks === null ? "run by the proved replayer" : "a run of a broken list";
+  if (isTrace(answer.text)) takeTrace(new Trace(answer.text, versionOf(text), now.run.trace), at, source);
+  else tellLine(answer.text.trim());
+  tell(works.isKept ? told : `${told} This browser keeps nothing: save the schedule before you leave the page.`);
+  announce("ran");
 }
 return { beginTask, openTask, ownTask, openWork, openExample, newSchedule, runBox, runWithOpening, showHeader };
 })();
@@ -7066,8 +7069,8 @@ const BREAK_LEVELS = {
     ],
     lacks: "It continues although another thread holds the lock.",
     others: {
-      "It releases the lock before it writes the link.": "it releases the lock only after that",
-      "It writes the link of pred before that of its own node.": "it writes the link of its own node first",
+      "It releases the lock before it writes the arrow.": "it releases the lock only after that",
+      "It writes the arrow of pred before that of its own node.": "it writes the arrow of its own node first",
     },
     start: [["add", 5], ["add", 4]], shortest: [20, 2],
     missing: [{ row: 1, part: "lock the list" }],
@@ -7097,7 +7100,7 @@ const BREAK_LEVELS = {
     lacks: "A remove unlinks its node without marking it first.",
     others: {
       "A remove marks a node that is marked already.": "it marks no node at all",
-      "An add writes its link without comparing.": "it compares with what it saw",
+      "An add writes its arrow without comparing.": "it compares with what it saw",
     },
     start: [["add", 5], ["remove", 3]], shortest: [15, 2],
     missing: [{ row: 9, part: "CAS curr.next: succ, no mark → mark" }],
@@ -7108,13 +7111,13 @@ const BREAK_LEVELS = {
     lacks: "An add writes into the node of its last key.",
     others: {
       "An add does not look whether its key is there.": "it compares curr.key with its key",
-      "An add writes its link without comparing.": "it compares with what it saw",
+      "An add writes its arrow without comparing.": "it compares with what it saw",
     },
     start: [["add", 4], ["add", 5]], shortest: [20, 2],
     missing: [{ row: 5, part: "new " }],
   },
   "second-lock": {
-    story: "Hand over hand, the book says: two locks at a time. Here one hand stays in the pocket.",
+    story: "Hand over hand means two locks at a time. Here one hand stays in the pocket.",
     hints: [
       "An add of 5 beside a remove of 3, its neighbour.",
       "The add must hold the lock of 3 while the other thread removes that node.",
@@ -7174,7 +7177,7 @@ const BREAK_LEVELS = {
     missing: [{ row: 6, part: "pred unmarked," }, { row: 7, part: "and curr unmarked" }],
   },
   "mark-in-add": {
-    story: "A marked link must not change. Somebody changes it all the same.",
+    story: "A marked arrow must not change. Somebody changes it all the same.",
     hints: [
       "An add of 5, and a remove of the node in front of it.",
       "The remove must have marked the node of 3, and done no more.",
@@ -7246,29 +7249,24 @@ const BREAK_LEVELS = {
     missing: [{ row: 22, part: "and unmarked" }],
   },
 };
-return { BREAK_LEVELS };
-})();
 
-// data/chapter.js
-const $data_chapter = (() => {
-const { BREAK_LEVELS } = $data_levels;
-const CHAPTER = [
+const TEN = [
   "lock", "second-lock", "hand-over-hand", "second-walk", "same-node", "marks-in-validation", "mark-in-remove", "mark", "mark-in-add",
   "mark-at-key",
 ];
-const BEYOND = ["new-slot", "mark-in-ceiling", "mark-in-contains"];
+const THREE_MORE = ["new-slot", "mark-in-ceiling", "mark-in-contains"];
 
 const NUMBERED = Object.keys(BREAK_LEVELS);
 const numberOfLevel = (name) => NUMBERED.indexOf(name) + 1;
 const levelOfNumber = (number) => NUMBERED[Number(number) - 1];
 
 const whyWrong = (name, sentence) => `No: ${BREAK_LEVELS[name].others[sentence]}. Look for the line that this list makes differently.`;
-return { CHAPTER, BEYOND, numberOfLevel, levelOfNumber, whyWrong };
+return { BREAK_LEVELS, TEN, THREE_MORE, numberOfLevel, levelOfNumber, whyWrong };
 })();
 
 // page/scene_address.js
 const $page_scene_address = (() => {
-const { levelOfNumber } = $data_chapter;
+const { levelOfNumber } = $data_levels;
 const { AddressFault, addressOf, LONGEST_ADDRESS, longLine } = $run_address;
 const { startOfLacking } = $run_broken;
 const { eventsAsked } = $run_schedule_text;
@@ -7453,7 +7451,7 @@ const keepNamed = (name) => keepUnder(NAMED, [...new Set([...(keptUnder(NAMED) ?
 function startAfresh(button) {
   if (button.dataset.isSure !== "yes") {
     button.dataset.isSure = "yes";
-    button.textContent = "Press again: all that is kept here goes";
+    button.textContent = "Press again: answers, solutions and names kept here go";
     return;
   }
   change("text", { text: "" }); // and is not kept anew
@@ -7461,7 +7459,7 @@ function startAfresh(button) {
     for (const name of Object.keys(localStorage)) if (name.startsWith("listset-")) localStorage.removeItem(name);
   } catch {
   }
-  location.hash = "#story=1";
+  location.hash = "#story=1&gone=yes"; // the first screen says so
   location.reload();
 }
 return { keptStory, keepStory, brokenLines, isBrokenOnce, keepBrokenLine, isNamed, keepNamed, startAfresh };
@@ -7695,6 +7693,7 @@ return { APPENDIX };
 const $story_scene = (() => {
 const { change, dispatch, now } = $page_now;
 const { byId, setHtml } = $page_dom;
+const { copied } = $page_visit;
 const { tag } = $run_markup;
 const { isNarrow } = $story_figure_parts;
 /**
@@ -7720,6 +7719,10 @@ const titleOfScene = (place) => viewOf(place).title(place);
 const faultOfScene = (place) => viewOf(place).fault?.(place) ?? null;
 const isScene = ({ place }) => place.screen === "scene";
 const setScene = (given) => dispatch("scene", given);
+
+async function copyText(text, words) {
+  part("#scene-told").textContent = (await copied(text)) ? words : `Copy this by hand: ${text}`;
+}
 
 function talk(html) {
   const box = part("#talk");
@@ -7797,8 +7800,8 @@ const head = (kicker, title, more = "", kind = "") =>
 
 const FIGURE_AND_TALK = '<div id="figure"></div><div id="talk" class="talk" aria-live="polite"></div>';
 
-const hintAndOn = (next) =>
-  `<button id="hint" class="primary" data-do="hint"></button>${tag("a", { id: "go-on", class: "button quiet", href: next }, "Skip →")}`;
+const hintAndOn = ({ href, words }) =>
+  `<button id="hint" class="primary" data-do="hint"></button>${tag("a", { id: "go-on", class: "button quiet", href, "data-words": words }, "Skip →")}`;
 
 const foot = (left, right) => tag("footer", { class: "foot" }, left, tag("span", { class: "spread" }), right);
 
@@ -7841,7 +7844,7 @@ function threadOfKey({ key, ctrlKey, metaKey, altKey }) {
 const numberOfKey = ({ key }) => (now.prefs.letters && /^[1-9]$/.test(key) ? Number(key) - 1 : -1);
 
 const LIST_WORDS = { coarse: "One lock", fine: "Hand over hand", optimistic: "Optimistic", lazy: "Lazy", "lock-free": "Lock-free" };
-return { VIEWS, scene, part, titleOfScene, faultOfScene, isScene, setScene, talk, takeFigure, leaveScene, renderScene, openScene, listenToScene, pressInScene, head, FIGURE_AND_TALK, hintAndOn, foot, optionButtons, replyTo, drawLedger, isOddRun, threadOfKey, numberOfKey, LIST_WORDS };
+return { VIEWS, scene, part, titleOfScene, faultOfScene, isScene, setScene, copyText, talk, takeFigure, leaveScene, renderScene, openScene, listenToScene, pressInScene, head, FIGURE_AND_TALK, hintAndOn, foot, optionButtons, replyTo, drawLedger, isOddRun, threadOfKey, numberOfKey, LIST_WORDS };
 })();
 
 // story/ask_map.js
@@ -7871,10 +7874,10 @@ function html() {
     change it.</p>`;
   const verb = seen === 0 ? "Begin" : seen < QUESTIONS.length ? "Go on" : "Once more";
   return `${head("", "Guess, then see", lead + (seen === 0 ? "" : score), "title")}<div class="cards">${QUESTIONS.map(cardOf).join("")}</div>
-    <h2>Beyond the chapter</h2><p class="prose">These lists have a fourth call, <b>ceiling</b>: the smallest number that is as big as the one
+    <h2>Seven more</h2><p class="prose">These lists have a fourth call, <b>ceiling</b>: the smallest number that is as big as the one
     that is asked for, or more. And each thread may add only so many numbers.</p>
     <div class="cards">${APPENDIX.map(cardOf).join("")}</div>
-    <footer class="foot"><a class="button quiet" href="#story=1">The path of fifteen minutes</a><span class="spread"></span>
+    <footer class="foot"><a class="button quiet" href="#story=1">The path of twenty minutes</a><span class="spread"></span>
     <a class="button primary" href="#ask=${next.name}">${verb} →</a></footer>`;
 }
 
@@ -7889,8 +7892,7 @@ const { BOOK, BOOK_NAME } = $made_book;
 const { LACKING } = $made_classics;
 const { LISTS } = $made_rows;
 const { triedCourse } = $course_lesson;
-const { levelOfNumber, numberOfLevel } = $data_chapter;
-const { BREAK_LEVELS } = $data_levels;
+const { BREAK_LEVELS, levelOfNumber, numberOfLevel } = $data_levels;
 const { keptUnder } = $page_kept;
 const { askNow } = $page_now;
 const { addressOfAssignment } = $page_scene_address;
@@ -7899,7 +7901,7 @@ const { NO_TASK } = $run_broken;
 const { inLetters } = $run_markup;
 const { eventsAsked } = $run_schedule_text;
 const { partsOfSeed, scheduleOfSeed } = $run_seed;
-const { brokenLines } = $story_kept_story;
+const { brokenLines, keptStory } = $story_kept_story;
 const known = { course: null };
 
 const bookCourse = () => (known.course ??= triedCourse(askNow, BOOK));
@@ -7938,9 +7940,19 @@ function seedTask(seed) {
   return { id: `judge ${seed}`, kind: "Judge", title: `Run ${number}, ${LISTS[kind].name}`, says, href: `#seed=${seed}&judge`, seed };
 }
 
-function hasTask(given, { activity, id }, { kind, id: seed }) {
-  if (activity === "judge") return kind === "seed" && wordsIn(given.judge, ",").includes(seed);
-  return ["learn", "break"].includes(activity) && wordsIn(given[activity]).includes(id);
+function homeworkOf({ activity, id }, task = { kind: "", id: "" }) {
+  const { homework } = keptStory();
+  const isRun = activity === "judge" && task.kind === "seed";
+  if (homework === null || !(isRun || ["learn", "break"].includes(activity))) return null;
+  return wordsIn(homework.given[activity], isRun ? "," : ".").includes(isRun ? task.id : id) ? homework : null;
+}
+
+function wayOn({ activity, id }, own) {
+  const homework = homeworkOf({ activity, id });
+  if (homework === null) return own;
+  const { tasks } = tasksOf(homework.given);
+  const next = tasks[tasks.findIndex(({ href }) => href === `#${activity}=${id}`) + 1];
+  return next === undefined ? { href: addressOfAssignment(homework), words: "All tasks →" } : { href: next.href, words: "Next task →" };
 }
 
 function tasksOf(given) {
@@ -7984,7 +7996,7 @@ function linesDone(tasks) {
   };
   return Object.fromEntries(tasks.map((task) => [task.id, lineOf[task.kind](task)]));
 }
-return { bookCourse, allLevels, addressOfTasks, hasTask, tasksOf, taskOfJudged, linesDone };
+return { bookCourse, allLevels, addressOfTasks, homeworkOf, wayOn, tasksOf, taskOfJudged, linesDone };
 })();
 
 // story/kept_lessons.js
@@ -7998,8 +8010,7 @@ const namesKept = (kept) => (Array.isArray(kept) ? kept.filter(isText) : []);
 
 class KeptLessons {
   constructor() {
-    const kept = keptUnder(LESSONS_KEPT) ?? { isOpen: false, of: { [BOOK_NAME]: keptUnder(LESSONS_KEPT_BEFORE) } };
-    this.isOpen = kept.isOpen === true;
+    const kept = keptUnder(LESSONS_KEPT) ?? { of: { [BOOK_NAME]: keptUnder(LESSONS_KEPT_BEFORE) } };
     this.student = isText(kept.student) ? kept.student : "";
     this.course = isText(kept.course) ? kept.course : BOOK_NAME;
     this.courses = new Map(textsKept(kept.courses));
@@ -8012,16 +8023,15 @@ class KeptLessons {
   }
 
   save() {
-    const { isOpen, student, course } = this;
-    const toObject = ({ chosen, solutions, looked }) => ({ chosen, solutions: Object.fromEntries(solutions), looked: [...looked] });
+    const { student, course } = this;
+    const toObject = ({ solutions, looked }) => ({ solutions: Object.fromEntries(solutions), looked: [...looked] });
     const of = Object.fromEntries([...this.of].map(([name, own]) => [name, toObject(own)]));
-    return keepUnder(LESSONS_KEPT, { isOpen, student, course, courses: Object.fromEntries(this.courses), of });
+    return keepUnder(LESSONS_KEPT, { student, course, courses: Object.fromEntries(this.courses), of });
   }
 }
 
 function ownOf(kept) {
   return {
-    chosen: isText(kept?.chosen) ? kept.chosen : "",
     solutions: new Map(textsKept(kept?.solutions)),
     looked: new Set(namesKept(kept?.looked)),
   };
@@ -8054,7 +8064,7 @@ class Learning {
     this.kept.course = course.name;
     this.own = this.kept.ofCourse(course.name);
     if (course.name !== BOOK_NAME) this.kept.courses.set(course.name, course.text);
-    this.lesson = course.lessons.find(({ name }) => name === this.own.chosen) ?? course.lessons[0];
+    this.lesson = course.lessons[0];
     visit.course = null;
     if (course.name === BOOK_NAME) return;
     const take = (address) => this.course === course && (visit.course = address);
@@ -8077,21 +8087,12 @@ class Learning {
     return undefined;
   }
 
-  choose(lesson) {
-    this.lesson = lesson;
-    this.own.chosen = lesson.name;
-  }
-
   isSolved(name) {
     return this.own.solutions.has(name);
   }
 
   firstUnsolved() {
     return this.course.lessons.find(({ name }) => !this.isSolved(name));
-  }
-
-  after() {
-    return this.course.lessons[this.course.lessons.indexOf(this.lesson) + 1];
   }
 
 
@@ -8156,7 +8157,7 @@ function html() {
   const next = panel.firstUnsolved() ?? lessons[0];
   const lead = `<p class="lead">In each lesson you choose which thread makes the next step, until the run shows what is asked. There is more
     than one way.</p>${count === 0 ? "" : `<p class="score"><b>${count}</b> of ${lessons.length} solved</p>`}`;
-  const back = isBook ? "" : '<p><button id="lesson-book" data-do="book">Back to the twelve lessons of the book</button></p>';
+  const back = isBook ? "" : '<p><button id="lesson-book" data-do="book">Back to the twelve lessons</button></p>';
   const on = tag("a", { class: "button primary", href: `#learn=${next.name}` }, `${count === 0 ? "Begin" : "Go on"} →`);
   return `${head("", isBook ? "Solve it" : escaped(name), lead, "title")}<div class="cards">${lessons.map(cardOf).join("")}</div>
     ${back}<div id="learn-folds"></div>${foot("", on)}`;
@@ -8362,10 +8363,10 @@ const { CLASSICS } = $made_classics;
 const { drawJudged, drawOwnOrder, judgeScale, momentOfReport } = $draw_judged;
 const { byId, redraw } = $page_dom;
 const { keepUnder, keptUnder } = $page_kept;
-const { askNow, dispatch, exampleShown, isJudging, now, tell } = $page_now;
+const { askNow, dispatch, exampleShown, held, isJudging, now, tell } = $page_now;
 const { addressOf } = $run_address;
 const { askList } = $run_broken;
-const { exerciseOf, LEVELS, OwnAnswer, repliesOf, verdictOn, wordOfAnswer } = $run_judged;
+const { exerciseOf, LEVELS, MOST_JUDGED, OwnAnswer, repliesOf, verdictOn, wordOfAnswer } = $run_judged;
 const { callText, chipOf, escaped } = $run_markup;
 const JUDGED = "listset-judged"; // in the browser's storage: of each run and level the order that was right
 
@@ -8521,7 +8522,41 @@ function hintOfRun() {
   const changes = now.run.trace.changes.map(({ number }) => number);
   return changes.length === 0 ? "No event changes the set." : `The set changes at the events ${changes.join(", ")}.`;
 }
-return { JUDGED, judgePart, judging, drawJudging };
+
+
+function beginJudging() {
+  const { trace } = now.run;
+  if (held.engine === null) return tell("The replayer does not run in this browser: nothing can be judged.");
+  if (!now.run.isRun || trace.refused !== null) return tell("A run with a refused event cannot be judged: delete the red line of the schedule first.");
+  if (trace.calls.length === 0) return tell("There is no call to judge yet.");
+  if (trace.total > MOST_JUDGED) return tell(`A run of at most ${MOST_JUDGED} events can be judged; this one has ${trace.total}.`);
+  tell("");
+  judging.begin(judgePart("level").value);
+  byId("next").focus(); // the arrows step; on the level they would change it
+}
+
+function listenToJudging() {
+  byId("judge-begin").onclick = beginJudging;
+  judgePart("level").append(...Object.entries(LEVELS).map(([level, { name }]) => new Option(name, level)));
+  judgePart("level").value = "replies";
+  judgePart("level").onchange = judgePart("again").onclick = () => judging.begin(judgePart("level").value);
+  judgePart("ask").onclick = () => judging.judge(false);
+  judgePart("none").onclick = () => judging.judge(true);
+  judgePart("moment").oninput = () => {
+    judging.moment = Number(judgePart("moment").value);
+    judging.draw();
+  };
+  judgePart("end").onclick = () => {
+    dispatch("exercise", { exercise: null });
+    byId("judge-begin").focus();
+  };
+  const bars = judgePart("bars");
+  bars.onpointerdown = (event) => judging.grasp(event);
+  bars.onpointermove = (event) => judging.held !== null && judging.drag(event);
+  bars.onpointerup = bars.onpointercancel = () => (judging.held = null);
+  bars.onkeydown = (event) => judging.press(event);
+}
+return { JUDGED, drawJudging, beginJudging, listenToJudging };
 })();
 
 // activities/courses.js
@@ -8635,47 +8670,6 @@ function listenToHandIn() {
 return { takeCourseOfAddress, showCourseText, listenToCourses, listenToHandIn };
 })();
 
-// activities/judge_begin.js
-const $activities_judge_begin = (() => {
-const { byId } = $page_dom;
-const { dispatch, held, now, tell } = $page_now;
-const { LEVELS, MOST_JUDGED } = $run_judged;
-const { judgePart, judging } = $activities_judging;
-function beginJudging() {
-  const { trace } = now.run;
-  if (held.engine === null) return tell("The replayer does not run in this browser: nothing can be judged.");
-  if (!now.run.isRun || trace.refused !== null) return tell("A run with a refused event cannot be judged: delete the red line of the schedule first.");
-  if (trace.calls.length === 0) return tell("There is no call to judge yet.");
-  if (trace.total > MOST_JUDGED) return tell(`A run of at most ${MOST_JUDGED} events can be judged; this one has ${trace.total}.`);
-  tell("");
-  judging.begin(judgePart("level").value);
-  judgePart("level").focus();
-}
-
-function listenToJudging() {
-  byId("judge-begin").onclick = beginJudging;
-  judgePart("level").append(...Object.entries(LEVELS).map(([level, { name }]) => new Option(name, level)));
-  judgePart("level").value = "replies";
-  judgePart("level").onchange = judgePart("again").onclick = () => judging.begin(judgePart("level").value);
-  judgePart("ask").onclick = () => judging.judge(false);
-  judgePart("none").onclick = () => judging.judge(true);
-  judgePart("moment").oninput = () => {
-    judging.moment = Number(judgePart("moment").value);
-    judging.draw();
-  };
-  judgePart("end").onclick = () => {
-    dispatch("exercise", { exercise: null });
-    byId("judge-begin").focus();
-  };
-  const bars = judgePart("bars");
-  bars.onpointerdown = (event) => judging.grasp(event);
-  bars.onpointermove = (event) => judging.held !== null && judging.drag(event);
-  bars.onpointerup = bars.onpointercancel = () => (judging.held = null);
-  bars.onkeydown = (event) => judging.press(event);
-}
-return { beginJudging, listenToJudging };
-})();
-
 // page/menu.js
 const $page_menu = (() => {
 const { CLASSICS } = $made_classics;
@@ -8709,7 +8703,7 @@ function chooseInList(value) {
   else if (value !== "") pickExample(value, 0);
 }
 
-const pickExample = (name, count, told = "") => (held.engine === null ? openKept(name, count) : openExample(name, count, told));
+const pickExample = (name, count) => (held.engine === null ? openKept(name, count) : openExample(name, count));
 
 function showQuestion() {
   if (now.task.kind !== "example") return;
@@ -8944,7 +8938,7 @@ return { FIRST, seedForm, listenToSeedForm, openSeed, taskOfWatch };
 // activities/open.js
 const $activities_open = (() => {
 const { TRACES } = $made_traces;
-const { numberOfLevel } = $data_chapter;
+const { numberOfLevel } = $data_levels;
 const { byId } = $page_dom;
 const { showMarks } = $page_editor;
 const { isExample, openKept } = $page_example;
@@ -8963,7 +8957,7 @@ const { learning } = $story_learning;
 const { keptStory } = $story_kept_story;
 const { faultOfScene, openScene } = $story_scene;
 const { showCourseText, takeCourseOfAddress } = $activities_courses;
-const { beginJudging } = $activities_judge_begin;
+const { beginJudging } = $activities_judging;
 const { showRecorded } = $activities_recorded;
 const { FIRST, openSeed } = $activities_watch;
 const WANTS_ENGINE = { learn: "a lesson", judge: "runs to judge", break: "a broken list", compare: "two lists side by side" };
@@ -9111,16 +9105,6 @@ function bringBack() {
 return { openRecorded, openCourseFile, followAddress, showBeforehand, openFirst };
 })();
 
-// story/give.js
-const $story_give = (() => {
-const { copied } = $page_visit;
-const { part } = $story_scene;
-async function copyText(text, words) {
-  part("#scene-told").textContent = (await copied(text)) ? words : `Copy this by hand: ${text}`;
-}
-return { copyText };
-})();
-
 // story/assignment_view.js
 const $story_assignment_view = (() => {
 const { BOOK_NAME } = $made_book;
@@ -9129,9 +9113,8 @@ const { saveText } = $page_files;
 const { now } = $page_now;
 const { counted, escaped, tag } = $run_markup;
 const { linesDone, tasksOf } = $story_assignment;
-const { copyText } = $story_give;
 const { keepStory, keptStory, startAfresh } = $story_kept_story;
-const { foot, head, part } = $story_scene;
+const { copyText, foot, head, part } = $story_scene;
 const titleOfAssignment = ({ id }) => id || "Assignment";
 
 function doneOf(place) {
@@ -9151,7 +9134,7 @@ const HAND = ({ student, number }, count) => `<section class="panel hand" id="ha
   <label>Student number <input id="hand-number" inputmode="numeric" value="${escaped(number)}"></label>
   <button data-do="copy">Copy the text</button><button data-do="save">Save as a file</button>
   <button class="quiet" data-do="afresh">Start afresh on this computer</button></div>
-  <p class="small" id="scene-told" role="status">The text has your ${count} solutions as schedules. Your teacher’s page runs each of them again.</p>
+  <p class="small" id="scene-told" role="status">The text has your ${counted(count, "solution")}. Your teacher’s page runs ${count === 1 ? "it" : "each of them"} again.</p>
   <details><summary>See the text</summary><pre id="hand-text"></pre></details></section>`;
 
 function html(place) {
@@ -9160,7 +9143,7 @@ function html(place) {
   const wrong = unknown.length === 0 ? "" : `<p class="again">This page does not know: ${escaped(unknown.join(", "))}. Tell your teacher.</p>`;
   const lead = `<p class="lead">${counted(tasks.length, "task")}, ${done.length} done in this browser. Come back by the same link: what is done stays ticked.</p>
     <progress max="${tasks.length || 1}" value="${done.length}" aria-label="${done.length} of ${tasks.length} done"></progress>${wrong}
-    <p class="small">New to this? <a href="#story=1">Why not just one lock?</a> Fifteen minutes, from nothing.</p>`;
+    <p class="small">New to this? <a href="#story=1">Why not just one lock?</a> Twenty minutes, from nothing.</p>`;
   const verb = done.length === 0 ? "Begin" : "Go on";
   const next = (task) => tag("a", { class: "button primary", href: task.href }, `${verb}: ${escaped(task.title)} →`);
   const bar = first === undefined ? foot("All done.", '<button class="primary" data-do="hand">Hand in ↑</button>') : foot("", next(first));
@@ -9219,17 +9202,15 @@ const { byId } = $page_dom;
 const { held, now } = $page_now;
 const { addressOfAssignment, addressOfCode } = $page_scene_address;
 const { scheduleOfTrace } = $run_schedule_text;
-const { hasTask } = $story_assignment;
+const { homeworkOf } = $story_assignment;
 const { titleOfAssignment } = $story_assignment_view;
-const { keptStory } = $story_kept_story;
 const { linesOf } = $story_live_run;
 const { titleOfScene } = $story_scene;
 const { taskOfWatch } = $activities_watch;
 function showHome() {
-  const { homework } = keptStory();
-  const isTask = homework !== null && now.place.view === null && hasTask(homework.given, now.place, now.task);
-  byId("home").hidden = !isTask;
-  if (!isTask) return;
+  const homework = now.place.view === null ? homeworkOf(now.place, now.task) : null;
+  byId("home").hidden = homework === null;
+  if (homework === null) return;
   byId("home").textContent = `← Back to ${titleOfAssignment(homework)}`;
   byId("home").href = addressOfAssignment(homework);
 }
@@ -9290,7 +9271,7 @@ function freshBox() {
   part("#figure").replaceWith(box);
   return box;
 }
-return { CHECK_WORDS, ALL, itemOf, takeBranch };
+return { CHECK_WORDS, ALL, itemOf, isEmbed, takeBranch };
 })();
 
 // story/ask_branches.js
@@ -9408,26 +9389,26 @@ const $story_ask_view = (() => {
 const { now } = $page_now;
 const { QUESTIONS } = $story_ask;
 const { drawBranches, goBack, openBranch, seeAgain, talkOfBranch, whatIf, withoutCheck } = $story_ask_branches;
-const { ALL, itemOf, takeBranch } = $story_ask_figure;
+const { ALL, isEmbed, itemOf, takeBranch } = $story_ask_figure;
 const { isNarrow } = $story_figure_parts;
 const { keepStory, keptStory } = $story_kept_story;
 const { LiveRun } = $story_live_run;
 const { FIGURE_AND_TALK, head, LIST_WORDS, numberOfKey, optionButtons, part, replyTo, scene, setScene, talk, threadOfKey } = $story_scene;
 const here = () => itemOf(now.place);
-const isEmbed = () => now.place.view === "embed";
 
 function html(place) {
   const item = itemOf(place);
   const at = ALL.indexOf(item);
   const next = ALL[(at + 1) % ALL.length];
-  const which = QUESTIONS.includes(item) ? `${at + 1} of ${QUESTIONS.length}` : "beyond the chapter";
-  const kicker = `<a href="#ask">Guess, then see</a> · ${which} · ${LIST_WORDS[item.list]}`;
+  const which = QUESTIONS.includes(item) ? `${at + 1} of ${QUESTIONS.length}` : "one more";
+  const kicker = `${isEmbed() ? "Guess, then see" : '<a href="#ask">Guess, then see</a>'} · ${which} · ${LIST_WORDS[item.list]}`;
   const out = `<a class="button quiet small" target="_blank" href="${location.pathname}#ask=${item.name}">open in a page ↗</a>`;
+  const all = '<a class="button quiet" href="#ask">All questions</a>';
   return `<section class="screen">${head(kicker, `<span id="what-if-mark" class="what-if" hidden>What if?</span>${item.question}`)}
     <div id="branches" class="branches" hidden></div>${FIGURE_AND_TALK}</section>
-    <footer class="foot"><a class="button quiet" href="#ask">All questions</a><span class="spread"></span>${isEmbed() ? out : ""}
+    <footer class="foot">${isEmbed() ? "" : all}<span class="spread"></span>${isEmbed() ? out : ""}
     <button id="show-me" class="primary" data-do="show">${isNarrow() ? "Show me" : "I do not know: show me"}</button>
-    <a id="go-on" class="button quiet" href="#ask=${next.name}">Skip →</a></footer>`;
+    <a id="go-on" class="button quiet" href="#ask=${next.name}" ${isEmbed() ? "hidden" : ""}>Skip →</a></footer>`;
 }
 
 function begin(place) {
@@ -9520,8 +9501,7 @@ return { askView };
 // story/break_map.js
 const $story_break_map = (() => {
 const { LACKING } = $made_classics;
-const { BEYOND, CHAPTER, numberOfLevel } = $data_chapter;
-const { BREAK_LEVELS } = $data_levels;
+const { BREAK_LEVELS, THREE_MORE, TEN, numberOfLevel } = $data_levels;
 const { drawCard } = $story_ask_map;
 const { isBrokenOnce } = $story_kept_story;
 const { foot, head, LIST_WORDS } = $story_scene;
@@ -9533,13 +9513,13 @@ function cardOf(name) {
 }
 
 function html() {
-  const count = CHAPTER.filter(isBrokenOnce).length;
-  const next = CHAPTER.find((name) => !isBrokenOnce(name)) ?? CHAPTER[0];
-  const lead = `<p class="lead">Ten lists, in the order of the chapter. Each lacks one check. Let A and B step until a number is lost, or two
+  const count = TEN.filter(isBrokenOnce).length;
+  const next = TEN.find((name) => !isBrokenOnce(name)) ?? TEN[0];
+  const lead = `<p class="lead">Ten lists, from one lock to none. Each lacks one check. Let A and B step until a number is lost, or two
     answers cannot both be right. Then say what is missing.</p>`;
-  const score = count === 0 ? "" : `<p class="score"><b>${count}</b> of ${CHAPTER.length} broken</p>`;
-  return `${head("", "Break it", lead + score, "title")}<div class="cards">${CHAPTER.map(cardOf).join("")}</div>
-    <h2>Beyond the chapter</h2><div class="cards">${BEYOND.map(cardOf).join("")}</div>
+  const score = count === 0 ? "" : `<p class="score"><b>${count}</b> of ${TEN.length} broken</p>`;
+  return `${head("", "Break it", lead + score, "title")}<div class="cards">${TEN.map(cardOf).join("")}</div>
+    <h2>Three more</h2><div class="cards">${THREE_MORE.map(cardOf).join("")}</div>
     ${foot("", `<a class="button primary" href="#break=${numberOfLevel(next)}">${count === 0 ? "Begin" : "Go on"} →</a>`)}`;
 }
 
@@ -9548,34 +9528,18 @@ const breakMapView = { kind: "asks", title: () => "Break it · Why not just one 
 return { breakMapView };
 })();
 
-// story/run_of_text.js
-const $story_run_of_text = (() => {
-const { openingIn } = $run_schedule_text;
-const { linesOf } = $story_live_run;
-function runOfText(text) {
-  const valueOf = (word) => new RegExp(`^${word} (.*)$`, "m").exec(text)?.[1];
-  return {
-    threads: Number(valueOf("threads")),
-    quota: Number(valueOf("quota")),
-    opening: openingIn(text).map(Number),
-    lines: linesOf(text),
-  };
-}
-return { runOfText };
-})();
-
 // story/break_view.js
 const $story_break_view = (() => {
 const { LACKING } = $made_classics;
 const { LISTS } = $made_rows;
-const { CHAPTER, levelOfNumber, numberOfLevel, whyWrong } = $data_chapter;
-const { BREAK_LEVELS } = $data_levels;
+const { BREAK_LEVELS, TEN, levelOfNumber, numberOfLevel, whyWrong } = $data_levels;
 const { askNow, now } = $page_now;
 const { addressOf } = $run_address;
 const { departureOf, isTaskDone, NO_TASK } = $run_broken;
+const { wayOn } = $story_assignment;
 const { Figure } = $story_figure;
 const { isBrokenOnce, isNamed, keepBrokenLine, keepNamed } = $story_kept_story;
-const { runOfText } = $story_run_of_text;
+const { runOfText } = $story_live_run;
 const { FIGURE_AND_TALK, drawLedger, foot, head, hintAndOn, isOddRun, LIST_WORDS, numberOfKey, optionButtons, part, scene, setScene, takeFigure, talk, threadOfKey } = $story_scene;
 const HINTS = 3;
 const levelOf = ({ id }) => levelOfNumber(id);
@@ -9583,12 +9547,12 @@ const nameNow = () => levelOf(now.place);
 
 function html(place) {
   const name = levelOf(place);
-  const at = CHAPTER.indexOf(name);
-  const next = CHAPTER[(at + 1) % CHAPTER.length];
-  const which = at === -1 ? "beyond the chapter" : `${at + 1} of ${CHAPTER.length}`;
+  const at = TEN.indexOf(name);
+  const next = TEN[(at + 1) % TEN.length];
+  const which = at === -1 ? "one more" : `${at + 1} of ${TEN.length}`;
   const kicker = `<a href="#break">Break it</a> · ${which} · ${LISTS[LACKING[name]].name} without one check`;
   return `<section class="screen">${head(kicker, BREAK_LEVELS[name].story)}${FIGURE_AND_TALK}</section>
-    ${foot('<a class="button quiet" href="#break">All lists</a>', hintAndOn(`#break=${numberOfLevel(next)}`))}`;
+    ${foot('<a class="button quiet" href="#break">All lists</a>', hintAndOn(wayOn(place, { href: `#break=${numberOfLevel(next)}`, words: "Next list →" })))}`;
 }
 
 function begin(place) {
@@ -9671,7 +9635,7 @@ function draw(state) {
   hint.hidden = isDone;
   hint.textContent = state.hints === 0 ? "Hint" : state.hints < HINTS ? "Another hint" : "Start over";
   const on = part("#go-on");
-  on.textContent = isDone ? "Next list →" : "Skip →";
+  on.textContent = isDone ? on.dataset.words : "Skip →";
   on.className = isDone ? "button primary ready" : "button quiet";
   if (isDone && isNamed(nameNow())) strike();
 }
@@ -9738,8 +9702,7 @@ const { addressOfCode, linesOfCode, SET_OF_CODE, START_OF_CODE } = $page_scene_a
 const { linkTo } = $page_visit;
 const { tag } = $run_markup;
 const { Figure } = $story_figure;
-const { copyText } = $story_give;
-const { head, LIST_WORDS, part, scene, setScene, takeFigure, threadOfKey } = $story_scene;
+const { copyText, head, LIST_WORDS, part, scene, setScene, takeFigure, threadOfKey } = $story_scene;
 const OPERATIONS = ["add", "remove", "contains"];
 const listOf = ({ id }) => (id in LISTS ? id : "lazy");
 const numbersIn = (text) => [...new Set(text.split(/\D+/).filter((key) => /^\d{1,3}$/.test(key)).map(Number))].sort((one, other) => one - other);
@@ -9815,32 +9778,33 @@ const { setHtml } = $page_dom;
 const { now } = $page_now;
 const { versionOf } = $run_schedule_text;
 const { escaped, inLetters, tag } = $run_markup;
+const { wayOn } = $story_assignment;
 const { Figure } = $story_figure;
 const { learning } = $story_learning;
-const { linesOf } = $story_live_run;
-const { runOfText } = $story_run_of_text;
+const { linesOf, runOfText } = $story_live_run;
 const { FIGURE_AND_TALK, foot, head, hintAndOn, LIST_WORDS, part, scene, setScene, takeFigure, talk, threadOfKey } = $story_scene;
 const HINT = 1; // of `hints`, in the scene: the hint is shown; the answer is shown
 const ANSWER = 2;
 const shown = { verdict: null, ticks: new Set() }; // of the run that is shown, and what was met before
 
-function html({ id }) {
+function html(place) {
   const { panel } = learning;
-  const lesson = panel.lessonNamed(id);
+  const lesson = panel.lessonNamed(place.id);
   const { lessons, name } = panel.course;
   const at = lessons.indexOf(lesson);
   const next = lessons[at + 1];
+  const own = next === undefined ? { href: "#learn", words: "All lessons →" } : { href: `#learn=${next.name}`, words: "Next lesson →" };
   const numbers = lesson.opening.length === 0 ? "no numbers at first" : `${lesson.opening.join(", ")} at first`;
   const kicker = `<a href="#learn">${escaped(name)}</a> · ${at + 1} of ${lessons.length} · ${LIST_WORDS[lesson.list]}, ${numbers}`;
   const asked = `<p class="asked">${escaped(inLetters(lesson.question))}</p>`;
   const goal = '<div class="goal"><p class="kicker">A solution shows</p><div id="goal" aria-live="polite"></div></div>';
   return `<section class="screen"><div class="two">${head(kicker, escaped(lesson.title), asked)}${goal}</div>${FIGURE_AND_TALK}</section>
-    ${foot('<a class="button quiet" href="#learn">All lessons</a>', hintAndOn(`#learn${next === undefined ? "" : `=${next.name}`}`))}`;
+    ${foot('<a class="button quiet" href="#learn">All lessons</a>', hintAndOn(wayOn(place, own)))}`;
 }
 
 function begin({ id, given }) {
   const { panel } = learning;
-  panel.choose(panel.lessonNamed(id));
+  panel.lesson = panel.lessonNamed(id);
   const { lesson } = panel;
   const own = given.text ?? panel.lastTry();
   Object.assign(shown, { verdict: null, ticks: new Set() });
@@ -9925,7 +9889,7 @@ function draw(state) {
   hint.hidden = isDone;
   if (hint.textContent !== words) hint.textContent = words;
   const on = part("#go-on");
-  on.textContent = !isDone ? "Skip →" : learning.panel.after() === undefined ? "All lessons →" : "Next lesson →";
+  on.textContent = isDone ? on.dataset.words : "Skip →";
   on.className = isDone ? "button primary ready" : "button quiet";
 }
 
@@ -9993,7 +9957,7 @@ const SCREENS = [
     reveal: (fig) => {
       const [lost] = fig.run.promised().filter((key) => !fig.run.has().includes(key));
       const [loser, winner] = lost === 5 ? ["A", "B"] : ["B", "A"];
-      return `${b(`${lost} is lost.`)} ${loser} was told true, and yet ${lost} is not in the list. Both changed the arrow of 3, each by what it had seen before, and ${winner}’s arrow has wiped out ${loser}’s. This is a <i>lost update</i>: no order of the two calls explains their answers and what is left.`;
+      return `${b(`${lost} is lost.`)} ${loser} was told true, and yet ${lost} is not in the list. Both changed the arrow of 3, each by what it had seen before, and ${winner}’s arrow has wiped out ${loser}’s. This is a <i>lost update</i>: had one call come after the other, both numbers would be in.`;
     },
   },
   {
@@ -10017,16 +9981,16 @@ const SCREENS = [
     nav: "Hand over hand",
     question: "Can each node have a lock of its own?",
     prose: "Now a thread locks only where it stands: pred and curr. Like hands on a rope, it lets go of one node only when it holds the next. Others may be elsewhere in the list.",
-    figure: { list: "fine", opening: [3, 7, 9], calls: { 0: [["add", 5]], 1: [["contains", 9]] }, lines: ["begin 0 add 5", "go 0 8"], codeTitle: "Hand over hand", fresh: [1, 3, 5], roomFor: 836, tall: true },
+    figure: { list: "fine", opening: [3, 7, 9], calls: { 0: [["add", 8]], 1: [["contains", 9]] }, lines: ["begin 0 add 8", "go 0 8"], codeTitle: "Hand over hand", fresh: [1, 3, 5], roomFor: 836, tall: true },
     ask: "The same question. A has locked 3 and 7, and is stopped there. B wants to know whether 9 is in the list. How far does B get?",
     options: [
       { text: "To its answer", say: "B has to lock each node on its way, and A holds two of them. On a rope, nobody overtakes." },
       { text: "As far as A", right: true, say: "" },
       { text: "Not one step", say: "The head is free: A let go of it when it held the next two. So B can get in." },
     ],
-    play: [[1], [1]],
+    play: [[1], [1], [0], [1]],
     after: "Go on as you like: B follows A, hand over hand.",
-    reveal: () => `${b("Up to A, and no further.")} Two threads can work in the list at the same time. But nobody overtakes: one slow thread near the front holds up everyone behind it. And each step of a walk takes one lock and gives one back.`,
+    reveal: () => `${b("Up to A, and no further.")} When A moved on, B followed: both work in the list at the same time. But nobody overtakes: one slow thread near the front holds up everyone behind it. And each step of a walk takes one lock and gives one back.`,
   },
   {
     id: "no-look",
@@ -10049,7 +10013,7 @@ const SCREENS = [
     nav: "Look again",
     question: "What must A look at, once it has its locks?",
     prose: "The same moment again. B has taken 3 out; A has locked 3, its pred, and 7, its curr. Before A writes, it should notice.",
-    figure: { list: "optimistic", opening: [3, 7], calls: { 0: [["add", 5]] }, lines: ["begin 0 add 5", "go 0 4", "begin 1 remove 3", "go 1 out", "go 0 2"], shown: [0], codeTitle: "Optimistic", fresh: [6, 7], hidden: { hides: [6, 7] }, roomFor: 694, tall: true },
+    figure: { list: "optimistic", opening: [3, 7], calls: { 0: [["add", 5]] }, lines: ["begin 0 add 5", "go 0 4", "begin 1 remove 3", "go 1 out", "go 0 2"], shown: [0], codeTitle: "Walk, lock, look again", fresh: [6, 7], hidden: { hides: [6, 7] }, roomFor: 694, tall: true },
     ask: "Which check tells A that its pred is out of the list?",
     options: [
       { text: "Does pred still hold 3?", say: "It does: a node that is taken out keeps its number. A would go on, and 5 be lost." },
@@ -10065,7 +10029,7 @@ const SCREENS = [
     nav: "A mark",
     question: "Could a node itself say that it is gone?",
     prose: "Walking twice, only to learn whether one node is still in? Give each node a <b>mark</b> instead. To remove 5, a thread first marks it, and then takes it out of the chain.",
-    figure: { list: "lazy", opening: [3, 5, 8], calls: { 0: [["contains", 5]] }, lines: ["begin 1 remove 5", "go 1 to 12"], shown: [0, 1], codeTitle: "Lazy", fresh: [6, 7, 11, 22], hidden: { operations: ["contains"] }, roomFor: 694 },
+    figure: { list: "lazy", opening: [3, 5, 8], calls: { 0: [["contains", 5]] }, lines: ["begin 1 remove 5", "go 1 to 12"], shown: [0, 1], codeTitle: "Mark, then take out", fresh: [6, 7, 11, 22], hidden: { operations: ["contains"] }, roomFor: 694 },
     ask: "B has marked 5, and is stopped before it takes the node out. A asks contains(5), and walks onto that node. What may A answer?",
     options: [
       { text: "true", say: "True, the node is in the chain. But in this list the mark counts, not the chain." },
@@ -10074,7 +10038,7 @@ const SCREENS = [
     ],
     play: [[0, "out"]],
     after: "Let B finish, if you like: taking the node out does not change the set.",
-    reveal: () => `${b("false.")} With the mark, 5 has left the set; taking the node out is only tidying up. A looks at one word, takes no lock, and waits for nobody. This list is called <i>lazy</i>.`,
+    reveal: () => `${b("false.")} With the mark, 5 has left the set; taking the node out is only tidying up. A looks at the mark alone, takes no lock, and waits for nobody. This list is called <i>lazy</i>.`,
   },
   {
     id: "when",
@@ -10095,7 +10059,7 @@ const SCREENS = [
     id: "no-lock",
     nav: "No lock at all",
     question: "And with no lock at all?",
-    prose: "A processor can do this in one step: <b>change the arrow, but only if it is still what I saw.</b> It is called compare-and-set, CAS. If someone was faster, it changes nothing, and the thread looks again. The mark sits in the arrow, so that one CAS sees both.",
+    prose: "A processor can do this in one step: <b>change the arrow, but only if it is still what I saw.</b> It is called compare-and-set, CAS. If someone was faster, it changes nothing, and the thread looks again. A node’s mark is kept in its arrow now, so that one CAS sees both.",
     figure: { list: "lock-free", opening: [3, 5, 8], calls: { 0: [["remove", 5]], 1: [["remove", 5]] }, lines: ["begin 0 remove 5", "go 0 to 9", "begin 1 remove 5", "go 1 to 9"], codeTitle: "Lock-free", fresh: [7, 9, 10, 3], roomFor: 694 },
     ask: "A and B both want to remove 5. Both have found it, without a mark. How many of them are told true?",
     options: [
@@ -10126,9 +10090,9 @@ return { SCREENS, LISTS_AT_END };
 // story/path_parts.js
 const $story_path_parts = (() => {
 const { tag } = $run_markup;
-const { SCREENS } = $story_path;
+const { LISTS_AT_END, SCREENS } = $story_path;
 const HERO = `<div class="hero"><p class="kicker">Concurrent lists, from nothing</p><p class="title">Why not just one lock?</p>
-  <p class="lead">Two threads share one list. In fifteen minutes you break it, mend it, and meet the five list sets of Herlihy and Shavit.
+  <p class="lead">Two threads share one list. In twenty minutes you break it, mend it, and meet the five list sets of Herlihy and Shavit.
   You press, and the threads step. You need no book.</p></div>`;
 
 function dots(number, done) {
@@ -10145,18 +10109,15 @@ function dots(number, done) {
 const barHtml = (number) => `<footer class="foot"><button class="quiet" data-do="back" ${number === 1 ? "hidden" : ""}>← Back</button>
   <span class="spread"></span><button id="show-me" data-do="show"></button><button id="go-on" data-do="on"></button></footer>`;
 
+const GONE = '<p class="welcome" role="status">All that was kept here is gone.</p>';
+
 function welcome(done) {
   const count = SCREENS.filter(({ id }) => done[id]).length;
   const words = `Welcome back: you have done ${count} of ${SCREENS.length}. You are where you stopped.`;
   return `<p class="welcome">${words} <a href="#story=1">From the start</a></p>`;
 }
-return { HERO, dots, barHtml, welcome };
-})();
 
-// story/path_end.js
-const $story_path_end = (() => {
-const { tag } = $run_markup;
-const { LISTS_AT_END, SCREENS } = $story_path;
+
 const LAST = SCREENS.length + 1; // the number of the last screen
 
 const WAYS = [
@@ -10164,7 +10125,7 @@ const WAYS = [
   ["#code=lock-free", "Step by the code", "Any list, any calls: press a line, and its thread makes it."],
   ["#break", "Break it", "Lists that lack one check each. Find a run that shows it."],
   ["#learn", "Solve it", "Twelve lessons: choose the steps until the run shows what is asked."],
-  ["#teachers", "Teach it", "A lecture of twenty minutes, homework in one link, hand-ins checked."],
+  ["#teachers", "Teach it", "A lecture of 45 minutes, homework in one link, hand-ins checked."],
 ];
 
 const TRUTH = `<details class="truth"><summary>How true is this?</summary><p>Each step that you saw was computed by a program that is proved by
@@ -10185,13 +10146,13 @@ function endHtml(done) {
     check. Leave the check out, and numbers get lost.</p>
     <table class="five"><thead><tr><th>The list</th><td>Who waits?</td><td>What does it need for that?</td></tr></thead>
     <tbody>${LISTS_AT_END.map(rowOfList).join("")}</tbody></table>
+    <h2>You have done ${count} of ${SCREENS.length}. And now?</h2><div class="ways">${ways.join("")}</div>
     <p class="prose">And faster? Not always. With four threads and 64 numbers, this lock-free list was almost twice as fast as a balanced tree
-    behind one lock; with 1,000 numbers it was slower. One lock is a good answer, until it is not.</p>
-    <h2>You have done ${count} of ${SCREENS.length}. And now?</h2><div class="ways">${ways.join("")}</div>${TRUTH}</section>
+    behind one lock; with 1,000 numbers it was slower. One lock is a good answer, until it is not.</p>${TRUTH}</section>
     <footer class="foot"><button class="quiet" data-do="back">← Back</button><span class="spread"></span>
     <button class="quiet" data-do="afresh">Start afresh</button><a class="button primary" href="#ask">Guess, then see →</a></footer>`;
 }
-return { LAST, endHtml };
+return { HERO, dots, barHtml, GONE, welcome, LAST, endHtml };
 })();
 
 // story/path_view.js
@@ -10201,8 +10162,7 @@ const { Figure } = $story_figure;
 const { isNarrow } = $story_figure_parts;
 const { keepStory, keptStory, startAfresh } = $story_kept_story;
 const { SCREENS } = $story_path;
-const { barHtml, dots, HERO, welcome } = $story_path_parts;
-const { endHtml, LAST } = $story_path_end;
+const { barHtml, dots, endHtml, GONE, HERO, LAST, welcome } = $story_path_parts;
 const { FIGURE_AND_TALK, drawLedger, head, numberOfKey, optionButtons, part, replyTo, scene, setScene, takeFigure, talk, threadOfKey } = $story_scene;
 const numberOf = ({ id }) => Math.max(1, Math.min(LAST, Number(id) || 1));
 const screenOf = (place) => SCREENS[numberOf(place) - 1] ?? null;
@@ -10216,7 +10176,7 @@ function html(place) {
   const number = numberOf(place);
   const { done } = keptStory();
   const screen = screenOf(place);
-  const path = dots(number, done) + (place.given.back === "yes" ? welcome(done) : "");
+  const path = dots(number, done) + (place.given.gone === "yes" ? GONE : place.given.back === "yes" ? welcome(done) : "");
   if (screen === null) return path + endHtml(done);
   const question = head("", screen.question, `<p class="prose">${screen.prose}</p>`);
   const top = number === 1 ? `<div class="two">${HERO}${question}</div>` : question;
@@ -10415,7 +10375,7 @@ const { bookCourse, taskOfJudged } = $story_assignment;
 const stripped = (name) => name.replace(/^.*\//, "").replace(/\.[A-Za-z]+$/, "");
 
 function studentOf(text, file) {
-  const [, name, number] = /^(.*?)\s*(?:[([#]\s*(\w[\w-]{2,20})\s*[)\]]?)?\s*$/.exec(text ?? "") ?? [];
+  const [, name, number] = /^(.*?)\s*(?:[([#]\s*((?=\D*\d)\w[\w-]{0,20})\s*[)\]]?)?\s*$/.exec(text ?? "") ?? [];
   return { name: name || stripped(file), number: number ?? "" };
 }
 
@@ -10428,10 +10388,10 @@ async function checkAll(files, tasks, tellProgress = (_at, _of) => {}) {
   for (const [index, text] of handed.entries()) {
     const read = readHandIn(text);
     const who = studentOf(read.student, text.file);
-    const key = who.number || who.name.toLowerCase();
-    const own = students.get(key) ?? { ...who, files: [], solved: new Map(), notes: [] };
+    const key = `${who.number} ${who.name.toLowerCase()}`;
+    const own = students.get(key) ?? { ...who, files: [], solved: new Map(), wrong: new Set(), notes: [] };
     students.set(key, own);
-    own.files.push(text.file);
+    if (!own.files.includes(text.file)) own.files.push(text.file);
     own.notes.push(...read.faults.map(({ line, fault }) => `line ${line}: ${fault}`));
     const lessons = (courses.find(({ name }) => name === read.course) ?? courses[0]).lessons;
     for (const { line } of read.solutions) judgePart(own, lessons, line, tasks ?? []);
@@ -10440,6 +10400,7 @@ async function checkAll(files, tasks, tellProgress = (_at, _of) => {}) {
   }
   const rows = [...students.values()].sort((one, other) => one.name.localeCompare(other.name));
   noteSame(rows);
+  noteNumbers(rows);
   const columns = tasks === null ? columnsOf(rows) : tasks.map(({ id, title }) => ({ id, title }));
   return { rows, columns, empty };
 }
@@ -10449,7 +10410,10 @@ function judgePart(own, lessons, line, tasks) {
   const task = line.startsWith("judge ") ? (taskOfJudged(line, tasks)?.id ?? verdict.task) : verdict.task;
   const isOwn = verdict.schedule !== undefined && !verdict.isVeryAnswer; // what two may have in common only by copying
   if (verdict.isSolved) own.solved.set(task, isOwn ? verdict.schedule : null);
-  else own.notes.push(`${task ?? line.slice(0, 40)}: ${verdict.says}`);
+  else {
+    own.wrong.add(task);
+    own.notes.push(`${task ?? line.slice(0, 40)}: ${verdict.says}`);
+  }
   if (verdict.isVeryAnswer) own.notes.push(`${task}: the very answer of the lesson`);
   if (verdict.ofExample) own.notes.push(`${task}: the very run of an example`);
 }
@@ -10457,6 +10421,15 @@ function judgePart(own, lessons, line, tasks) {
 function columnsOf(rows) {
   const ids = new Set(rows.flatMap(({ solved }) => [...solved.keys()]));
   return [...ids].sort().map((id) => ({ id, title: id }));
+}
+
+const markOf = ({ solved, wrong }, { id }) => (solved.has(id) ? "solved" : wrong.has(id) ? "wrong" : "none");
+
+function noteNumbers(rows) {
+  for (const row of rows) {
+    const names = rows.filter(({ number }) => number !== "" && number === row.number).map(({ name }) => name);
+    if (names.length > 1) row.notes.unshift(`two names for one number: ${names.join(", ")}`);
+  }
 }
 
 function noteSame(rows) {
@@ -10490,26 +10463,27 @@ function csvOf({ rows, columns }) {
   };
   const head = ["student", "number", ...columns.map(({ title }) => title), "solved", "of", "same schedules as", "notes", "files"];
   const line = (row) => {
-    const marks = columns.map(({ id }) => (row.solved.has(id) ? 1 : 0));
-    const solved = marks.reduce((sum, one) => sum + one, 0);
+    const marks = columns.map((column) => ({ solved: 1, wrong: 0, none: "" })[markOf(row, column)]);
+    const solved = marks.filter((mark) => mark === 1).length;
     return [row.name, row.number, ...marks, solved, columns.length, sameText(row), row.notes.join(" | "), row.files.join(" ")];
   };
   return `${[head, ...rows.map(line)].map((cells) => cells.map(cell).join(",")).join("\r\n")}\r\n`;
 }
-return { checkAll, sameText, csvOf };
+return { checkAll, markOf, sameText, csvOf };
 })();
 
 // story/handins_view.js
 const $story_handins_view = (() => {
 const { saveText } = $page_files;
 const { linkTo } = $page_visit;
-const { escaped, tag } = $run_markup;
+const { counted, escaped, tag } = $run_markup;
 const { tasksOf } = $story_assignment;
-const { checkAll, csvOf, sameText } = $story_handins;
+const { checkAll, csvOf, markOf, sameText } = $story_handins;
 const { part } = $story_scene;
 const MOST_BYTES = 2_000_000; // of a file
 const MOST_NOTES = 2; // that the table has of a student; the CSV has all
 const given = { files: [], tooLong: [], result: null };
+const MARKS = { solved: '<b class="yes">✓</b>', wrong: '<b class="no" title="handed in, and wrong">✗</b>', none: "–" };
 const piece = (name) => part(`#in-${name}`);
 
 const handInsHtml = () => `<section class="panel" id="handins"><h2>What they handed in</h2>
@@ -10585,9 +10559,10 @@ function notesOf(row) {
 }
 
 function drawRow(row, columns) {
-  const mark = ({ id }) => `<td class="mark">${row.solved.has(id) ? '<b class="yes">✓</b>' : '<span class="no">–</span>'}</td>`;
-  const count = columns.filter(({ id }) => row.solved.has(id)).length;
-  return `<tr><th scope="row">${escaped(row.name)}</th><td>${escaped(row.number)}</td>${columns.map(mark).join("")}
+  const marks = columns.map((column) => markOf(row, column));
+  const cells = marks.map((mark) => `<td class="mark">${MARKS[mark]}</td>`).join("");
+  const count = marks.filter((mark) => mark === "solved").length;
+  return `<tr><th scope="row">${escaped(row.name)}</th><td>${escaped(row.number)}</td>${cells}
     <td class="mark"><b>${count}</b></td><td class="notes">${notesOf(row)}</td></tr>`;
 }
 
@@ -10595,7 +10570,9 @@ function drawResult({ rows, columns, empty }) {
   const full = rows.filter(({ solved }) => columns.every(({ id }) => solved.has(id))).length;
   const odd = [["Without a hand-in", empty], ["Too long", given.tooLong]].filter(([, names]) => names.length > 0);
   const wrong = odd.map(([what, names]) => tag("span", { class: "odd" }, `${what}: ${escaped(names.join(", "))}.`)).join(" ");
-  piece("told").innerHTML = `<b>${rows.length} students</b>, ${full} with all ${columns.length} tasks. ${wrong}`;
+  const merged = rows.reduce((sum, { files }) => sum + files.length - 1, 0);
+  const files = `${counted(given.files.length + given.tooLong.length, "file")}: <b>${counted(rows.length, "student")}</b>`;
+  piece("told").innerHTML = `${files}, ${merged} merged, ${empty.length} without a hand-in. ${full} with all ${columns.length} tasks. ${wrong}`;
   const heads = ["Student", "Number", ...columns.map(({ title }) => title), "Solved", "Notes"].map((name) => `<th scope="col">${escaped(name)}</th>`);
   const body = rows.map((row) => drawRow(row, columns)).join("");
   piece("table").innerHTML = `<table class="class"><thead><tr>${heads.join("")}</tr></thead><tbody>${body}</tbody></table>`;
@@ -10609,7 +10586,7 @@ function clear() {
   piece("files").value = "";
 }
 
-const handInDeeds = { csv: () => saveText("hand-ins.csv", csvOf(given.result), "text/csv"), clear };
+const handInDeeds = { csv: () => saveText("hand-ins.csv", `\ufeff${csvOf(given.result)}`, "text/csv"), clear };
 return { handInsHtml, beginHandIns, handInDeeds };
 })();
 
@@ -10622,8 +10599,7 @@ const { linkTo } = $page_visit;
 const { escaped, tag } = $run_markup;
 const { seedOf } = $run_seed;
 const { addressOfTasks, allLevels, bookCourse } = $story_assignment;
-const { copyText } = $story_give;
-const { part } = $story_scene;
+const { copyText, part } = $story_scene;
 const FIRST_NUMBER = 17;
 const work = { seeds: [] };
 const piece = (name) => part(`#hw-${name}`);
@@ -10706,19 +10682,22 @@ const { OWN_COURSE } = $data_own_course;
 const { linkTo } = $page_visit;
 const { escaped, tag } = $run_markup;
 const { QUESTIONS } = $story_ask;
-const { copyText } = $story_give;
 const { beginHandIns, handInDeeds, handInsHtml } = $story_handins_view;
 const { beginHomework, homeworkDeeds, homeworkHtml } = $story_homework_view;
 const { startAfresh } = $story_kept_story;
-const { head, part } = $story_scene;
+const { copyText, head, part } = $story_scene;
 /** @type {[number, string, string, string][]} */
 const LECTURE = [
-  [2, "Lose a number", "#story=2&view=lecture", "No lock. Let the class call out A or B until a number is lost."],
-  [3, "One lock", "#story=3&view=lecture", "A has the lock and is stopped. How far does B get? Let the class guess, then press 1, 2 or 3."],
-  [5, "Why a second walk", "#ask=stale-pred&view=lecture", "May A write? After the answer, press “And without this check?”: 5 is lost."],
-  [4, "In another thread’s step", "#ask=read-in-anothers-step&view=lecture", "A will answer false. When is that right? In a step of B."],
+  [4, "Lose a number", "#story=2&view=lecture", "No lock. Let the class call out A or B until a number is lost."],
+  [4, "One lock", "#story=3&view=lecture", "A has the lock and is stopped. How far does B get? Let the class guess, then press 1, 2 or 3."],
+  [5, "FineList: hand over hand", "#story=4&view=lecture", "A has locked 3 and 7. How far does B get now? Then let B follow A, node by node."],
+  [5, "A walk without locks", "#story=5&view=lecture", "Both lock what they change, and 5 gets lost all the same. Let the class find the order."],
+  [6, "Why a second walk", "#ask=stale-pred&view=lecture", "May A write? After the answer, press “And without this check?”: 5 is lost."],
+  [5, "LazyList: a mark", "#story=7&view=lecture", "B has marked 5, and its node is still in the chain. What may A answer?"],
+  [5, "In another thread’s step", "#ask=read-in-anothers-step&view=lecture", "A will answer false. When is that right? In a step of B."],
   [3, "Who waits?", "#sides=coarse.lazy&quota=4&calls=0.add.5,1.contains.5&turns=0.0.0.0&view=lecture",
     "Press B three times: LazyList has answered, CoarseList tries its lock."],
+  [5, "LockFreeList: compare-and-set", "#story=9&view=lecture", "Two removes of 5, no lock. Who comes first? Let the class decide, then step A and B."],
   [3, "Everybody judges", "#seed=lazy.2.5.2.17&judge", "Write the link on the board. All get the same run, without its answers."],
 ];
 const PANELS = { slides: "Lecture", embed: "Embed", homework: "Homework", handins: "Hand-ins", own: "Your own lessons" };
@@ -10768,7 +10747,7 @@ const OWN = `<section class="panel" id="own"><h2>Lessons of your own</h2>
 
 function html() {
   const jump = ([id, name]) => tag("button", { class: "quiet", "data-do": "jump", "data-panel": id }, name);
-  const lead = `<p class="lead">A lecture of twenty minutes, figures for your own pages, homework as one link, and hand-ins that check themselves.
+  const lead = `<p class="lead">A lecture of 45 minutes, figures for your own pages, homework as one link, and hand-ins that check themselves.
     No account, no server: all of it happens in the browser.</p><p class="jump">${Object.entries(PANELS).map(jump).join("")}</p>`;
   return `${head("", "For teachers", lead, "title")}${lectureHtml()}${embedHtml()}${homeworkHtml()}${handInsHtml()}${OWN}
     <footer class="foot"><span id="scene-told" class="small" role="status"></span><span class="spread"></span>
@@ -11322,7 +11301,7 @@ function listenToFiles() {
   byId("report-box").ontoggle = refreshReport;
   byId("file").onchange = () => openFile(byId("file").files[0]).then(() => (byId("file").value = ""));
   byId("save-schedule").onclick = () => saveText("page.schedule", byId("schedule").value);
-  byId("save-trace").onclick = () => saveText("now.run.trace", now.run.trace.text);
+  byId("save-trace").onclick = () => saveText("page.trace", now.run.trace.text);
   byId("save-picture").onclick = savePicture;
 }
 
@@ -11341,8 +11320,7 @@ return { stopUnable, listenToBar, listenToSettings, listenToWork, listenToFiles,
 const $main = (() => {
 const { listenToBench, showBar, showRun } = $activities_bench;
 const { listenToCourses, listenToHandIn } = $activities_courses;
-const { listenToJudging } = $activities_judge_begin;
-const { drawJudging } = $activities_judging;
+const { drawJudging, listenToJudging } = $activities_judging;
 const { followAddress, openCourseFile, openFirst, openRecorded, showBeforehand } = $activities_open;
 const { showPlace } = $activities_place;
 const { takeViews } = $activities_views;
@@ -11440,5 +11418,5 @@ if (typeof document !== "undefined") startPage(); // in node there is none
 return {  };
 })();
 
-return Object.assign({}, $made_rows, $run_markup, $run_trace, $run_state, $draw_labels, $draw_history, $draw_contents, $made_code, $draw_listing, $draw_table, $draw_threads, $page_dom, $engine_answers, $run_faults, $run_judged, $run_schedule_text, $run_outcomes, $run_sentences, $page_state, $page_now, $page_editor, $made_classics, $page_play, $run_broken, $run_draft, $story_phases, $story_live_run, $draw_glide, $draw_places, $draw_arrows, $draw_list, $data_book_code, $story_code, $story_tale, $story_dock, $story_figure_parts, $story_figure_press, $story_figure, $story_still_figure, $activities_bench, $made_book, $run_address, $course_course_link, $run_moments, $course_goal_words, $course_course_text, $course_lesson, $course_hand_in, $run_check_trace, $run_recorded, $engine_engine, $engine_worker, $page_long_run, $made_traces, $page_example, $page_kept, $page_run_text, $page_work, $page_files, $run_seed, $data_levels, $data_chapter, $page_scene_address, $page_address_of, $page_visit, $story_kept_story, $story_ask, $story_ask_more, $story_scene, $story_ask_map, $story_assignment, $story_kept_lessons, $story_learning, $story_learn_map, $draw_judged, $activities_judging, $activities_courses, $activities_judge_begin, $page_menu, $page_seen, $page_places, $activities_recorded, $activities_watch, $activities_open, $story_give, $story_assignment_view, $activities_place, $story_ask_figure, $story_ask_branches, $story_ask_view, $story_break_map, $story_run_of_text, $story_break_view, $story_code_view, $story_learn_view, $story_path, $story_path_parts, $story_path_end, $story_path_view, $data_own_course, $story_handins, $story_handins_view, $story_homework_view, $story_teach_view, $page_keys, $run_sides, $activities_compare, $activities_judge_map, $activities_read, $activities_views, $page_save_picture, $page_controls);
+return Object.assign({}, $made_rows, $run_markup, $run_trace, $run_state, $draw_labels, $draw_history, $draw_contents, $made_code, $draw_listing, $draw_table, $draw_threads, $page_dom, $engine_answers, $run_faults, $run_judged, $run_schedule_text, $run_outcomes, $run_sentences, $page_state, $page_now, $page_editor, $made_classics, $page_play, $run_broken, $run_draft, $story_phases, $story_live_run, $draw_glide, $draw_places, $draw_arrows, $draw_list, $data_book_code, $story_code, $story_tale, $story_dock, $story_figure_parts, $story_figure_press, $story_figure, $story_still_figure, $activities_bench, $made_book, $run_address, $course_course_link, $run_moments, $course_goal_words, $course_course_text, $course_lesson, $course_hand_in, $run_check_trace, $run_recorded, $engine_engine, $engine_worker, $page_long_run, $made_traces, $page_example, $page_kept, $page_work, $page_files, $run_seed, $data_levels, $page_scene_address, $page_address_of, $page_visit, $story_kept_story, $story_ask, $story_ask_more, $story_scene, $story_ask_map, $story_assignment, $story_kept_lessons, $story_learning, $story_learn_map, $draw_judged, $activities_judging, $activities_courses, $page_menu, $page_seen, $page_places, $activities_recorded, $activities_watch, $activities_open, $story_assignment_view, $activities_place, $story_ask_figure, $story_ask_branches, $story_ask_view, $story_break_map, $story_break_view, $story_code_view, $story_learn_view, $story_path, $story_path_parts, $story_path_view, $data_own_course, $story_handins, $story_handins_view, $story_homework_view, $story_teach_view, $page_keys, $run_sides, $activities_compare, $activities_judge_map, $activities_read, $activities_views, $page_save_picture, $page_controls);
 })();

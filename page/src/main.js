@@ -1,8 +1,7 @@
 // The page: its parts are put together, and it starts.
 import { listenToBench, showBar, showRun } from "./activities/bench.js";
 import { listenToCourses, listenToHandIn } from "./activities/courses.js";
-import { listenToJudging } from "./activities/judge_begin.js";
-import { drawJudging } from "./activities/judging.js";
+import { drawJudging, listenToJudging } from "./activities/judging.js";
 import { followAddress, openCourseFile, openFirst, openRecorded, showBeforehand } from "./activities/open.js";
 import { showPlace } from "./activities/place.js";
 import { takeViews } from "./activities/views.js";

@@ -153,7 +153,7 @@ This is no line of a solution.
     'line 1: the text is cut: the line "end" is missing',
     "line 3: one-lock: the address of a schedule is missing, from # on",
     "line 4: two-at-once: missing: Thread 1 has an add that answers true.",
-    "line 5: two-at-once: Line 9 of the schedule is refused: Idle.",
+    "line 5: two-at-once: Line 9 of the schedule is refused: the thread makes a step while it has no call pending.",
     "line 6: lost-pred: the address is not that of a schedule",
     "line 7: changed-link: The list, the number of threads, the quota and the opening keys are to be those of the lesson.",
     "line 8: marked-in-chain: there is more behind the address",

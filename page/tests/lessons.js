@@ -96,7 +96,7 @@ function checkReasons(ask, [lesson]) {
     [answer.replace("quota 4", "quota 5"), "The list, the number of threads"],
     [answer.replace("list coarse", "list fine"), "The list, the number of threads"],
     [answer.replace("schedule 1", "schedule 2").replace("quota 4\n", "quota 4\nopening 1\n"), "The list, the number of threads"],
-    [`${answer}go 0 1\n`, "Line 15 of the schedule is refused: Idle."],
+    [`${answer}go 0 1\n`, "Line 15 of the schedule is refused: the thread makes a step while it has no call pending."],
     [`${answer}begin 0 add 05\n`, "The schedule is refused: listset: line 15: Number."],
     [`${answer}begin 0 contains 9\ngo 0 999\n`, "A solution has at most 1000 events."],
   ];

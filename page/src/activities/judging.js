@@ -4,17 +4,17 @@ import { CLASSICS } from "../../made/classics.js";
 import { drawJudged, drawOwnOrder, judgeScale, momentOfReport } from "../draw/judged.js";
 import { byId, redraw } from "../page/dom.js";
 import { keepUnder, keptUnder } from "../page/kept.js";
-import { askNow, dispatch, exampleShown, isJudging, now, tell } from "../page/now.js";
+import { askNow, dispatch, exampleShown, held, isJudging, now, tell } from "../page/now.js";
 import { addressOf } from "../run/address.js";
 import { askList } from "../run/broken.js";
-import { exerciseOf, LEVELS, OwnAnswer, repliesOf, verdictOn, wordOfAnswer } from "../run/judged.js";
+import { exerciseOf, LEVELS, MOST_JUDGED, OwnAnswer, repliesOf, verdictOn, wordOfAnswer } from "../run/judged.js";
 import { callText, chipOf, escaped } from "../run/markup.js";
 
 export const JUDGED = "listset-judged"; // in the browser's storage: of each run and level the order that was right
 
 const HALF_STEPS = { ArrowLeft: -0.5, ArrowDown: -0.5, ArrowRight: 0.5, ArrowUp: 0.5 };
 const SLIDER_KEYS = { ...HALF_STEPS, PageDown: -5, PageUp: 5, Home: -Infinity, End: Infinity };
-export const judgePart = (name) => byId(`judge-${name}`);
+const judgePart = (name) => byId(`judge-${name}`);
 
 class Judging {
   exercise = null;
@@ -161,7 +161,7 @@ class Judging {
   }
 }
 
-export const judging = new Judging();
+const judging = new Judging();
 export const drawJudging = () => isJudging() && judging.draw();
 
 // After two wrong tries: the events at which it turns; of a run that is no example, those that change the set.
@@ -170,4 +170,39 @@ function hintOfRun() {
   if (turns !== undefined) return `The deciding events: ${turns.join(", ")}.`;
   const changes = now.run.trace.changes.map(({ number }) => number);
   return changes.length === 0 ? "No event changes the set." : `The set changes at the events ${changes.join(", ")}.`;
+}
+
+// ---- when an exercise can begin, and what the panel's buttons and bars do
+
+export function beginJudging() {
+  const { trace } = now.run;
+  if (held.engine === null) return tell("The replayer does not run in this browser: nothing can be judged.");
+  if (!now.run.isRun || trace.refused !== null) return tell("A run with a refused event cannot be judged: delete the red line of the schedule first.");
+  if (trace.calls.length === 0) return tell("There is no call to judge yet.");
+  if (trace.total > MOST_JUDGED) return tell(`A run of at most ${MOST_JUDGED} events can be judged; this one has ${trace.total}.`);
+  tell("");
+  judging.begin(judgePart("level").value);
+  byId("next").focus(); // the arrows step; on the level they would change it
+}
+
+export function listenToJudging() {
+  byId("judge-begin").onclick = beginJudging;
+  judgePart("level").append(...Object.entries(LEVELS).map(([level, { name }]) => new Option(name, level)));
+  judgePart("level").value = "replies";
+  judgePart("level").onchange = judgePart("again").onclick = () => judging.begin(judgePart("level").value);
+  judgePart("ask").onclick = () => judging.judge(false);
+  judgePart("none").onclick = () => judging.judge(true);
+  judgePart("moment").oninput = () => {
+    judging.moment = Number(judgePart("moment").value);
+    judging.draw();
+  };
+  judgePart("end").onclick = () => {
+    dispatch("exercise", { exercise: null });
+    byId("judge-begin").focus();
+  };
+  const bars = judgePart("bars");
+  bars.onpointerdown = (event) => judging.grasp(event);
+  bars.onpointermove = (event) => judging.held !== null && judging.drag(event);
+  bars.onpointerup = bars.onpointercancel = () => (judging.held = null);
+  bars.onkeydown = (event) => judging.press(event);
 }

@@ -1,6 +1,6 @@
 // What an address opens, and what the page shows first.
 import { TRACES } from "../../made/traces.js";
-import { numberOfLevel } from "../data/chapter.js";
+import { numberOfLevel } from "../data/levels.js";
 import { byId } from "../page/dom.js";
 import { showMarks } from "../page/editor.js";
 import { isExample, openKept } from "../page/example.js";
@@ -19,7 +19,7 @@ import { learning } from "../story/learning.js";
 import { keptStory } from "../story/kept_story.js";
 import { faultOfScene, openScene } from "../story/scene.js";
 import { showCourseText, takeCourseOfAddress } from "./courses.js";
-import { beginJudging } from "./judge_begin.js";
+import { beginJudging } from "./judging.js";
 import { showRecorded } from "./recorded.js";
 import { FIRST, openSeed } from "./watch.js";
 

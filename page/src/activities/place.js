@@ -4,19 +4,17 @@ import { byId } from "../page/dom.js";
 import { held, now } from "../page/now.js";
 import { addressOfAssignment, addressOfCode } from "../page/scene_address.js";
 import { scheduleOfTrace } from "../run/schedule_text.js";
-import { hasTask } from "../story/assignment.js";
+import { homeworkOf } from "../story/assignment.js";
 import { titleOfAssignment } from "../story/assignment_view.js";
-import { keptStory } from "../story/kept_story.js";
 import { linesOf } from "../story/live_run.js";
 import { titleOfScene } from "../story/scene.js";
 import { taskOfWatch } from "./watch.js";
 
 // A task of the assignment that was opened last leads back to it.
 function showHome() {
-  const { homework } = keptStory();
-  const isTask = homework !== null && now.place.view === null && hasTask(homework.given, now.place, now.task);
-  byId("home").hidden = !isTask;
-  if (!isTask) return;
+  const homework = now.place.view === null ? homeworkOf(now.place, now.task) : null;
+  byId("home").hidden = homework === null;
+  if (homework === null) return;
   byId("home").textContent = `← Back to ${titleOfAssignment(homework)}`;
   byId("home").href = addressOfAssignment(homework);
 }

@@ -23,7 +23,8 @@ function runOfSchedule(ask, schedule, lacks) {
   const trace = new Trace(made, versionOf(schedule));
   const { refused } = trace;
   if (refused === null) return { trace, fault: null };
-  return { trace: null, fault: { ...refused, says: `Line ${refused.line} of the schedule is refused: ${refused.cause}.` } };
+  const why = sentenceOn(ask, refused.cause, "a schedule") ?? refused.cause;
+  return { trace: null, fault: { ...refused, says: `Line ${refused.line} of the schedule is refused: ${why}.` } };
 }
 
 const unjudged = (reason, fault = null) => ({ isSolved: false, reason, fault, conditions: [], deadEnd: null });

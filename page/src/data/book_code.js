@@ -27,6 +27,7 @@ export const BOOK_CODE = {
     { of: ["add"], text: "    pred.next = node", rows: [7] },
     { of: ["remove"], text: "remove, if curr.key = key:" },
     { of: ["remove"], text: "    pred.next = curr.next", rows: [8, 9] },
+    { of: ["contains"], text: "contains: true if curr.key = key" },
     { text: "unlock the list; return", rows: [10] },
   ],
   fine: [
@@ -41,6 +42,7 @@ export const BOOK_CODE = {
     { of: ["add"], text: "    pred.next = node", rows: [9] },
     { of: ["remove"], text: "remove, if curr.key = key:" },
     { of: ["remove"], text: "    pred.next = curr.next", rows: [10, 11] },
+    { of: ["contains"], text: "contains: true if curr.key = key" },
     { text: "unlock curr; unlock pred; return", rows: [12, 13] },
   ],
   optimistic: [
@@ -56,6 +58,7 @@ export const BOOK_CODE = {
     { of: ["add"], text: "    pred.next = node", rows: [11] },
     { of: ["remove"], text: "remove, if curr.key = key:" },
     { of: ["remove"], text: "    pred.next = curr.next", rows: [12, 13] },
+    { of: ["contains"], text: "contains: true if curr.key = key" },
     { text: "unlock pred; unlock curr", rows: [14, 15] },
     { text: "if not valid: start again; return", isPlain: true },
   ],

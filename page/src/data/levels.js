@@ -12,8 +12,8 @@ export const BREAK_LEVELS = {
     ],
     lacks: "It continues although another thread holds the lock.",
     others: {
-      "It releases the lock before it writes the link.": "it releases the lock only after that",
-      "It writes the link of pred before that of its own node.": "it writes the link of its own node first",
+      "It releases the lock before it writes the arrow.": "it releases the lock only after that",
+      "It writes the arrow of pred before that of its own node.": "it writes the arrow of its own node first",
     },
     start: [["add", 5], ["add", 4]], shortest: [20, 2],
     missing: [{ row: 1, part: "lock the list" }],
@@ -43,7 +43,7 @@ export const BREAK_LEVELS = {
     lacks: "A remove unlinks its node without marking it first.",
     others: {
       "A remove marks a node that is marked already.": "it marks no node at all",
-      "An add writes its link without comparing.": "it compares with what it saw",
+      "An add writes its arrow without comparing.": "it compares with what it saw",
     },
     start: [["add", 5], ["remove", 3]], shortest: [15, 2],
     missing: [{ row: 9, part: "CAS curr.next: succ, no mark → mark" }],
@@ -54,13 +54,13 @@ export const BREAK_LEVELS = {
     lacks: "An add writes into the node of its last key.",
     others: {
       "An add does not look whether its key is there.": "it compares curr.key with its key",
-      "An add writes its link without comparing.": "it compares with what it saw",
+      "An add writes its arrow without comparing.": "it compares with what it saw",
     },
     start: [["add", 4], ["add", 5]], shortest: [20, 2],
     missing: [{ row: 5, part: "new " }],
   },
   "second-lock": {
-    story: "Hand over hand, the book says: two locks at a time. Here one hand stays in the pocket.",
+    story: "Hand over hand means two locks at a time. Here one hand stays in the pocket.",
     hints: [
       "An add of 5 beside a remove of 3, its neighbour.",
       "The add must hold the lock of 3 while the other thread removes that node.",
@@ -120,7 +120,7 @@ export const BREAK_LEVELS = {
     missing: [{ row: 6, part: "pred unmarked," }, { row: 7, part: "and curr unmarked" }],
   },
   "mark-in-add": {
-    story: "A marked link must not change. Somebody changes it all the same.",
+    story: "A marked arrow must not change. Somebody changes it all the same.",
     hints: [
       "An add of 5, and a remove of the node in front of it.",
       "The remove must have marked the node of 3, and done no more.",
@@ -192,3 +192,17 @@ export const BREAK_LEVELS = {
     missing: [{ row: 22, part: "and unmarked" }],
   },
 };
+
+// From one lock to none, and three more.
+export const TEN = [
+  "lock", "second-lock", "hand-over-hand", "second-walk", "same-node", "marks-in-validation", "mark-in-remove", "mark", "mark-in-add",
+  "mark-at-key",
+];
+export const THREE_MORE = ["new-slot", "mark-in-ceiling", "mark-in-contains"];
+
+const NUMBERED = Object.keys(BREAK_LEVELS);
+export const numberOfLevel = (name) => NUMBERED.indexOf(name) + 1;
+export const levelOfNumber = (number) => NUMBERED[Number(number) - 1];
+
+// The reply to a sentence that is not what a list lacks.
+export const whyWrong = (name, sentence) => `No: ${BREAK_LEVELS[name].others[sentence]}. Look for the line that this list makes differently.`;

@@ -77,7 +77,7 @@ export function listenToFiles() {
   byId("report-box").ontoggle = refreshReport;
   byId("file").onchange = () => openFile(byId("file").files[0]).then(() => (byId("file").value = ""));
   byId("save-schedule").onclick = () => saveText("page.schedule", byId("schedule").value);
-  byId("save-trace").onclick = () => saveText("now.run.trace", now.run.trace.text);
+  byId("save-trace").onclick = () => saveText("page.trace", now.run.trace.text);
   byId("save-picture").onclick = savePicture;
 }
 

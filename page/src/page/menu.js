@@ -34,7 +34,7 @@ export function chooseInList(value) {
   else if (value !== "") pickExample(value, 0);
 }
 
-export const pickExample = (name, count, told = "") => (held.engine === null ? openKept(name, count) : openExample(name, count, told));
+export const pickExample = (name, count) => (held.engine === null ? openKept(name, count) : openExample(name, count));
 
 // The question of the example. Where it turns is told where that is asked for: by ticks on the slider, and a button for each event.
 export function showQuestion() {

@@ -1,5 +1,5 @@
 // The addresses of the scenes, as #story=2, #ask=snip, #code=lazy&opening=3.7&s=b0.add.5,g0.4, #teachers, and of an assignment. Both ways.
-import { levelOfNumber } from "../data/chapter.js";
+import { levelOfNumber } from "../data/levels.js";
 import { AddressFault, addressOf, LONGEST_ADDRESS, longLine } from "../run/address.js";
 import { startOfLacking } from "../run/broken.js";
 import { eventsAsked } from "../run/schedule_text.js";

@@ -1,13 +1,15 @@
 // The reader's work on the bench: a text, and the task it is for.
+import { askList } from "../run/broken.js";
 import { scheduleOfDraft } from "../run/draft.js";
-import { withOpening } from "../run/schedule_text.js";
-import { eventsInCommon } from "../run/trace.js";
+import { eventsAsked, openingIn, versionOf, withOpening } from "../run/schedule_text.js";
+import { eventsInCommon, isTrace, Trace } from "../run/trace.js";
 import { byId } from "./dom.js";
 import { showMarks } from "./editor.js";
 import { exampleText } from "./example.js";
 import { keepWork, works } from "./kept.js";
-import { askNow, change, now, tellLine } from "./now.js";
-import { runText } from "./run_text.js";
+import { MANY_EVENTS, runLong, stopLong } from "./long_run.js";
+import { announce, askNow, change, held, NO_ENGINE, now, takeTrace, tell, tellFault, tellLine } from "./now.js";
+import { stopPlay } from "./play.js";
 
 // What is made from now on is for this task: it is kept under its name, once it is another text than the one with which the task
 // began; it is run on the whole list, or on a broken one.
@@ -32,8 +34,8 @@ export function openWork(name, at = null) {
   showMarks();
 }
 
-export const openExample = (name, count, told = "") =>
-  openTask({ kind: "example", id: name, work: works.newName(`from ${name}`) }, exampleText(name), count, told);
+export const openExample = (name, count) =>
+  openTask({ kind: "example", id: name, work: works.newName(`from ${name}`) }, exampleText(name), count);
 
 export const newSchedule = (list, threads, quota) =>
   openTask(ownTask("my schedule"), `listset-schedule 1\nlist ${list}\nthreads ${threads}\nquota ${quota}\n`, 0);
@@ -68,4 +70,26 @@ export function showHeader(trace) {
   byId("new-list").value = trace.kind;
   byId("new-threads").value = trace.threads;
   byId("new-quota").value = trace.quota;
+}
+
+// Runs a text by the engine, and then tells a line. The page computes no step of a list.
+function runText(text, at, told = "") {
+  stopPlay();
+  change("text", { text });
+  byId("schedule").value = text;
+  byId("opening").value = openingIn(text).join(" ");
+  if (held.engine === null) return tellFault(null, "", NO_ENGINE);
+  const asked = eventsAsked(text);
+  if (asked >= MANY_EVENTS && now.run.lacks === null) return runLong(text, asked, (answer) => takeAnswer(answer, text, at, told));
+  stopLong();
+  takeAnswer(askList(askNow, "listset_trace", now.run.lacks, text), text, at, told);
+}
+
+// Shows what the engine says of a text.
+function takeAnswer(answer, text, at, told) {
+  const source = now.run.lacks === null ? "run by the proved replayer" : "a run of a broken list";
+  if (isTrace(answer.text)) takeTrace(new Trace(answer.text, versionOf(text), now.run.trace), at, source);
+  else tellLine(answer.text.trim());
+  tell(works.isKept ? told : `${told} This browser keeps nothing: save the schedule before you leave the page.`);
+  announce("ran");
 }

@@ -1,9 +1,8 @@
 // Judge yourself: a reader says where each call of a run takes effect and what it answers, and the proved `check` judges that.
 // Here is what needs no browser: the exercise, the reader's answer, the report that it makes, and the verdict in a sentence.
 //
-// The calls and the keys are those of the run; the order and the replies in it are the reader's. So `check` says ok exactly where
-// the reader's order explains what the run did, and it need not be the order that the replayer gives. No set is computed here: why
-// an order is refused says the engine's record.
+// The calls and the keys are those of the run; the order and the replies in it are the reader's. So `check` says ok if the
+// reader's order explains what the run did, also where it is not the replayer's. Why it is refused says the engine's record.
 import { readReport, readVerdict } from "../engine/answers.js";
 import { callText, letterOf, openReply } from "./markup.js";
 

@@ -6,7 +6,6 @@ import { CHECK_WORDS, itemOf, takeBranch } from "./ask_figure.js";
 import { LiveRun } from "./live_run.js";
 import { drawLedger, isOddRun, part, scene, setScene } from "./scene.js";
 
-
 function takeOwnBranch(branch) {
   const figure = takeBranch({ ...branch, isFree: true });
   Object.assign(figure, { onFork: fork, onStep: grow });

@@ -17,7 +17,7 @@ export const CHECK_WORDS = {
 };
 export const ALL = [...QUESTIONS, ...APPENDIX];
 export const itemOf = ({ id }) => ALL.find(({ name }) => name === id);
-const isEmbed = () => now.place.view === "embed";
+export const isEmbed = () => now.place.view === "embed";
 
 // The figure shows these lines, on the whole list or on one that lacks a check.
 export function takeBranch({ lines, opening, lacks = null, isFree = false }) {

@@ -26,10 +26,10 @@ function html() {
     change it.</p>`;
   const verb = seen === 0 ? "Begin" : seen < QUESTIONS.length ? "Go on" : "Once more";
   return `${head("", "Guess, then see", lead + (seen === 0 ? "" : score), "title")}<div class="cards">${QUESTIONS.map(cardOf).join("")}</div>
-    <h2>Beyond the chapter</h2><p class="prose">These lists have a fourth call, <b>ceiling</b>: the smallest number that is as big as the one
+    <h2>Seven more</h2><p class="prose">These lists have a fourth call, <b>ceiling</b>: the smallest number that is as big as the one
     that is asked for, or more. And each thread may add only so many numbers.</p>
     <div class="cards">${APPENDIX.map(cardOf).join("")}</div>
-    <footer class="foot"><a class="button quiet" href="#story=1">The path of fifteen minutes</a><span class="spread"></span>
+    <footer class="foot"><a class="button quiet" href="#story=1">The path of twenty minutes</a><span class="spread"></span>
     <a class="button primary" href="#ask=${next.name}">${verb} →</a></footer>`;
 }
 

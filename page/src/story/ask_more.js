@@ -1,4 +1,4 @@
-// Beyond the chapter: of ceiling, the smallest number that is as big as the one asked for, or more; and of the numbers that a thread may add.
+// Seven more: of ceiling, the smallest number that is as big as the one asked for, or more; and of the numbers that a thread may add.
 export const APPENDIX = [
   {
     name: "ceiling-in-anothers-step", list: "lazy", title: "ceiling, in another’s step", opening: [5],

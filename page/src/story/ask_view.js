@@ -3,27 +3,27 @@
 import { now } from "../page/now.js";
 import { QUESTIONS } from "./ask.js";
 import { drawBranches, goBack, openBranch, seeAgain, talkOfBranch, whatIf, withoutCheck } from "./ask_branches.js";
-import { ALL, itemOf, takeBranch } from "./ask_figure.js";
+import { ALL, isEmbed, itemOf, takeBranch } from "./ask_figure.js";
 import { isNarrow } from "./figure_parts.js";
 import { keepStory, keptStory } from "./kept_story.js";
 import { LiveRun } from "./live_run.js";
 import { FIGURE_AND_TALK, head, LIST_WORDS, numberOfKey, optionButtons, part, replyTo, scene, setScene, talk, threadOfKey } from "./scene.js";
 
 const here = () => itemOf(now.place);
-const isEmbed = () => now.place.view === "embed";
 
 function html(place) {
   const item = itemOf(place);
   const at = ALL.indexOf(item);
   const next = ALL[(at + 1) % ALL.length];
-  const which = QUESTIONS.includes(item) ? `${at + 1} of ${QUESTIONS.length}` : "beyond the chapter";
-  const kicker = `<a href="#ask">Guess, then see</a> · ${which} · ${LIST_WORDS[item.list]}`;
+  const which = QUESTIONS.includes(item) ? `${at + 1} of ${QUESTIONS.length}` : "one more";
+  const kicker = `${isEmbed() ? "Guess, then see" : '<a href="#ask">Guess, then see</a>'} · ${which} · ${LIST_WORDS[item.list]}`;
   const out = `<a class="button quiet small" target="_blank" href="${location.pathname}#ask=${item.name}">open in a page ↗</a>`;
+  const all = '<a class="button quiet" href="#ask">All questions</a>';
   return `<section class="screen">${head(kicker, `<span id="what-if-mark" class="what-if" hidden>What if?</span>${item.question}`)}
     <div id="branches" class="branches" hidden></div>${FIGURE_AND_TALK}</section>
-    <footer class="foot"><a class="button quiet" href="#ask">All questions</a><span class="spread"></span>${isEmbed() ? out : ""}
+    <footer class="foot">${isEmbed() ? "" : all}<span class="spread"></span>${isEmbed() ? out : ""}
     <button id="show-me" class="primary" data-do="show">${isNarrow() ? "Show me" : "I do not know: show me"}</button>
-    <a id="go-on" class="button quiet" href="#ask=${next.name}">Skip →</a></footer>`;
+    <a id="go-on" class="button quiet" href="#ask=${next.name}" ${isEmbed() ? "hidden" : ""}>Skip →</a></footer>`;
 }
 
 function begin(place) {

@@ -4,8 +4,7 @@ import { BOOK, BOOK_NAME } from "../../made/book.js";
 import { LACKING } from "../../made/classics.js";
 import { LISTS } from "../../made/rows.js";
 import { triedCourse } from "../course/lesson.js";
-import { levelOfNumber, numberOfLevel } from "../data/chapter.js";
-import { BREAK_LEVELS } from "../data/levels.js";
+import { BREAK_LEVELS, levelOfNumber, numberOfLevel } from "../data/levels.js";
 import { keptUnder } from "../page/kept.js";
 import { askNow } from "../page/now.js";
 import { addressOfAssignment } from "../page/scene_address.js";
@@ -14,7 +13,7 @@ import { NO_TASK } from "../run/broken.js";
 import { inLetters } from "../run/markup.js";
 import { eventsAsked } from "../run/schedule_text.js";
 import { partsOfSeed, scheduleOfSeed } from "../run/seed.js";
-import { brokenLines } from "./kept_story.js";
+import { brokenLines, keptStory } from "./kept_story.js";
 
 const known = { course: null };
 
@@ -55,10 +54,21 @@ function seedTask(seed) {
   return { id: `judge ${seed}`, kind: "Judge", title: `Run ${number}, ${LISTS[kind].name}`, says, href: `#seed=${seed}&judge`, seed };
 }
 
-// Whether a place, or the run that is judged there, is one of the tasks of an assignment.
-export function hasTask(given, { activity, id }, { kind, id: seed }) {
-  if (activity === "judge") return kind === "seed" && wordsIn(given.judge, ",").includes(seed);
-  return ["learn", "break"].includes(activity) && wordsIn(given[activity]).includes(id);
+// The assignment that was opened last, where a place, or the run that is judged there, is one of its tasks; else null.
+export function homeworkOf({ activity, id }, task = { kind: "", id: "" }) {
+  const { homework } = keptStory();
+  const isRun = activity === "judge" && task.kind === "seed";
+  if (homework === null || !(isRun || ["learn", "break"].includes(activity))) return null;
+  return wordsIn(homework.given[activity], isRun ? "," : ".").includes(isRun ? task.id : id) ? homework : null;
+}
+
+// Where a place leads on: a task of the assignment that was opened last to the next one or back to all, others their own way.
+export function wayOn({ activity, id }, own) {
+  const homework = homeworkOf({ activity, id });
+  if (homework === null) return own;
+  const { tasks } = tasksOf(homework.given);
+  const next = tasks[tasks.findIndex(({ href }) => href === `#${activity}=${id}`) + 1];
+  return next === undefined ? { href: addressOfAssignment(homework), words: "All tasks →" } : { href: next.href, words: "Next task →" };
 }
 
 // The tasks of an assignment, in order, and what its address names that there is not.

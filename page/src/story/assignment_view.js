@@ -5,9 +5,8 @@ import { saveText } from "../page/files.js";
 import { now } from "../page/now.js";
 import { counted, escaped, tag } from "../run/markup.js";
 import { linesDone, tasksOf } from "./assignment.js";
-import { copyText } from "./give.js";
 import { keepStory, keptStory, startAfresh } from "./kept_story.js";
-import { foot, head, part } from "./scene.js";
+import { copyText, foot, head, part } from "./scene.js";
 
 export const titleOfAssignment = ({ id }) => id || "Assignment";
 
@@ -28,7 +27,7 @@ const HAND = ({ student, number }, count) => `<section class="panel hand" id="ha
   <label>Student number <input id="hand-number" inputmode="numeric" value="${escaped(number)}"></label>
   <button data-do="copy">Copy the text</button><button data-do="save">Save as a file</button>
   <button class="quiet" data-do="afresh">Start afresh on this computer</button></div>
-  <p class="small" id="scene-told" role="status">The text has your ${count} solutions as schedules. Your teacher’s page runs each of them again.</p>
+  <p class="small" id="scene-told" role="status">The text has your ${counted(count, "solution")}. Your teacher’s page runs ${count === 1 ? "it" : "each of them"} again.</p>
   <details><summary>See the text</summary><pre id="hand-text"></pre></details></section>`;
 
 function html(place) {
@@ -37,7 +36,7 @@ function html(place) {
   const wrong = unknown.length === 0 ? "" : `<p class="again">This page does not know: ${escaped(unknown.join(", "))}. Tell your teacher.</p>`;
   const lead = `<p class="lead">${counted(tasks.length, "task")}, ${done.length} done in this browser. Come back by the same link: what is done stays ticked.</p>
     <progress max="${tasks.length || 1}" value="${done.length}" aria-label="${done.length} of ${tasks.length} done"></progress>${wrong}
-    <p class="small">New to this? <a href="#story=1">Why not just one lock?</a> Fifteen minutes, from nothing.</p>`;
+    <p class="small">New to this? <a href="#story=1">Why not just one lock?</a> Twenty minutes, from nothing.</p>`;
   const verb = done.length === 0 ? "Begin" : "Go on";
   const next = (task) => tag("a", { class: "button primary", href: task.href }, `${verb}: ${escaped(task.title)} →`);
   const bar = first === undefined ? foot("All done.", '<button class="primary" data-do="hand">Hand in ↑</button>') : foot("", next(first));

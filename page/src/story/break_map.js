@@ -1,7 +1,6 @@
-// Break it, the map: the lists that lack a check, in the order of the chapter.
+// Break it, the map: the lists that lack a check, the simplest first.
 import { LACKING } from "../../made/classics.js";
-import { BEYOND, CHAPTER, numberOfLevel } from "../data/chapter.js";
-import { BREAK_LEVELS } from "../data/levels.js";
+import { BREAK_LEVELS, THREE_MORE, TEN, numberOfLevel } from "../data/levels.js";
 import { drawCard } from "./ask_map.js";
 import { isBrokenOnce } from "./kept_story.js";
 import { foot, head, LIST_WORDS } from "./scene.js";
@@ -14,13 +13,13 @@ function cardOf(name) {
 }
 
 function html() {
-  const count = CHAPTER.filter(isBrokenOnce).length;
-  const next = CHAPTER.find((name) => !isBrokenOnce(name)) ?? CHAPTER[0];
-  const lead = `<p class="lead">Ten lists, in the order of the chapter. Each lacks one check. Let A and B step until a number is lost, or two
+  const count = TEN.filter(isBrokenOnce).length;
+  const next = TEN.find((name) => !isBrokenOnce(name)) ?? TEN[0];
+  const lead = `<p class="lead">Ten lists, from one lock to none. Each lacks one check. Let A and B step until a number is lost, or two
     answers cannot both be right. Then say what is missing.</p>`;
-  const score = count === 0 ? "" : `<p class="score"><b>${count}</b> of ${CHAPTER.length} broken</p>`;
-  return `${head("", "Break it", lead + score, "title")}<div class="cards">${CHAPTER.map(cardOf).join("")}</div>
-    <h2>Beyond the chapter</h2><div class="cards">${BEYOND.map(cardOf).join("")}</div>
+  const score = count === 0 ? "" : `<p class="score"><b>${count}</b> of ${TEN.length} broken</p>`;
+  return `${head("", "Break it", lead + score, "title")}<div class="cards">${TEN.map(cardOf).join("")}</div>
+    <h2>Three more</h2><div class="cards">${THREE_MORE.map(cardOf).join("")}</div>
     ${foot("", `<a class="button primary" href="#break=${numberOfLevel(next)}">${count === 0 ? "Begin" : "Go on"} →</a>`)}`;
 }
 

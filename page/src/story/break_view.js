@@ -2,17 +2,15 @@
 // missing. It is struck out of the code then, and the winning run is played once more.
 import { LACKING } from "../../made/classics.js";
 import { LISTS } from "../../made/rows.js";
-import { CHAPTER, levelOfNumber, numberOfLevel, whyWrong } from "../data/chapter.js";
-import { BREAK_LEVELS } from "../data/levels.js";
+import { BREAK_LEVELS, TEN, levelOfNumber, numberOfLevel, whyWrong } from "../data/levels.js";
 import { askNow, now } from "../page/now.js";
 import { addressOf } from "../run/address.js";
 import { departureOf, isTaskDone, NO_TASK } from "../run/broken.js";
+import { wayOn } from "./assignment.js";
 import { Figure } from "./figure.js";
 import { isBrokenOnce, isNamed, keepBrokenLine, keepNamed } from "./kept_story.js";
-import { runOfText } from "./run_of_text.js";
-import {
-  FIGURE_AND_TALK, drawLedger, foot, head, hintAndOn, isOddRun, LIST_WORDS, numberOfKey, optionButtons, part, scene, setScene, takeFigure, talk, threadOfKey,
-} from "./scene.js";
+import { runOfText } from "./live_run.js";
+import { FIGURE_AND_TALK, drawLedger, foot, head, hintAndOn, isOddRun, LIST_WORDS, numberOfKey, optionButtons, part, scene, setScene, takeFigure, talk, threadOfKey } from "./scene.js";
 
 const HINTS = 3;
 const levelOf = ({ id }) => levelOfNumber(id);
@@ -20,12 +18,12 @@ const nameNow = () => levelOf(now.place);
 
 function html(place) {
   const name = levelOf(place);
-  const at = CHAPTER.indexOf(name);
-  const next = CHAPTER[(at + 1) % CHAPTER.length];
-  const which = at === -1 ? "beyond the chapter" : `${at + 1} of ${CHAPTER.length}`;
+  const at = TEN.indexOf(name);
+  const next = TEN[(at + 1) % TEN.length];
+  const which = at === -1 ? "one more" : `${at + 1} of ${TEN.length}`;
   const kicker = `<a href="#break">Break it</a> · ${which} · ${LISTS[LACKING[name]].name} without one check`;
   return `<section class="screen">${head(kicker, BREAK_LEVELS[name].story)}${FIGURE_AND_TALK}</section>
-    ${foot('<a class="button quiet" href="#break">All lists</a>', hintAndOn(`#break=${numberOfLevel(next)}`))}`;
+    ${foot('<a class="button quiet" href="#break">All lists</a>', hintAndOn(wayOn(place, { href: `#break=${numberOfLevel(next)}`, words: "Next list →" })))}`;
 }
 
 function begin(place) {
@@ -112,7 +110,7 @@ function draw(state) {
   hint.hidden = isDone;
   hint.textContent = state.hints === 0 ? "Hint" : state.hints < HINTS ? "Another hint" : "Start over";
   const on = part("#go-on");
-  on.textContent = isDone ? "Next list →" : "Skip →";
+  on.textContent = isDone ? on.dataset.words : "Skip →";
   on.className = isDone ? "button primary ready" : "button quiet";
   if (isDone && isNamed(nameNow())) strike();
 }

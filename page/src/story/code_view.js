@@ -5,8 +5,7 @@ import { addressOfCode, linesOfCode, SET_OF_CODE, START_OF_CODE } from "../page/
 import { linkTo } from "../page/visit.js";
 import { tag } from "../run/markup.js";
 import { Figure } from "./figure.js";
-import { copyText } from "./give.js";
-import { head, LIST_WORDS, part, scene, setScene, takeFigure, threadOfKey } from "./scene.js";
+import { copyText, head, LIST_WORDS, part, scene, setScene, takeFigure, threadOfKey } from "./scene.js";
 
 const OPERATIONS = ["add", "remove", "contains"];
 const listOf = ({ id }) => (id in LISTS ? id : "lazy");

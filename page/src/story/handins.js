@@ -8,7 +8,7 @@ const stripped = (name) => name.replace(/^.*\//, "").replace(/\.[A-Za-z]+$/, "")
 
 // The name and the number of a student, as "Ada Lovelace (1234567)".
 function studentOf(text, file) {
-  const [, name, number] = /^(.*?)\s*(?:[([#]\s*(\w[\w-]{2,20})\s*[)\]]?)?\s*$/.exec(text ?? "") ?? [];
+  const [, name, number] = /^(.*?)\s*(?:[([#]\s*((?=\D*\d)\w[\w-]{0,20})\s*[)\]]?)?\s*$/.exec(text ?? "") ?? [];
   return { name: name || stripped(file), number: number ?? "" };
 }
 
@@ -22,10 +22,10 @@ export async function checkAll(files, tasks, tellProgress = (_at, _of) => {}) {
   for (const [index, text] of handed.entries()) {
     const read = readHandIn(text);
     const who = studentOf(read.student, text.file);
-    const key = who.number || who.name.toLowerCase();
-    const own = students.get(key) ?? { ...who, files: [], solved: new Map(), notes: [] };
+    const key = `${who.number} ${who.name.toLowerCase()}`;
+    const own = students.get(key) ?? { ...who, files: [], solved: new Map(), wrong: new Set(), notes: [] };
     students.set(key, own);
-    own.files.push(text.file);
+    if (!own.files.includes(text.file)) own.files.push(text.file);
     own.notes.push(...read.faults.map(({ line, fault }) => `line ${line}: ${fault}`));
     const lessons = (courses.find(({ name }) => name === read.course) ?? courses[0]).lessons;
     for (const { line } of read.solutions) judgePart(own, lessons, line, tasks ?? []);
@@ -34,6 +34,7 @@ export async function checkAll(files, tasks, tellProgress = (_at, _of) => {}) {
   }
   const rows = [...students.values()].sort((one, other) => one.name.localeCompare(other.name));
   noteSame(rows);
+  noteNumbers(rows);
   const columns = tasks === null ? columnsOf(rows) : tasks.map(({ id, title }) => ({ id, title }));
   return { rows, columns, empty };
 }
@@ -43,7 +44,10 @@ function judgePart(own, lessons, line, tasks) {
   const task = line.startsWith("judge ") ? (taskOfJudged(line, tasks)?.id ?? verdict.task) : verdict.task;
   const isOwn = verdict.schedule !== undefined && !verdict.isVeryAnswer; // what two may have in common only by copying
   if (verdict.isSolved) own.solved.set(task, isOwn ? verdict.schedule : null);
-  else own.notes.push(`${task ?? line.slice(0, 40)}: ${verdict.says}`);
+  else {
+    own.wrong.add(task);
+    own.notes.push(`${task ?? line.slice(0, 40)}: ${verdict.says}`);
+  }
   if (verdict.isVeryAnswer) own.notes.push(`${task}: the very answer of the lesson`);
   if (verdict.ofExample) own.notes.push(`${task}: the very run of an example`);
 }
@@ -51,6 +55,16 @@ function judgePart(own, lessons, line, tasks) {
 function columnsOf(rows) {
   const ids = new Set(rows.flatMap(({ solved }) => [...solved.keys()]));
   return [...ids].sort().map((id) => ({ id, title: id }));
+}
+
+// What a row has of a task: solved, wrong, or nothing.
+export const markOf = ({ solved, wrong }, { id }) => (solved.has(id) ? "solved" : wrong.has(id) ? "wrong" : "none");
+
+function noteNumbers(rows) {
+  for (const row of rows) {
+    const names = rows.filter(({ number }) => number !== "" && number === row.number).map(({ name }) => name);
+    if (names.length > 1) row.notes.unshift(`two names for one number: ${names.join(", ")}`);
+  }
 }
 
 // Who handed in the same schedules, to the byte, of the same tasks.
@@ -86,8 +100,8 @@ export function csvOf({ rows, columns }) {
   };
   const head = ["student", "number", ...columns.map(({ title }) => title), "solved", "of", "same schedules as", "notes", "files"];
   const line = (row) => {
-    const marks = columns.map(({ id }) => (row.solved.has(id) ? 1 : 0));
-    const solved = marks.reduce((sum, one) => sum + one, 0);
+    const marks = columns.map((column) => ({ solved: 1, wrong: 0, none: "" })[markOf(row, column)]);
+    const solved = marks.filter((mark) => mark === 1).length;
     return [row.name, row.number, ...marks, solved, columns.length, sameText(row), row.notes.join(" | "), row.files.join(" ")];
   };
   return `${[head, ...rows.map(line)].map((cells) => cells.map(cell).join(",")).join("\r\n")}\r\n`;

@@ -1,14 +1,15 @@
 // For teachers: the files of a class are dropped, and checked here; a table of students and tasks, and the same as CSV.
 import { saveText } from "../page/files.js";
 import { linkTo } from "../page/visit.js";
-import { escaped, tag } from "../run/markup.js";
+import { counted, escaped, tag } from "../run/markup.js";
 import { tasksOf } from "./assignment.js";
-import { checkAll, csvOf, sameText } from "./handins.js";
+import { checkAll, csvOf, markOf, sameText } from "./handins.js";
 import { part } from "./scene.js";
 
 const MOST_BYTES = 2_000_000; // of a file
 const MOST_NOTES = 2; // that the table has of a student; the CSV has all
 const given = { files: [], tooLong: [], result: null };
+const MARKS = { solved: '<b class="yes">✓</b>', wrong: '<b class="no" title="handed in, and wrong">✗</b>', none: "–" };
 const piece = (name) => part(`#in-${name}`);
 
 export const handInsHtml = () => `<section class="panel" id="handins"><h2>What they handed in</h2>
@@ -86,9 +87,10 @@ function notesOf(row) {
 }
 
 function drawRow(row, columns) {
-  const mark = ({ id }) => `<td class="mark">${row.solved.has(id) ? '<b class="yes">✓</b>' : '<span class="no">–</span>'}</td>`;
-  const count = columns.filter(({ id }) => row.solved.has(id)).length;
-  return `<tr><th scope="row">${escaped(row.name)}</th><td>${escaped(row.number)}</td>${columns.map(mark).join("")}
+  const marks = columns.map((column) => markOf(row, column));
+  const cells = marks.map((mark) => `<td class="mark">${MARKS[mark]}</td>`).join("");
+  const count = marks.filter((mark) => mark === "solved").length;
+  return `<tr><th scope="row">${escaped(row.name)}</th><td>${escaped(row.number)}</td>${cells}
     <td class="mark"><b>${count}</b></td><td class="notes">${notesOf(row)}</td></tr>`;
 }
 
@@ -96,7 +98,9 @@ function drawResult({ rows, columns, empty }) {
   const full = rows.filter(({ solved }) => columns.every(({ id }) => solved.has(id))).length;
   const odd = [["Without a hand-in", empty], ["Too long", given.tooLong]].filter(([, names]) => names.length > 0);
   const wrong = odd.map(([what, names]) => tag("span", { class: "odd" }, `${what}: ${escaped(names.join(", "))}.`)).join(" ");
-  piece("told").innerHTML = `<b>${rows.length} students</b>, ${full} with all ${columns.length} tasks. ${wrong}`;
+  const merged = rows.reduce((sum, { files }) => sum + files.length - 1, 0);
+  const files = `${counted(given.files.length + given.tooLong.length, "file")}: <b>${counted(rows.length, "student")}</b>`;
+  piece("told").innerHTML = `${files}, ${merged} merged, ${empty.length} without a hand-in. ${full} with all ${columns.length} tasks. ${wrong}`;
   const heads = ["Student", "Number", ...columns.map(({ title }) => title), "Solved", "Notes"].map((name) => `<th scope="col">${escaped(name)}</th>`);
   const body = rows.map((row) => drawRow(row, columns)).join("");
   piece("table").innerHTML = `<table class="class"><thead><tr>${heads.join("")}</tr></thead><tbody>${body}</tbody></table>`;
@@ -110,4 +114,4 @@ function clear() {
   piece("files").value = "";
 }
 
-export const handInDeeds = { csv: () => saveText("hand-ins.csv", csvOf(given.result), "text/csv"), clear };
+export const handInDeeds = { csv: () => saveText("hand-ins.csv", `\ufeff${csvOf(given.result)}`, "text/csv"), clear };

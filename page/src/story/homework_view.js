@@ -6,8 +6,7 @@ import { linkTo } from "../page/visit.js";
 import { escaped, tag } from "../run/markup.js";
 import { seedOf } from "../run/seed.js";
 import { addressOfTasks, allLevels, bookCourse } from "./assignment.js";
-import { copyText } from "./give.js";
-import { part } from "./scene.js";
+import { copyText, part } from "./scene.js";
 
 const FIRST_NUMBER = 17;
 const work = { seeds: [] };

@@ -10,8 +10,7 @@ const namesKept = (kept) => (Array.isArray(kept) ? kept.filter(isText) : []);
 
 export class KeptLessons {
   constructor() {
-    const kept = keptUnder(LESSONS_KEPT) ?? { isOpen: false, of: { [BOOK_NAME]: keptUnder(LESSONS_KEPT_BEFORE) } };
-    this.isOpen = kept.isOpen === true;
+    const kept = keptUnder(LESSONS_KEPT) ?? { of: { [BOOK_NAME]: keptUnder(LESSONS_KEPT_BEFORE) } };
     this.student = isText(kept.student) ? kept.student : "";
     this.course = isText(kept.course) ? kept.course : BOOK_NAME;
     this.courses = new Map(textsKept(kept.courses));
@@ -26,16 +25,15 @@ export class KeptLessons {
 
   // Whether the browser keeps it.
   save() {
-    const { isOpen, student, course } = this;
-    const toObject = ({ chosen, solutions, looked }) => ({ chosen, solutions: Object.fromEntries(solutions), looked: [...looked] });
+    const { student, course } = this;
+    const toObject = ({ solutions, looked }) => ({ solutions: Object.fromEntries(solutions), looked: [...looked] });
     const of = Object.fromEntries([...this.of].map(([name, own]) => [name, toObject(own)]));
-    return keepUnder(LESSONS_KEPT, { isOpen, student, course, courses: Object.fromEntries(this.courses), of });
+    return keepUnder(LESSONS_KEPT, { student, course, courses: Object.fromEntries(this.courses), of });
   }
 }
 
 function ownOf(kept) {
   return {
-    chosen: isText(kept?.chosen) ? kept.chosen : "",
     solutions: new Map(textsKept(kept?.solutions)),
     looked: new Set(namesKept(kept?.looked)),
   };

@@ -23,7 +23,7 @@ export const keepNamed = (name) => keepUnder(NAMED, [...new Set([...(keptUnder(N
 export function startAfresh(button) {
   if (button.dataset.isSure !== "yes") {
     button.dataset.isSure = "yes";
-    button.textContent = "Press again: all that is kept here goes";
+    button.textContent = "Press again: answers, solutions and names kept here go";
     return;
   }
   change("text", { text: "" }); // and is not kept anew
@@ -32,6 +32,6 @@ export function startAfresh(button) {
   } catch {
     // nothing is kept in this browser
   }
-  location.hash = "#story=1";
+  location.hash = "#story=1&gone=yes"; // the first screen says so
   location.reload();
 }

@@ -19,7 +19,7 @@ function html() {
   const next = panel.firstUnsolved() ?? lessons[0];
   const lead = `<p class="lead">In each lesson you choose which thread makes the next step, until the run shows what is asked. There is more
     than one way.</p>${count === 0 ? "" : `<p class="score"><b>${count}</b> of ${lessons.length} solved</p>`}`;
-  const back = isBook ? "" : '<p><button id="lesson-book" data-do="book">Back to the twelve lessons of the book</button></p>';
+  const back = isBook ? "" : '<p><button id="lesson-book" data-do="book">Back to the twelve lessons</button></p>';
   const on = tag("a", { class: "button primary", href: `#learn=${next.name}` }, `${count === 0 ? "Begin" : "Go on"} →`);
   return `${head("", isBook ? "Solve it" : escaped(name), lead, "title")}<div class="cards">${lessons.map(cardOf).join("")}</div>
     ${back}<div id="learn-folds"></div>${foot("", on)}`;

@@ -5,33 +5,34 @@ import { setHtml } from "../page/dom.js";
 import { now } from "../page/now.js";
 import { versionOf } from "../run/schedule_text.js";
 import { escaped, inLetters, tag } from "../run/markup.js";
+import { wayOn } from "./assignment.js";
 import { Figure } from "./figure.js";
 import { learning } from "./learning.js";
-import { linesOf } from "./live_run.js";
-import { runOfText } from "./run_of_text.js";
+import { linesOf, runOfText } from "./live_run.js";
 import { FIGURE_AND_TALK, foot, head, hintAndOn, LIST_WORDS, part, scene, setScene, takeFigure, talk, threadOfKey } from "./scene.js";
 
 const HINT = 1; // of `hints`, in the scene: the hint is shown; the answer is shown
 const ANSWER = 2;
 const shown = { verdict: null, ticks: new Set() }; // of the run that is shown, and what was met before
 
-function html({ id }) {
+function html(place) {
   const { panel } = learning;
-  const lesson = panel.lessonNamed(id);
+  const lesson = panel.lessonNamed(place.id);
   const { lessons, name } = panel.course;
   const at = lessons.indexOf(lesson);
   const next = lessons[at + 1];
+  const own = next === undefined ? { href: "#learn", words: "All lessons →" } : { href: `#learn=${next.name}`, words: "Next lesson →" };
   const numbers = lesson.opening.length === 0 ? "no numbers at first" : `${lesson.opening.join(", ")} at first`;
   const kicker = `<a href="#learn">${escaped(name)}</a> · ${at + 1} of ${lessons.length} · ${LIST_WORDS[lesson.list]}, ${numbers}`;
   const asked = `<p class="asked">${escaped(inLetters(lesson.question))}</p>`;
   const goal = '<div class="goal"><p class="kicker">A solution shows</p><div id="goal" aria-live="polite"></div></div>';
   return `<section class="screen"><div class="two">${head(kicker, escaped(lesson.title), asked)}${goal}</div>${FIGURE_AND_TALK}</section>
-    ${foot('<a class="button quiet" href="#learn">All lessons</a>', hintAndOn(`#learn${next === undefined ? "" : `=${next.name}`}`))}`;
+    ${foot('<a class="button quiet" href="#learn">All lessons</a>', hintAndOn(wayOn(place, own)))}`;
 }
 
 function begin({ id, given }) {
   const { panel } = learning;
-  panel.choose(panel.lessonNamed(id));
+  panel.lesson = panel.lessonNamed(id);
   const { lesson } = panel;
   const own = given.text ?? panel.lastTry();
   Object.assign(shown, { verdict: null, ticks: new Set() });
@@ -119,7 +120,7 @@ function draw(state) {
   hint.hidden = isDone;
   if (hint.textContent !== words) hint.textContent = words;
   const on = part("#go-on");
-  on.textContent = !isDone ? "Skip →" : learning.panel.after() === undefined ? "All lessons →" : "Next lesson →";
+  on.textContent = isDone ? on.dataset.words : "Skip →";
   on.className = isDone ? "button primary ready" : "button quiet";
 }
 

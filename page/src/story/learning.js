@@ -19,13 +19,13 @@ class Learning {
     this.takeCourse(course.faults.length === 0 ? course : bookCourse());
   }
 
-  // Takes a course without faults, and the lesson that was chosen in it last. Its link is packed meanwhile.
+  // Takes a course without faults. Its link is packed meanwhile.
   takeCourse(course) {
     this.course = course;
     this.kept.course = course.name;
     this.own = this.kept.ofCourse(course.name);
     if (course.name !== BOOK_NAME) this.kept.courses.set(course.name, course.text);
-    this.lesson = course.lessons.find(({ name }) => name === this.own.chosen) ?? course.lessons[0];
+    this.lesson = course.lessons[0];
     visit.course = null;
     if (course.name === BOOK_NAME) return;
     const take = (address) => this.course === course && (visit.course = address);
@@ -49,21 +49,12 @@ class Learning {
     return undefined;
   }
 
-  choose(lesson) {
-    this.lesson = lesson;
-    this.own.chosen = lesson.name;
-  }
-
   isSolved(name) {
     return this.own.solutions.has(name);
   }
 
   firstUnsolved() {
     return this.course.lessons.find(({ name }) => !this.isSolved(name));
-  }
-
-  after() {
-    return this.course.lessons[this.course.lessons.indexOf(this.lesson) + 1];
   }
 
   // ---- the tries: each is kept among the works, under the name of its lesson

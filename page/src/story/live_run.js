@@ -4,7 +4,7 @@ import { askNow } from "../page/now.js";
 import { askList, verdictOnLacking } from "../run/broken.js";
 import { scheduleOfDraft } from "../run/draft.js";
 import { isFailed, isLock } from "../run/outcomes.js";
-import { scheduleOfTrace, titleOf } from "../run/schedule_text.js";
+import { openingIn, scheduleOfTrace, titleOf } from "../run/schedule_text.js";
 import { keysInChain, promisedKeys, State } from "../run/state.js";
 import { isTrace, Trace } from "../run/trace.js";
 import { joinedRows, phaseAt } from "./phases.js";
@@ -12,6 +12,17 @@ import { joinedRows, phaseAt } from "./phases.js";
 const MOST_STEPS = 80; // of one call, in the short lists of the story
 
 export const linesOf = (schedule) => schedule.split("\n").filter((line) => /^(begin|go) /.test(line));
+
+// A schedule's text as what a figure begins with.
+export function runOfText(text) {
+  const valueOf = (word) => new RegExp(`^${word} (.*)$`, "m").exec(text)?.[1];
+  return {
+    threads: Number(valueOf("threads")),
+    quota: Number(valueOf("quota")),
+    opening: openingIn(text).map(Number),
+    lines: linesOf(text),
+  };
+}
 
 // A run at one of its moments.
 export class ShownRun {

@@ -1,9 +1,9 @@
-// What stands on each screen of the path: the names of the screens, the front door, the bar.
+// What stands on the screens of the path: their names, the front door, the bar, and the last screen.
 import { tag } from "../run/markup.js";
-import { SCREENS } from "./path.js";
+import { LISTS_AT_END, SCREENS } from "./path.js";
 
 export const HERO = `<div class="hero"><p class="kicker">Concurrent lists, from nothing</p><p class="title">Why not just one lock?</p>
-  <p class="lead">Two threads share one list. In fifteen minutes you break it, mend it, and meet the five list sets of Herlihy and Shavit.
+  <p class="lead">Two threads share one list. In twenty minutes you break it, mend it, and meet the five list sets of Herlihy and Shavit.
   You press, and the threads step. You need no book.</p></div>`;
 
 export function dots(number, done) {
@@ -20,8 +20,47 @@ export function dots(number, done) {
 export const barHtml = (number) => `<footer class="foot"><button class="quiet" data-do="back" ${number === 1 ? "hidden" : ""}>← Back</button>
   <span class="spread"></span><button id="show-me" data-do="show"></button><button id="go-on" data-do="on"></button></footer>`;
 
+export const GONE = '<p class="welcome" role="status">All that was kept here is gone.</p>';
+
 export function welcome(done) {
   const count = SCREENS.filter(({ id }) => done[id]).length;
   const words = `Welcome back: you have done ${count} of ${SCREENS.length}. You are where you stopped.`;
   return `<p class="welcome">${words} <a href="#story=1">From the start</a></p>`;
+}
+
+// ---- the last screen: what was met, and where to go from here
+
+export const LAST = SCREENS.length + 1; // the number of the last screen
+
+const WAYS = [
+  ["#ask", "Guess, then see", "Runs that stop at the question. What comes next, and why?"],
+  ["#code=lock-free", "Step by the code", "Any list, any calls: press a line, and its thread makes it."],
+  ["#break", "Break it", "Lists that lack one check each. Find a run that shows it."],
+  ["#learn", "Solve it", "Twelve lessons: choose the steps until the run shows what is asked."],
+  ["#teachers", "Teach it", "A lecture of 45 minutes, homework in one link, hand-ins checked."],
+];
+
+const TRUTH = `<details class="truth"><summary>How true is this?</summary><p>Each step that you saw was computed by a program that is proved by
+  machine to run these lists step by step. “Lost” is said only if a proved judge finds that no order of the calls explains their answers and
+  what is left. The list of screens 1 and 2 is CoarseList, with its lock ignored; that of screen 5 is OptimisticList without its second walk.
+  That the page draws what the program says is only tested. <a href="#read">More</a></p></details>`;
+
+function rowOfList([name, list, waits, needs, id]) {
+  const number = SCREENS.findIndex((screen) => screen.id === id) + 1;
+  return `<tr><th scope="row"><a href="#story=${number}">${name}</a> <span class="small">${list}</span></th><td>${waits}</td><td>${needs}</td></tr>`;
+}
+
+export function endHtml(done) {
+  const count = SCREENS.filter(({ id }) => done[id]).length;
+  const ways = WAYS.map(([href, name, says]) => tag("a", { class: "way", href }, tag("b", {}, name), tag("span", {}, says)));
+  return `<section class="screen end"><h1 class="title" tabindex="-1">So, why not just one lock?</h1>
+    <p class="lead">Because while one thread works, all others wait. Each list saves a part of that waiting, and pays for it with one more
+    check. Leave the check out, and numbers get lost.</p>
+    <table class="five"><thead><tr><th>The list</th><td>Who waits?</td><td>What does it need for that?</td></tr></thead>
+    <tbody>${LISTS_AT_END.map(rowOfList).join("")}</tbody></table>
+    <h2>You have done ${count} of ${SCREENS.length}. And now?</h2><div class="ways">${ways.join("")}</div>
+    <p class="prose">And faster? Not always. With four threads and 64 numbers, this lock-free list was almost twice as fast as a balanced tree
+    behind one lock; with 1,000 numbers it was slower. One lock is a good answer, until it is not.</p>${TRUTH}</section>
+    <footer class="foot"><button class="quiet" data-do="back">← Back</button><span class="spread"></span>
+    <button class="quiet" data-do="afresh">Start afresh</button><a class="button primary" href="#ask">Guess, then see →</a></footer>`;
 }

@@ -4,8 +4,7 @@ import { Figure } from "./figure.js";
 import { isNarrow } from "./figure_parts.js";
 import { keepStory, keptStory, startAfresh } from "./kept_story.js";
 import { SCREENS } from "./path.js";
-import { barHtml, dots, HERO, welcome } from "./path_parts.js";
-import { endHtml, LAST } from "./path_end.js";
+import { barHtml, dots, endHtml, GONE, HERO, LAST, welcome } from "./path_parts.js";
 import { FIGURE_AND_TALK, drawLedger, head, numberOfKey, optionButtons, part, replyTo, scene, setScene, takeFigure, talk, threadOfKey } from "./scene.js";
 
 const numberOf = ({ id }) => Math.max(1, Math.min(LAST, Number(id) || 1));
@@ -21,7 +20,7 @@ function html(place) {
   const number = numberOf(place);
   const { done } = keptStory();
   const screen = screenOf(place);
-  const path = dots(number, done) + (place.given.back === "yes" ? welcome(done) : "");
+  const path = dots(number, done) + (place.given.gone === "yes" ? GONE : place.given.back === "yes" ? welcome(done) : "");
   if (screen === null) return path + endHtml(done);
   const question = head("", screen.question, `<p class="prose">${screen.prose}</p>`);
   const top = number === 1 ? `<div class="two">${HERO}${question}</div>` : question;

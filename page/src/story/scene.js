@@ -3,6 +3,7 @@
 // A button with `data-do` does the deed of its view that has this name.
 import { change, dispatch, now } from "../page/now.js";
 import { byId, setHtml } from "../page/dom.js";
+import { copied } from "../page/visit.js";
 import { tag } from "../run/markup.js";
 import { isNarrow } from "./figure_parts.js";
 
@@ -29,6 +30,11 @@ export const titleOfScene = (place) => viewOf(place).title(place);
 export const faultOfScene = (place) => viewOf(place).fault?.(place) ?? null;
 export const isScene = ({ place }) => place.screen === "scene";
 export const setScene = (given) => dispatch("scene", given);
+
+// Copies a text and says so, or shows it, to be copied by hand.
+export async function copyText(text, words) {
+  part("#scene-told").textContent = (await copied(text)) ? words : `Copy this by hand: ${text}`;
+}
 
 // What is said below the figure. What is new comes in sight, above the bar at the bottom.
 export function talk(html) {
@@ -113,8 +119,8 @@ export const head = (kicker, title, more = "", kind = "") =>
 export const FIGURE_AND_TALK = '<div id="figure"></div><div id="talk" class="talk" aria-live="polite"></div>';
 
 // The buttons of a task at its right: a hint, and on to the next one.
-export const hintAndOn = (next) =>
-  `<button id="hint" class="primary" data-do="hint"></button>${tag("a", { id: "go-on", class: "button quiet", href: next }, "Skip →")}`;
+export const hintAndOn = ({ href, words }) =>
+  `<button id="hint" class="primary" data-do="hint"></button>${tag("a", { id: "go-on", class: "button quiet", href, "data-words": words }, "Skip →")}`;
 
 // The bar at the bottom.
 export const foot = (left, right) => tag("footer", { class: "foot" }, left, tag("span", { class: "spread" }), right);

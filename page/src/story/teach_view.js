@@ -4,21 +4,24 @@ import { OWN_COURSE } from "../data/own_course.js";
 import { linkTo } from "../page/visit.js";
 import { escaped, tag } from "../run/markup.js";
 import { QUESTIONS } from "./ask.js";
-import { copyText } from "./give.js";
 import { beginHandIns, handInDeeds, handInsHtml } from "./handins_view.js";
 import { beginHomework, homeworkDeeds, homeworkHtml } from "./homework_view.js";
 import { startAfresh } from "./kept_story.js";
-import { head, part } from "./scene.js";
+import { copyText, head, part } from "./scene.js";
 
 // Of each slide its minutes, its title, its address, and what to ask.
 /** @type {[number, string, string, string][]} */
 const LECTURE = [
-  [2, "Lose a number", "#story=2&view=lecture", "No lock. Let the class call out A or B until a number is lost."],
-  [3, "One lock", "#story=3&view=lecture", "A has the lock and is stopped. How far does B get? Let the class guess, then press 1, 2 or 3."],
-  [5, "Why a second walk", "#ask=stale-pred&view=lecture", "May A write? After the answer, press “And without this check?”: 5 is lost."],
-  [4, "In another thread’s step", "#ask=read-in-anothers-step&view=lecture", "A will answer false. When is that right? In a step of B."],
+  [4, "Lose a number", "#story=2&view=lecture", "No lock. Let the class call out A or B until a number is lost."],
+  [4, "One lock", "#story=3&view=lecture", "A has the lock and is stopped. How far does B get? Let the class guess, then press 1, 2 or 3."],
+  [5, "FineList: hand over hand", "#story=4&view=lecture", "A has locked 3 and 7. How far does B get now? Then let B follow A, node by node."],
+  [5, "A walk without locks", "#story=5&view=lecture", "Both lock what they change, and 5 gets lost all the same. Let the class find the order."],
+  [6, "Why a second walk", "#ask=stale-pred&view=lecture", "May A write? After the answer, press “And without this check?”: 5 is lost."],
+  [5, "LazyList: a mark", "#story=7&view=lecture", "B has marked 5, and its node is still in the chain. What may A answer?"],
+  [5, "In another thread’s step", "#ask=read-in-anothers-step&view=lecture", "A will answer false. When is that right? In a step of B."],
   [3, "Who waits?", "#sides=coarse.lazy&quota=4&calls=0.add.5,1.contains.5&turns=0.0.0.0&view=lecture",
     "Press B three times: LazyList has answered, CoarseList tries its lock."],
+  [5, "LockFreeList: compare-and-set", "#story=9&view=lecture", "Two removes of 5, no lock. Who comes first? Let the class decide, then step A and B."],
   [3, "Everybody judges", "#seed=lazy.2.5.2.17&judge", "Write the link on the board. All get the same run, without its answers."],
 ];
 const PANELS = { slides: "Lecture", embed: "Embed", homework: "Homework", handins: "Hand-ins", own: "Your own lessons" };
@@ -69,7 +72,7 @@ const OWN = `<section class="panel" id="own"><h2>Lessons of your own</h2>
 
 function html() {
   const jump = ([id, name]) => tag("button", { class: "quiet", "data-do": "jump", "data-panel": id }, name);
-  const lead = `<p class="lead">A lecture of twenty minutes, figures for your own pages, homework as one link, and hand-ins that check themselves.
+  const lead = `<p class="lead">A lecture of 45 minutes, figures for your own pages, homework as one link, and hand-ins that check themselves.
     No account, no server: all of it happens in the browser.</p><p class="jump">${Object.entries(PANELS).map(jump).join("")}</p>`;
   return `${head("", "For teachers", lead, "title")}${lectureHtml()}${embedHtml()}${homeworkHtml()}${handInsHtml()}${OWN}
     <footer class="foot"><span id="scene-told" class="small" role="status"></span><span class="spread"></span>

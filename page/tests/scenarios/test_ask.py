@@ -65,6 +65,9 @@ def test_a_frame_in_another_page(visitor):
     assert visitor.script(seen) == [True, True, True, True, False, True]
     visitor.script("document.querySelector('iframe').contentDocument.querySelectorAll('[data-option]')[1].click()")
     visitor.wait("return document.querySelector('iframe').contentDocument.querySelector('.reveal') !== null")
+    leaves = "it.getClientRects().length > 0 && it.target !== '_blank'"
+    links = f"return [...document.querySelector('iframe').contentDocument.links].filter((it) => {leaves}).length"
+    assert visitor.script(links) == 0  # nothing leads out of the frame
     visitor.settle()
     visitor.open()
     visitor.wait("return location.hash.includes('story=2')")  # what was looked at in a frame is not where one was

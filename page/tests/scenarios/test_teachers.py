@@ -69,6 +69,30 @@ def test_a_class_is_checked(visitor):
     assert csv == 1
     rows = visitor.wait("return window.csv").splitlines()
     assert len(rows) == 41 and rows[0].startswith("student,number,")
+    assert "41 files: 40 students, 0 merged, 1 without a hand-in." in visitor.text("#in-told") and "✗" in visitor.text(".class tbody")
+
+
+def test_two_names_for_one_number_are_two_rows(visitor):
+    text = "listset-lessons 2\ncourse The twelve lessons of the five lists\nstudent {}\nend\n"
+    names = ["Anna Abel (12)", "Hana Gök (12)", "Bo (7)", "bo (7)", "Cy (MSc)"]
+    visitor.open("#teachers")
+    dropped(visitor, [[f"{at}.txt", text.format(name)] for at, name in enumerate(names)])
+    visitor.wait("return document.querySelectorAll('.class tbody tr').length === 4")
+    assert "5 files: 4 students, 1 merged, 0 without a hand-in." in visitor.text("#in-told")
+    assert visitor.text(".class tbody").count("two names for one number: Anna Abel, Hana Gök") == 2
+
+
+def test_a_task_leads_to_the_next_task(visitor):
+    visitor.open(LINK)
+    visitor.open("#learn=one-lock")
+    assert visitor.script("return document.getElementById('go-on').hash") == "#learn=lost-pred"
+    visitor.open("#break=7")
+    assert visitor.script("return document.getElementById('go-on').hash") == "#seed=lazy.2.5.2.17&judge"
+    visitor.open("#learn=two-at-once")
+    assert "seed" not in visitor.script("return document.getElementById('go-on').hash")
+    visitor.open("#seed=lazy.2.5.2.17&judge")
+    visitor.press("Right")
+    assert visitor.event() == 1 and visitor.script("return document.getElementById('judge-level').value") == "replies"
 
 
 def test_start_afresh(visitor):
@@ -79,6 +103,7 @@ def test_start_afresh(visitor):
     assert "Press again" in visitor.text("#own [data-do=afresh]")
     visitor.click("#own [data-do=afresh]")
     visitor.wait("return location.hash === '#story=1' && document.body.dataset.ready === 'yes'")
+    assert visitor.text(".welcome") == "All that was kept here is gone."
     visitor.open("#assignment=x&learn=one-lock")
     assert visitor.script("return document.getElementById('hand-student').value") == ""
 
@@ -86,7 +111,7 @@ def test_start_afresh(visitor):
 def test_the_slides_of_the_lecture_open(visitor):
     visitor.open("#teachers")
     slides = visitor.script("return [...document.querySelectorAll('.plan a')].map((it) => it.getAttribute('href'))")
-    assert len(slides) == 6
+    assert len(slides) == 10
     visitor.size(1280, 720)
     visitor.size(1280, 720 + visitor.script("return 720 - innerHeight"))  # the window has a frame
     for slide in slides:
