@@ -9,7 +9,7 @@ from lists import TOP, lists
 CRATES = TOP / "crates"
 READS = "lset_loops/src/reads.rt"
 WITH_LOOPS = [it for it in lists() if (CRATES / f"lset_loops/src/{it.table}.rt").is_file()]  # (of others the interpreter makes the calls)
-LISTS = {it.table: [f"lset_loops/src/{it.table}.rt", *[READS] * it.has_reads()] for it in WITH_LOOPS}
+LISTS = {it.table: [] for it in lists()} | {it.table: [f"lset_loops/src/{it.table}.rt", *[READS] * it.has_reads()] for it in WITH_LOOPS}
 OF_THE_INTERPRETER = {23, 24, 25}
 BEGINS = ("begin_at_head", "begin_locked")  # the first step of a call
 STEP = re.compile(r"\bcaller\.(\w+)(?:::<N>)?\(place")
