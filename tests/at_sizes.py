@@ -43,7 +43,7 @@ class Asked:
             started = [sys.executable, "-ISc", STARTER, taken, seconds, self.program, *words]
             done = subprocess.run([*map(str, started)], stdin=stdin, capture_output=True, text=True, timeout=600)
         ended, *used = json.loads(taken.read_text())
-        name = f"{' '.join(map(str, words))} of {text[:60]!r}"
+        name = f"{' '.join(map(str, words))} {status} of {text[:60]!r}"
         assert (ended, done.stderr) == (status, error and f"listset: {error}\n"), name
         self.taken[size][re.sub("[0-9]+", "N", name)] = used
         return done.stdout
@@ -228,5 +228,6 @@ def test_limits(asked, few, commands, most, made, error):
     draw = random.Random(f"{commands} {most}")
     if few and most > 100_000 and draw.random() < 0.8:
         pytest.skip("a tenth of these limits is tried")
-    asked.says(*draw.choice(commands).split(), text=made(most))
+    for command in commands:
+        asked.says(*command.split(), text=made(most))
     asked.says(*draw.choice(commands).split(), text=made(most + 1), status=1, error=error)

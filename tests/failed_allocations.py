@@ -38,7 +38,8 @@ show two-removers.broken.report | show --svg open-call.schedule | show --svg --f
 trace version-1-opening.schedule | trace --chain OPENING | trace --chain TRIES | trace --chain CHAIN | trace --lacks lock OPENING |
 replay --lacks lock ENDED | show --lacks lock ENDED | draft ../../tests/transcripts/data/drafts/ceiling-meets-mark.draft |
 draft one-add.schedule | example | example snip | example --broken full | gen fine 2 4 12 8 1 | gen skip | run coarse 1 4 6 8 1 2 |
-run lock-free 1 4 20 40 1 2 | faults | --version
+run lock-free 1 4 20 40 1 2 | faults | --version | show opens-with-keys.report | show --svg stale-pred.broken.report | trace OPENING |
+example --broken stale-pred
 """
 
 LAST_CALL = "still to be refused"

@@ -163,8 +163,18 @@ def test_a_verdict_and_what_is_said_of_it(program, few, seed):
         if change := re.search(r"moment (\d+) the key is (not )?there, by this change:\n(call .*)", done.stdout):
             turns = [it for it in judged.of_key[judged.key] if it.word == ("remove" if change[2] else "add") and it.reply == "true"]
             assert change[3] == call_line(max((it for it in turns if it.end <= int(change[1])), key=lambda it: it.end)), text
+        of_key, there = judged.of_key.get(judged.key, []), bool(shown) and "the key is not there" not in shown[0]
+        if shown:
+            since, told = int((re.match(r"after .* moment (\d+) ", shown[0]) or "00")[1]), "\n".join(shown).partition("no order")[2]
+            later = [it for it in of_key if since < it.begin <= (judged.moment or LAST)]
+            later = [it if f"{call_line(it)}\n" in f"{told}\n" else it._replace(end=None, reply=None) for it in later if changes(it) or call_line(it) in told]
+            ways = ways_left(later, there)
+            assert ways_left([it for it in of_key if (it.end or LAST) <= since], judged.key in judged.opening) == {there}, text
+            assert "belong to these" in told or (not ways if judged.moment else (judged.key in judged.keys) not in ways), text
+        found["without a window"] += is_refused and bool(of_key) and not shown
         found["right" if not is_refused else "by a moment" if judged.moment else "left wrong"] += 1
     assert few or min(found[it] for it in ("right", "left wrong", "by a moment")) >= TEXTS // 10, found
+    assert found["without a window"] <= 1, found
 
 
 # ---- errors

@@ -10,7 +10,7 @@ import subprocess
 import time
 
 import pytest
-from harness.programs import LONG, SECONDS, TOP, comes, is_running, ran, wants, well
+from harness.programs import LONG, SECONDS, TOP, comes, is_running, left_of, ran, wants, well
 from harness.small_clone import bare_path, small_clone
 
 BUILDING, KEPT, BY_NODE = "building the program once WITHOUT A PROOF", "without a proof", "by the page's engine in node"
@@ -85,12 +85,27 @@ def test_the_proved_program_is_taken_unless_a_source_is_younger(room):
     for at, status in ((60, 0), (-60, 127)):
         clone.prove(at)
         wants(clone.ran("./listset", "check", "a"), status=status, output="" if status else "proved: check a\n")
+    (room / "listset").symlink_to(clone.tree / "listset")
+    clone.prove(60)
+    wants(clone.ran(room / "listset", "check"), output="proved: check\n")
+
+
+def interrupt(clone, room):
+    """Ends a build in the middle by Ctrl-C: it leaves no process, and no file that another build would meet."""
+    how = {**clone.how, "stdin": subprocess.DEVNULL, "stdout": subprocess.PIPE, "stderr": subprocess.STDOUT}
+    building = subprocess.Popen(["./listset", "gen"], start_new_session=True, **how)
+    comes((clone.kept / "room/toolchain/bin/clang").exists, "a build")
+    os.killpg(building.pid, signal.SIGINT)
+    building.communicate(timeout=SECONDS)
+    comes(lambda: not left_of(room), "the end of all that was started")
+    assert (building.returncode, [it.name for it in clone.kept.iterdir()]) == (130, ["lock"])
 
 
 @pytest.mark.needs("rt")
 def test_the_program_is_built_once_of_the_sources_as_they_are(room):
     clone = Clone(room)
     (clone.path / "rt").symlink_to(pathlib.Path(shutil.which("rt")).resolve())
+    interrupt(clone, room)
     wants(clone.ran("./listset", "gen", "check"), output="4\n6\n", tells=[BUILDING, "built in"])
     clone.main.touch()
     wants(clone.ran("./listset", "gen"), output="4\n", tells=[KEPT], no=[BUILDING])
@@ -102,6 +117,15 @@ def test_the_program_is_built_once_of_the_sources_as_they_are(room):
     wants(clone.ran("./listset", "gen"), status=1, output="", tells=[BUILDING, "src/main.rt:1:"])
     clone.main.write_text(MAIN)
     wants(clone.ran("./listset", "gen"), output="4\n", no=[BUILDING])
+
+
+@pytest.mark.parametrize("words", ["build/unproved example", "foreign/build", "page/build", "./gate --quick"])
+def test_a_missing_rt_is_named(room, words):
+    path = bare_path(room / "path", "git", "ls", "node", "uname")
+    script, *others = words.split()
+    done = ran(TOP / script, *others, cwd=TOP, env={**os.environ, "TMPDIR": str(room), "PATH": str(path)})
+    said = done.stdout + done.stderr
+    assert done.returncode and "rt is missing: the Rattle toolchain, whose folder bin has to be in PATH" in said and "Traceback" not in said
 
 
 # What stands in for rt: a proof that does not end
@@ -139,3 +163,6 @@ def test_crates_are_taken_and_taken_again(room):
     wants(ran(here / "build/take", there, "lset_history"), output="took: lset_words\n2 crates are there as here\n")
     assert (there / "crates/lset_words/src/new.rt").exists() and (there / "crates/lset_words/out").exists()
     wants(ran(here / "build/take", there, "no-such"), status=2, output="", tells=["there is no crate no-such"])
+    wants(ran(here / "build/take", ".", "lset_words", cwd=here), status=2, output="", tells=["take: . is this repository"])
+    (there / "HANDLES").write_text("Another.\n")
+    wants(ran(here / "build/take", there, "lset_words"), output="left: HANDLES is another one there\n1 crates are there as here\n")

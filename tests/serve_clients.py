@@ -41,8 +41,9 @@ class Sharing(Client):
 
     (A LockFreeList has no CEILING here: one that meets a marked node starts again until another call walks there.)"""
 
-    def __init__(self, server, number, kind):
+    def __init__(self, server, number, kind, all_are_served):
         super().__init__(server)
+        self.all_are_served = all_are_served
         self.draw, self.manner = random.Random(f"{kind} {number}"), MANNERS[number % len(MANNERS)]
         self.first_own, self.own, self.told = SHARED * (number + 1), SetModel(), []
         self.words = ["contains", *["ceiling"] * (kind != "lock-free"), *["add", "remove"] * (self.manner != "goes away")]
@@ -50,17 +51,19 @@ class Sharing(Client):
         self.calls = sum(call is not None for _, call, _ in self.turns)
 
     def turn(self):
-        """A line; its call, or None; and its right answers, None for a key at or above that of the call, if any."""
+        """A line; its call, or None; and its right answers, or of a ceiling the least key of the client's own at or above that of the call."""
         word, key, is_own = self.draw.choice(self.words), self.draw.randrange(SHARED), self.draw.random() < 0.5
         if self.draw.random() < 0.05:
             return self.draw.choice([f"{word.upper()} 0{key}", f"{word} {key}", f"{word.upper()}  {key}", "", "MOVE 7"]), None, {"BAD"}
-        if word == "ceiling":
-            return f"CEILING {key}", (word, key), None
         key += self.first_own if is_own else 0
+        if word == "ceiling":
+            return f"CEILING {key}", (word, key), min((it for it in self.own.keys if it >= key), default=None)
         due = {answer_of(self.own.reply(0, word, key)).decode().strip()} if is_own else {"TRUE", "FALSE"}
         return f"{word.upper()} {key}", (word, key), due
 
     def speak(self, connection):
+        asks(connection, b"MOVE 7\n", b"BAD\n")
+        self.all_are_served.wait(SOON)
         text = "".join(f"{line}\n" for line, *_ in self.turns).encode()
         if self.manner == "goes away":
             return connection.sendall(text)
@@ -73,7 +76,11 @@ class Sharing(Client):
         answers = read_all(connection).decode().splitlines()
         assert answers[len(self.turns):] == ends
         for (line, call, due), answer in zip(self.turns, answers):
-            assert answer in due if due else answer == "NONE" or int(answer.removeprefix("AT ")) >= call[1], line
+            if call and call[0] == "ceiling":
+                found = None if answer == "NONE" else int(answer.removeprefix("AT "))
+                assert due is None if found is None else call[1] <= found and (due is None or found <= due), line
+            else:
+                assert answer in due, line
             if call and call[1] < SHARED:
                 self.told.append((*call, answer))
 
@@ -89,9 +96,10 @@ class Sharing(Client):
 @pytest.mark.parametrize("kind", KINDS)
 def test_clients_at_once(program, kind):
     """Each answer on a client's own keys is the right one; those on shared keys add up to what the server says as it ends. All clients have
-    a seat at once: none ends before each has connected."""
+    a seat at once: none goes on before each has its first answer."""
     with serving(program, kind, SEATS, ROOM, CLIENTS + 1) as server, server.connect() as idle:
-        clients = [Sharing(server, number, kind) for number in range(CLIENTS)]
+        all_are_served = threading.Barrier(CLIENTS)
+        clients = [Sharing(server, number, kind, all_are_served) for number in range(CLIENTS)]
         have_ended(clients)
         left = collections.Counter()
         for word, key, answer in (it for client in clients for it in client.told):

@@ -11,7 +11,7 @@ import re
 import resource
 
 import pytest
-from harness.programs import ran
+from harness.programs import KINDS, ran
 from harness.serve_client import Server, read_all, started
 
 THREADS, QUOTA, CALLS = 8, 16_384, 50
@@ -30,7 +30,7 @@ def limited(limit, *words, of="-v"):
 
 def ended_run(program, limit):
     """How `run` ends under a limit."""
-    made = ran(*limited(limit, program, "run", "lazy", THREADS, QUOTA, CALLS, 8, 1))
+    made = ran(*limited(limit, program, "run", KINDS[limit % 5], THREADS, QUOTA, CALLS, 8, 1))
     if made.returncode == 0:
         counts = dict(re.findall(r"^(calls|true|false|full|keys) (\d+)$", made.stdout, re.M))
         calls, *replies = (int(counts[it]) for it in ("calls", "true", "false", "full"))
@@ -42,7 +42,7 @@ def ended_run(program, limit):
 
 def ended_serve(program, limit):
     """How `serve` ends under a limit, with one client, which may be turned away. (The threads are started after the first line.)"""
-    with started(*limited(limit, program, "serve", "lazy", THREADS, QUOTA, 0, 1)) as process:
+    with started(*limited(limit, program, "serve", KINDS[limit % 5], THREADS, QUOTA, 0, 1)) as process:
         first, told = process.stdout.readline(), b""
         if first:
             try:

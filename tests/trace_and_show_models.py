@@ -12,12 +12,13 @@ what each broken list makes of 5 schedules (--few: 1), with its traces. Windows 
 
 import collections
 import random
+import re
 from xml.etree import ElementTree
 
 from harness.lists_model import LACKING
 from harness.pictures_model import Drawn, fitted, picture_of_run
 from harness.programs import KINDS, TOP, ran
-from harness.reports_model import damage, first_fault, picture_of_report, read_report, report_text
+from harness.reports_model import damage, first_fault, picture_of_report, read_report, report_text, spread
 from harness.traces_model import enabled, read_schedule, run_of
 
 EXAMPLES = {file.stem: file for file in sorted((TOP / "examples" / "schedules").glob("*.schedule"))}
@@ -158,10 +159,15 @@ def compare_report(looked, report):
 def test_pictures_of_reports_are_those_of_the_model(program, report):
     """Of the report of a drawn schedule, right or damaged; and what `check` says of it."""
     kind, seed = report.split()
-    made, draw = read_report(ran(program, "replay", text=enabled(drawn_schedule(kind, int(seed)))).stdout), random.Random(report)
+    replayed, draw = ran(program, "replay", text=enabled(drawn_schedule(kind, int(seed)))).stdout, random.Random(report)
+    made = read_report(replayed)
     for _ in range([0, 1, 1, 2][int(seed) % 4]):
         damage(draw, made)
+    if int(seed) % 5 == 2:
+        spread(made)
     text = report_text(made)
+    if "report 1" in replayed and not re.search("at-|nothing", text):
+        text = text.replace("report 2", "report 1")
     fault, checked = first_fault(made), ran(program, "check", text=text)
     assert checked.stdout == (f"refused {fault.said.partition(':')[0]}\n" if fault else "ok\n"), text
     compare_report(Compared(program, report, text), made)

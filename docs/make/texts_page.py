@@ -83,4 +83,16 @@ def table_of_limits(top):
     return table(["Limit", "Value", "Constant", "Beyond it"], rows)
 
 
+def problems(top):
+    """What docs/COMMANDS.md says of an argument or option otherwise than `listset help`. (It may leave out the names for `--lacks`.)"""
+    page = (top / "docs/COMMANDS.md").read_text()
+    for told in (top / "tests/transcripts/help.md").read_text().split("    $ listset help ")[1:]:
+        command = told.partition("\n")[0]
+        section = page.partition(f"\n## {command}\n")[2].partition("\n## ")[0]
+        for name, said in re.findall(r"^      +(--\w+(?: <\w+>)?|\[\w+\])  +(.+)$", told, re.M):
+            row = f"| `{re.sub('[][<>]', '', name)}` | {said.partition(': lock (')[0]}"
+            if row not in section:
+                yield f"docs/COMMANDS.md: {command} has no row {row}"
+
+
 MADE = {"causes": table_of_causes, "orders": table_of_orders, "limits": table_of_limits}

@@ -133,7 +133,14 @@ def picture_of_report(it):
     return Picture(it.kind, it.threads, it.quota, None, it.calls, it.ends, places, Sets(it, places), it.keys, refusal, None)
 
 
-# ---- damage
+# ---- moments far apart, and damage
+
+
+def spread(it):
+    """Moves the moments apart, the last one to 400,000,000."""
+    last = max([1, *(one.begun for one in it.calls), *(end for end, _ in it.ends.values())])
+    it.calls[:] = [one._replace(begun=one.begun * 400_000_000 // last) for one in it.calls]
+    it.ends.update({number: (end * 400_000_000 // last, reply) for number, (end, reply) in it.ends.items()})
 
 
 def report_text(it):
