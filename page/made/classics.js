@@ -32,7 +32,7 @@ export const CLASSICS = {
   },
   "stale-pred": {
     "question": "Thread 0 has found pred = 3 and curr = tail. Thread 1 removes 3, whose node still leads to the tail. May thread 0 write?",
-    "turnsOn": "No: an unlinked node keeps its link. Thread 0 walks once more from the head, and this walk gets past the key of pred without reaching pred.",
+    "turnsOn": "No: an unlinked node keeps its link. Thread 0 walks once more from the head, and gets past the key of pred without reaching pred.",
     "without": "5 is added behind an unlinked node (second-walk). A walk that looks for the key of pred, and not for the node, may find another node with that key (same-node).",
     "turns": [24, 30],
     "lacks": ["second-walk", "same-node"]
