@@ -8556,7 +8556,7 @@ function listenToJudging() {
   bars.onpointerup = bars.onpointercancel = () => (judging.held = null);
   bars.onkeydown = (event) => judging.press(event);
 }
-return { JUDGED, drawJudging, beginJudging, listenToJudging };
+return { JUDGED, judging, drawJudging, beginJudging, listenToJudging };
 })();
 
 // activities/courses.js

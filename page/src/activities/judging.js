@@ -161,7 +161,7 @@ class Judging {
   }
 }
 
-const judging = new Judging();
+export const judging = new Judging();
 export const drawJudging = () => isJudging() && judging.draw();
 
 // After two wrong tries: the events at which it turns; of a run that is no example, those that change the set.
