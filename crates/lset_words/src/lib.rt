@@ -10,15 +10,17 @@
 //! literature.
 #![tactic(auto)]
 
-ghost use Rattle.std.specs.Prelude.{◌≡◌, ℕ, ◌+◌, ◌/◌, ◌%◌, ◌<◌, ◌^◌, IsTrue, ◌↔◌, Bool, IfOk, IfErr};
+ghost use Rattle.std.specs.Prelude.{◌≡◌, ℕ, ◌+◌, ◌/◌, ◌%◌, ◌<◌, ◌^◌, IsTrue, ◌↔◌, All, Bool, IfOk, IfErr};
 ghost use Rattle.std.specs.List.Sorted.{IsStrictlyIncreasing};
 ghost use Rattle.lset_words.specs.Words.{key_word_of, key_of, packed, RefusesSizes};
 
+mod effect;
 mod fault;
 mod history;
 mod set_calls;
 mod table;
 
+pub use effect::{Effect, Presence};
 pub use fault::LayoutFault;
 pub use history::{CallRecord, Placed, Point};
 pub use set_calls::SetCalls;
@@ -151,6 +153,13 @@ pub fn increases(keys: &[u32]) -> bool
         }
     }
     true
+}
+
+/// Has a proof see that each key is below `2^32`. It does nothing.
+pub fn keys_are_small(keys: &[u32])
+    ensures { All (λ k. k < 2 ^ 32) keys.now }
+{
+    let _keys = keys;
 }
 
 /// Returns the link word of a node whose next node has the number `next`, below `2^63`, and whose mark is `mark`. Mark and
