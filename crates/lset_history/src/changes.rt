@@ -1,4 +1,4 @@
-ghost use Rattle.std.specs.Prelude.{◌≡◌, ◌+◌, ◌≤◌, ◌<◌, ◌^◌, ◌↔◌, ℕ, List, All, length, not, true, false, IsTrue, OnOk, OnErr, IfOk};
+ghost use Rattle.std.specs.Prelude.{◌≡◌, ◌+◌, ◌≤◌, ◌<◌, ◌^◌, ◌↔◌, ℕ, List, length, not, true, false, IsTrue, OnOk, OnErr, IfOk};
 ghost use Rattle.std.specs.List.Sorted.{IsStrictlyIncreasing};
 ghost use Rattle.lset_history.specs.Changes.{
   IsFirst,
@@ -26,6 +26,7 @@ ghost use Rattle.lset_history.specs.Raising.{
 ghost use Rattle.lset_words.specs.Account.{IsCeiling};
 ghost use Rattle.lset_words.specs.SequentialSet.{has_key};
 
+use lset_words::keys_are_small;
 use std::alloc::{AllocError, Global};
 use std::collections::{BTreeMap, BTreeSet};
 use std::marker::Model;
@@ -55,12 +56,6 @@ impl Model for Changes {
     ghost view = { λ c. changes_in c.opening.items c.moments };
 
     ghost invariant = { λ c. AreKept (changes_in c.opening.items c.moments) c.keys_at c.keys_now };
-}
-
-fn keys_are_small(keys: &[u32])
-    ensures { All (λ k. k < 2 ^ 32) keys.now }
-{
-    let _keys = keys;
 }
 
 /// How many of these moments, in increasing order, are not above `at`, and how many of them were looked at for that.

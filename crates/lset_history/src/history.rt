@@ -1,11 +1,11 @@
-ghost use Rattle.std.specs.Prelude.{◌≡◌, ◌<◌, ◌^◌, length, IfOk, OnOk, IfErr, OnErr, [], None, All};
+ghost use Rattle.std.specs.Prelude.{◌≡◌, ◌<◌, ◌^◌, length, IfOk, OnOk, IfErr, OnErr, [], None};
 ghost use Rattle.std.specs.List.Sorted.{IsStrictlyIncreasing};
 ghost use Rattle.lset_words.specs.Words.{IsWithin, Opens, empty};
 ghost use Rattle.lset_words.specs.History.{IsHistory, MayFollow};
 ghost use Rattle.lset_history.specs.History.{MayBegin, CannotBegin, with_begun, MayEnd, CannotEnd, with_ended, last_moment};
 
 use crate::HistoryFault;
-use lset_words::{Call, CallRecord, MOST_THREADS, Reply};
+use lset_words::{Call, CallRecord, MOST_THREADS, Reply, keys_are_small};
 use std::alloc::{AllocError, Global};
 use std::fmt;
 use std::marker::Model;
@@ -48,12 +48,6 @@ impl Model for History {
       opening = record { threads = h.threads; quota = h.quota; keys = h.opening.items };
       calls = h.calls.items;
     }) h.busy h.latest };
-}
-
-fn keys_are_small(keys: &[u32])
-    ensures { All (λ k. k < 2 ^ 32) keys.now }
-{
-    let _keys = keys;
 }
 
 fn last_moment(call_record: &CallRecord) -> u32

@@ -10,7 +10,9 @@ ghost use Rattle.lset_steps.specs.Laws.{StateLaws, word_named, view_of};
 ghost use Rattle.lset_steps.specs.Worlds.{WorldState, IsRun, StepResult, IsContent, AreChainKeys, unmarked_keys, IsPickedFromChain};
 
 use crate::{Action, Event, Local, Machine, Told};
-use lset_words::{Call, HEAD, Layout, MOST_NODES, TAIL, key_index, link_index, unpack};
+use lset_words::{
+    Call, HEAD, Layout, MOST_NODES, TAIL, key_index, keys_are_small, link_index, unpack,
+};
 use std::alloc::{AllocError, Global};
 use std::marker::{Model, PhantomData};
 use thiserror::Error;
@@ -114,12 +116,6 @@ fn opening_key(layout: &Layout, keys: &[u32], node: u64) -> u64
     } else {
         u64::from(keys[(node - first) as usize]) + 1
     }
-}
-
-fn keys_are_small(keys: &[u32])
-    ensures { All (λ k. k < 2 ^ 32) keys.now }
-{
-    let _keys = keys;
 }
 
 fn opening_word_at(layout: &Layout, keys: &[u32], i: u64) -> u64

@@ -1,4 +1,4 @@
-use Rattle.std.proofs.Common.{rules, ◌≡◌, ◌≤◌, ℕ, Bool, true, false, Some, sym, subst, ◌∙◌}
+use Rattle.std.proofs.Common.{rules, ◌≤◌, sym, subst, ◌∙◌}
 use Rattle.std.proofs.lemmas.Bool.{both_ways}
 use Rattle.std.proofs.lemmas.Option.{same_Some}
 use Rattle.lset_history.specs.Changes.{moments_of}
