@@ -4,6 +4,7 @@ use lset_judge::{Refusal, Verdict, Window};
 use lset_recording::{RecordingAnswer, RecordingReader};
 use lset_report::read_report;
 use lset_text::reply_word;
+use lset_words::Presence;
 use std::alloc::{AllocError, Global};
 use tool_base::{Answer, Input, Trouble};
 use tool_judge::{Claim, claim_on, put_call};
@@ -11,7 +12,7 @@ use tool_show::{Refusal as OrderRefusal, picture_of_report};
 
 /// Writes how the key is at the moment of a window, and the calls that have no order from there.
 fn put_window(out: &mut String, window: &Window) -> Result<(), AllocError> {
-    let (since, there) = (window.since, window.there);
+    let (since, there) = (window.since, window.there == Presence::Present);
     writeln!(out, "since {since} {there}")?;
     if let Some(change) = window.before {
         out.push_str("by ")?;

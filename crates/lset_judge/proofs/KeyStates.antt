@@ -7,6 +7,7 @@ use Rattle.std.specs.HashMap.{get, UpdatesBy}
 use mathlib.Core.Bool.{cond}
 use Rattle.std.proofs.lemmas.Bool.{cases_Bool, true≢false}
 use Rattle.std.proofs.lemmas.List.Folds.{list_any_more, list_any_at}
+use Rattle.lset_words.specs.Effects.{is_there, presence}
 use Rattle.lset_words.specs.SequentialSet.{has_key}
 use Rattle.lset_words.proofs.Numbers.{same_number, equal_test}
 use Rattle.lset_judge.specs.declared.rule.KeyState.{KeyState}
@@ -48,6 +49,10 @@ seen_more {A} see opens m n keys i w low there up before k = ap see (up.0 k)
     step true o false e = there
     step false o true e = e
     step false o false e = e
+
+pub there_again : (b : Bool) → b ≡ is_there (presence b)
+there_again true = refl
+there_again false = refl
 
 pub none_of : (o : Option KeyState) → is_some o ≡ false → o ≡ None
 none_of None e = refl

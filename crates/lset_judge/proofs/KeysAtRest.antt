@@ -11,6 +11,8 @@ use Rattle.std.proofs.lemmas.List.Sums.{count_by-le-length}
 use Rattle.lset_words.specs.declared.Reply.{Reply}
 use Rattle.lset_words.specs.declared.history.CallRecord.{CallRecord}
 use Rattle.lset_words.specs.SequentialSet.{has_key}
+use Rattle.lset_words.specs.declared.effect.Presence.{Presence}
+use Rattle.lset_words.specs.Effects.{is_there}
 use Rattle.lset_words.specs.Words.{key_of}
 use Rattle.lset_words.specs.History.{IsHistory}
 use Rattle.lset_words.proofs.Numbers.{unequal_test, same_number, same_or_not}
@@ -23,7 +25,7 @@ use Rattle.lset_judge.specs.Events.{Kind, changes, sees, nothing, kind_if, until
 use Rattle.lset_judge.specs.Leaving.{may_be_left}
 use Rattle.lset_judge.specs.Rest.{turns, may_turn, has_ended, ended_by, key_if, alone, IsAtRest}
 use Rattle.lset_judge.specs.Stream.{behind_all, state_for, IsStreamOf}
-use Rattle.lset_judge.specs.Verdict.{may_add, is_plain}
+use Rattle.lset_judge.specs.Verdict.{may_add, is_plain, IsExplained}
 use Rattle.lset_judge.proofs.StatesAfter.{same_after, stays_after, idle_key}
 use Rattle.lset_judge.proofs.ClosingVerdict.{leaves_so, latest_upto}
 use Rattle.lset_judge.proofs.RuleDecides.{explained}
@@ -173,13 +175,13 @@ module _ (threads : ℕ) (opening : List ℕ) (calls : List CallRecord) (s : Str
       uncalled last j n = rw (other (has_key k opening) k j n, other state.there k j n)
           (idle_key (event_at last j own) false false last (λ m l. event_other last k S j m calls n))
 
-  pub at_rest : IsAtRest threads opening calls k S state.there
-  at_rest = record {
+  pub at_rest : (there : Presence) → state.there ≡ is_there there → IsAtRest threads opening calls k S there
+  at_rest there so = record {
     ended = over;
-    explained = explained behind_all (h (length own)) (key_if state.there k) behind told (increases (has_key k opening) k) (record {
+    explained = subst (λ b. IsExplained (h (length own)) (key_if b k)) so (explained behind_all (h (length own)) (key_if state.there k) behind told (increases (has_key k opening) k) (record {
       plain = All-filter (kept k S) (λ (x : CallRecord). IfSome x.ended (λ (e : ℕ × Reply). is_plain x.call e.1 ≡ true)) calls is.plain;
       room = λ t. count_by-le-length (λ (x : CallRecord). may_add x.call x.ended && x.thread == t) own;
-    }) (increases state.there k) (passes (length own));
+    }) (increases state.there k) (passes (length own)));
     forced = λ quota order keys e.
-        sym (same_is (has_key k keys) state.there (sym (left_as (has_key k keys)) ∙ rule_refutes behind_all (h quota) keys order behind told e k));
+        sym (same_is (has_key k keys) state.there (sym (left_as (has_key k keys)) ∙ rule_refutes behind_all (h quota) keys order behind told e k)) ∙ so;
   }

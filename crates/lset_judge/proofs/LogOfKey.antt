@@ -12,6 +12,8 @@ use Rattle.lset_words.specs.declared.Reply.{Reply}
 use Rattle.lset_words.specs.declared.history.CallRecord.{CallRecord}
 use Rattle.lset_words.specs.declared.history.Placed.{Placed}
 use Rattle.lset_words.specs.SequentialSet.{has_key}
+use Rattle.lset_words.specs.declared.effect.Presence.{Presence}
+use Rattle.lset_words.specs.Effects.{is_there}
 use Rattle.lset_words.specs.Words.{key_of}
 use Rattle.lset_words.specs.History.{call_numbered, no_call}
 use Rattle.lset_words.proofs.Numbers.{equal_test, same_number, below_or_not}
@@ -132,8 +134,8 @@ module _ (threads : ℕ) (opening : List ℕ) (calls : List CallRecord) (key upt
       rest_so = (rest_quiet.0, rest_quiet.1 over_then)
 
     -- ---- the calls that ended by a later moment are left out
-    pub cut_log : (since : ℕ) (there : Option Bool) (before : Option StreamCall) → l.since ≤ since
-        → IfSome there (λ (t : Bool). (since ≤ upto) × IsAtRest threads opening calls key since t)
+    pub cut_log : (since : ℕ) (there : Option Presence) (before : Option StreamCall) → l.since ≤ since
+        → IfSome there (λ (t : Presence). (since ≤ upto) × IsAtRest threads opening calls key since t)
         → IfSome before (λ (b : StreamCall). Contains calls (record_of b)) → IsLog threads opening calls key upto waiting (cut_to since there before l)
     cut_log since there before later base made = record {
       base = base;
@@ -199,13 +201,13 @@ module _ (threads : ℕ) (opening : List ℕ) (calls : List CallRecord) (key m n
   entry_later : (x : Ended) → IsEntry threads opening calls key m x → IsEntry threads opening calls key n x
   entry_later x e = record { known = e.known; own = e.own; quiet = later_so x.quiet x.call.ended e.quiet }
     where
-      later_so : (q : Option Bool) (o : Option (ℕ × Reply)) → Rests threads opening calls key m q o → Rests threads opening calls key n q o
+      later_so : (q : Option Presence) (o : Option (ℕ × Reply)) → Rests threads opening calls key m q o → Rests threads opening calls key n q o
       later_so None o h = tt
       later_so (Some there) None h = tt
       later_so (Some there) (Some d) h = ((let low = h.0 in omega (arith, low, later)), h.1)
 
-  base_later : (since : ℕ) (o : Option Bool) → IfSome o (λ (there : Bool). (since ≤ m) × IsAtRest threads opening calls key since there)
-      → IfSome o (λ (there : Bool). (since ≤ n) × IsAtRest threads opening calls key since there)
+  base_later : (since : ℕ) (o : Option Presence) → IfSome o (λ (there : Presence). (since ≤ m) × IsAtRest threads opening calls key since there)
+      → IfSome o (λ (there : Presence). (since ≤ n) × IsAtRest threads opening calls key since there)
   base_later since None h = tt
   base_later since (Some there) h = ((let low = h.0 in omega (arith, low, later)), h.1)
 
@@ -309,11 +311,11 @@ module _ (threads : ℕ) (opening : List ℕ) (calls : List CallRecord) (x : Cal
         | inr t ↦ rw t (append-nil (ended_by k S calls))
       ]
 
-  pub rest_more : (k S : ℕ) (there : Bool) → S < x.begun → IsAtRest threads opening calls k S there → IsAtRest threads opening more k S there
+  pub rest_more : (k S : ℕ) (there : Presence) → S < x.begun → IsAtRest threads opening calls k S there → IsAtRest threads opening more k S there
   rest_more k S there l r =
-      let Explained : List CallRecord → Type 0 = λ cs. IsExplained (alone threads (length cs) (has_key k opening) k cs) (key_if there k) in
+      let Explained : List CallRecord → Type 0 = λ cs. IsExplained (alone threads (length cs) (has_key k opening) k cs) (key_if (is_there there) k) in
       let Forced : List CallRecord → Type 0 = λ cs. (quota : ℕ) (order : List Placed) (keys : List ℕ)
-      → Explains (alone threads quota (has_key k opening) k cs) order keys → has_key k keys ≡ there in
+      → Explains (alone threads quota (has_key k opening) k cs) order keys → has_key k keys ≡ is_there there in
       let same = ended_same k S l in record {
         ended = All-push (λ (y : CallRecord). (key_of y.call).0 ≡ k → may_turn y ≡ true → y.begun ≤ S → has_ended S y.ended ≡ true) calls x r.ended
             (λ own turn low. absurd (omega (arith, l, low)));
@@ -350,7 +352,7 @@ module _ (threads : ℕ) (opening : List ℕ) (calls : List CallRecord) (x : Cal
       quiet = quiet y.quiet y.call.ended e.quiet;
     }
       where
-        quiet : (q : Option Bool) (o : Option (ℕ × Reply)) → Rests threads opening calls key upto q o → Rests threads opening more key n q o
+        quiet : (q : Option Presence) (o : Option (ℕ × Reply)) → Rests threads opening calls key upto q o → Rests threads opening more key n q o
         quiet None o h = tt
         quiet (Some there) None h = tt
         quiet (Some there) (Some d) h = (
@@ -358,8 +360,8 @@ module _ (threads : ℕ) (opening : List ℕ) (calls : List CallRecord) (x : Cal
           (λ over. rest_more key d.0 there (let low = h.0 in omega (arith, low, early)) (h.1 (fewer_over d.0 over))),
         )
 
-    base_more : (o : Option Bool) → IfSome o (λ (there : Bool). (l.since ≤ upto) × IsAtRest threads opening calls key l.since there)
-        → IfSome o (λ (there : Bool). (l.since ≤ n) × IsAtRest threads opening more key l.since there)
+    base_more : (o : Option Presence) → IfSome o (λ (there : Presence). (l.since ≤ upto) × IsAtRest threads opening calls key l.since there)
+        → IfSome o (λ (there : Presence). (l.since ≤ n) × IsAtRest threads opening more key l.since there)
     base_more None h = tt
     base_more (Some there) h = (
       (let low = h.0 in omega (arith, low, later)),
@@ -387,9 +389,9 @@ module _ (threads : ℕ) (opening : List ℕ) (calls : List CallRecord) (x : Cal
           | inr h ↦ elim h [ inl c ↦ inr (inl c) | inr c ↦ inr (inr (still (call_numbered calls i) c)) ]
         ]
 
-abbrev pub with_calls : ℕ → Option Bool → Option StreamCall → List Ended → Logged
+abbrev pub with_calls : ℕ → Option Presence → Option StreamCall → List Ended → Logged
 with_calls since there before xs = record { since = since; there = there; before = before; ended = xs }
 
-pub with_ended : (since : ℕ) (there : Option Bool) (before : Option StreamCall) (xs ys : List Ended) → ys ≡ xs
+pub with_ended : (since : ℕ) (there : Option Presence) (before : Option StreamCall) (xs ys : List Ended) → ys ≡ xs
     → with_calls since there before ys ≡ with_calls since there before xs
 with_ended since there before xs ys e = ap (with_calls since there before) e

@@ -1,5 +1,5 @@
 -- What a stream keeps of the calls of its keys goes on: at first, where a call ends, and where one begins.
-use Rattle.std.proofs.Common.{inl, inr, ◌≡◌, ◌⊎◌, ℕ, zero, suc, ◌-◌, ◌<◌, ◌≤◌, Bool, true, List, [], ◌∷◌, ◌++◌, refl, sym, ap, ◌∙◌, arith, subst, length}
+use Rattle.std.proofs.Common.{inl, inr, ◌≡◌, ◌⊎◌, ℕ, zero, suc, ◌-◌, ◌<◌, ◌≤◌, true, List, [], ◌∷◌, ◌++◌, refl, sym, ap, ◌∙◌, arith, subst, length}
 use Rattle.std.specs.Prelude.{Option, Some, None, IfSome, Contains, is_some}
 use Rattle.std.specs.List.Sorted.{IsPermutation}
 use Rattle.std.proofs.lemmas.Bool.{true≢false}
@@ -8,6 +8,8 @@ use Rattle.std.proofs.lemmas.List.Sorted.{Contains-permutation, IsPermutation-sy
 use Rattle.lset_words.specs.declared.Reply.{Reply}
 use Rattle.lset_words.specs.declared.history.CallRecord.{CallRecord}
 use Rattle.lset_words.specs.SequentialSet.{has_key}
+use Rattle.lset_words.specs.declared.effect.Presence.{Presence}
+use Rattle.lset_words.specs.Effects.{presence}
 use Rattle.lset_words.specs.Words.{key_of}
 use Rattle.lset_words.specs.History.{call_numbered, no_call}
 use Rattle.lset_words.proofs.Numbers.{same_or_not}
@@ -21,6 +23,7 @@ use Rattle.lset_judge.specs.Stream.{behind_all, record_of, pending_of, key_in, e
 use Rattle.lset_judge.specs.Log.{log_for, log_opened, pushed, unquiet, IsEntry, IsOverBy, IsLog, Rests, LoggedBy, IsQuiet, LogsEnd}
 use Rattle.lset_judge.specs.Pending.{IsNext}
 use Rattle.lset_judge.proofs.RuleLeads.{at_once}
+use Rattle.lset_judge.proofs.KeyStates.{there_again}
 use Rattle.lset_judge.proofs.KeysAtRest.{at_rest}
 use Rattle.lset_judge.proofs.StreamSteps.{first_or_later, later_too}
 use Rattle.lset_judge.proofs.LogOfKey.{log_same, log_pushed, log_frozen, log_more}
@@ -28,15 +31,15 @@ use Rattle.lset_judge.proofs.LogOfKey.{log_same, log_pushed, log_frozen, log_mor
 -- ---- at first
 
 pub new_logged : (threads : ℕ) (opening : List ℕ) (s : Stream) → IsStreamOf threads opening [] s → s.failed ≡ None → s.moment ≡ 0
-    → ((k : ℕ) → state_for s.states k ≡ opened (has_key k opening)) → ((k : ℕ) → log_for s.states k ≡ log_opened (has_key k opening))
+    → ((k : ℕ) → state_for s.states k ≡ opened (has_key k opening)) → ((k : ℕ) → log_for s.states k ≡ log_opened (presence (has_key k opening)))
     → (k : ℕ) → IsLog threads opening [] k 0 [] (log_for s.states k)
 new_logged threads opening s is goes at states logs k = subst (IsLog threads opening [] k 0 []) (sym (logs k)) (record {
   base = (
     omega arith,
-    subst (λ m. IsAtRest threads opening [] k m (has_key k opening)) at
-        (subst (IsAtRest threads opening [] k s.moment) (ap (λ (q : State). q.there) (states k))
+    subst (λ m. IsAtRest threads opening [] k m (presence (has_key k opening))) at
         (at_rest threads opening [] s is (subst (IsJudgedTo opening [] s.moment s.states) goes is.judged) k (λ i d low. absurd (omega (arith, low)))
-        (ap (λ (q : State). q.puts) (states k)) (ap (λ (q : State). q.takes) (states k)))),
+        (ap (λ (q : State). q.puts) (states k)) (ap (λ (q : State). q.takes) (states k)) (presence (has_key k opening))
+        (ap (λ (q : State). q.there) (states k) ∙ there_again (has_key k opening))),
   );
   made = tt;
   entries = λ i d low. absurd (omega (arith, low));
@@ -73,11 +76,11 @@ module _ (threads : ℕ) (opening : List ℕ) (calls : List CallRecord) (s t : S
   ends_at e at = sym (moment ∙ subst (λ (q : Pending). q.end ≡ until_if behind_all q.call.begun q.call.ended) (sym numbered.2) refl
       ∙ ap (until_if behind_all p.call.begun) at)
 
-  entry : (quiet : Option Bool) → IfSome quiet (λ (there : Bool). IsOverBy key t.moment calls → IsAtRest threads opening calls key t.moment there)
+  entry : (quiet : Option Presence) → IfSome quiet (λ (there : Presence). IsOverBy key t.moment calls → IsAtRest threads opening calls key t.moment there)
       → IsEntry threads opening calls key t.moment (record { call = p.call; quiet = quiet })
   entry quiet told = record { known = is_known; own = refl; quiet = ended quiet told p.call.ended refl }
     where
-      ended : (o : Option Bool) → IfSome o (λ (there : Bool). IsOverBy key t.moment calls → IsAtRest threads opening calls key t.moment there)
+      ended : (o : Option Presence) → IfSome o (λ (there : Presence). IsOverBy key t.moment calls → IsAtRest threads opening calls key t.moment there)
           → (q : Option (ℕ × Reply)) → p.call.ended ≡ q → Rests threads opening calls key t.moment o q
       ended None h q at = tt
       ended (Some there) h None at = tt
@@ -86,17 +89,17 @@ module _ (threads : ℕ) (opening : List ℕ) (calls : List CallRecord) (s t : S
         subst (λ m. IsOverBy key m calls → IsAtRest threads opening calls key m there) (sym (ends_at e at)) h,
       )
 
-  now_pushed : (quiet : Option Bool) → IfSome quiet (λ (there : Bool). IsOverBy key t.moment calls → IsAtRest threads opening calls key t.moment there)
+  now_pushed : (quiet : Option Presence) → IfSome quiet (λ (there : Presence). IsOverBy key t.moment calls → IsAtRest threads opening calls key t.moment there)
       → IsLog threads opening calls key s.moment s.pending (log_for s.states key)
       → IsLog threads opening calls key t.moment t.pending (pushed (record { call = p.call; quiet = quiet }) (log_for s.states key))
   now_pushed quiet told l = log_pushed threads opening calls key s.moment t.moment later is.begun s.pending t.pending (log_for s.states key) l
       (record { call = p.call; quiet = quiet }) (entry quiet told)
       (λ y own c. elim (is_left y c) [ inl e ↦ inl (ap (λ (q : Pending). q.call) e) | inr d ↦ inr d ])
 
-  rests : (quiet : Option Bool) → IsQuiet (state_for t.states key) quiet → IsJudgedTo opening calls t.moment t.states None
-      → IfSome quiet (λ (there : Bool). IsOverBy key t.moment calls → IsAtRest threads opening calls key t.moment there)
+  rests : (quiet : Option Presence) → IsQuiet (state_for t.states key) quiet → IsJudgedTo opening calls t.moment t.states None
+      → IfSome quiet (λ (there : Presence). IsOverBy key t.moment calls → IsAtRest threads opening calls key t.moment there)
   rests None q judged = tt
-  rests (Some there) q judged = λ over. subst (IsAtRest threads opening calls key t.moment) q.0 (at_rest threads opening calls t so judged key over q.1 q.2)
+  rests (Some there) q judged = λ over. at_rest threads opening calls t so judged key over q.1 q.2 there q.0
 
   pub end_logged : (was failed : Option Failed) → IsMetBy s.states key p.end (event_of p) t.states was failed
       → LogsEnd s.states t.pending p.call t.states was failed → IsJudgedTo opening calls t.moment t.states failed

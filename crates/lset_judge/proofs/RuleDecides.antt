@@ -10,6 +10,7 @@ use Rattle.std.proofs.lemmas.List.Quantifiers.{all_pairs_push}
 use Rattle.std.proofs.lemmas.List.Sums.{sum_by-set}
 use Rattle.lset_words.specs.declared.Call.{Call}
 use Rattle.lset_words.specs.declared.Call.TheVariants.{Add, Remove, Contains as IsIn}
+use Rattle.lset_words.specs.declared.Key.{Key}
 use Rattle.lset_words.specs.declared.Reply.{Reply}
 use Rattle.lset_words.specs.declared.Reply.TheVariants.{True, False}
 use Rattle.lset_words.specs.declared.history.CallRecord.{CallRecord}
@@ -23,7 +24,7 @@ use Rattle.lset_history.proofs.Pairs.{pairs_head, pairs_tail}
 use Rattle.lset_history.specs.History.{HistoryValue, latest_moment}
 use Rattle.lset_history.proofs.Keys.{has_true, has_from, has_none, with_increases, without_increases}
 use Rattle.lset_history.proofs.CallByCall.{calls_of}
-use Rattle.lset_judge.specs.Verdict.{may_add, is_true_or_open, is_true, adds_of, is_plain, IsJudged, IsExplained, IsUnexplained}
+use Rattle.lset_judge.specs.Verdict.{may_add, puts_in, adds_of, is_plain, IsJudged, IsExplained, IsUnexplained}
 use Rattle.lset_judge.specs.Events.{changes, kind_of, kind_if, event_at, rule_explains, RulePasses}
 use Rattle.lset_judge.proofs.EventLemmas.{kind}
 use Rattle.lset_judge.proofs.PlacedCalls.{IsPlaced, placed_at}
@@ -118,13 +119,13 @@ adds_once t c (Some e) d = by c e.1 d refl
     by (IsIn k) True d q = absurd (cc)
     by c r d q = absurd (cc)
 
-true_or_open : (r : Reply) (o : Option (ℕ × Reply)) → IfSome o (λ (e : ℕ × Reply). e.1 ≡ r) → is_true r ≡ true → is_true_or_open o ≡ true
-true_or_open r None h t = refl
-true_or_open r (Some e) h t = ap is_true h ∙ t
+added_so : (k : Key) (o : Option (ℕ × Reply)) → IfSome o (λ (e : ℕ × Reply). e.1 ≡ True) → may_add (Add k) o ≡ true
+added_so k None h = refl
+added_so k (Some e) h = ap (λ r. puts_in (kind_of (Add k) r)) h
 
 adds_most : (own : Bool) (c : Call) (r : Reply) (o : Option (ℕ × Reply)) → IfSome o (λ (e : ℕ × Reply). e.1 ≡ r)
     → adds own c r ≤ cond (may_add c o && own) 1 0
-adds_most own (Add j) True o h = rw (true_or_open True o h refl) (omega arith)
+adds_most own (Add j) True o h = rw (added_so j o h) (omega arith)
 adds_most own c r o h = omega arith
 
 module _ (calls : List CallRecord) where

@@ -1,5 +1,5 @@
 -- The window of a key, by what is kept of it.
-use Rattle.std.proofs.Common.{inl, inr, ◌≡◌, ◌⊎◌, ℕ, suc, ◌+◌, ◌<◌, ◌≤◌, Bool, true, false, List, [], ◌∷◌, refl, sym, ap, ◌∙◌, arith, subst, length, get_or, take, ◌++◌}
+use Rattle.std.proofs.Common.{inl, inr, ◌≡◌, ◌⊎◌, ℕ, suc, ◌+◌, ◌<◌, ◌≤◌, true, false, List, [], ◌∷◌, refl, sym, ap, ◌∙◌, arith, subst, length, get_or, take, ◌++◌}
 use Rattle.std.specs.Prelude.{◌||◌, nat_lt, All, Option, Some, None, IfSome, filter, Contains, map}
 use Rattle.std.specs.List.{AllByRecursion}
 use Rattle.std.specs.List.Sorted.{IsPermutation}
@@ -11,6 +11,7 @@ use Rattle.std.proofs.lemmas.List.Sorted.{IsPermutation-sym, Contains-permutatio
 use Rattle.lset_words.specs.declared.Reply.{Reply}
 use Rattle.lset_words.specs.declared.history.CallRecord.{CallRecord}
 use Rattle.lset_words.specs.declared.Key.{Key}
+use Rattle.lset_words.specs.declared.effect.Presence.{Presence}
 use Rattle.lset_words.specs.Words.{key_of}
 use Rattle.lset_words.specs.History.{IsHistory, call_numbered, no_call}
 use Rattle.lset_history.proofs.CallByCall as histories
@@ -165,7 +166,7 @@ is_maker threads upto opening calls key l r is None h = tt
 is_maker threads upto opening calls key l r is (Some b) h = record { known = made_known threads opening calls key upto [] l is r b h; makes = h.makes }
 
 pub window_is : (threads upto : ℕ) (opening : List ℕ) (calls : List CallRecord) (moment : Option ℕ) (key : ℕ) (l : Logged) (r : Rest) (cs : List StreamCall)
-    (parts : List Part) (before : Option StreamCall) (left : Option Bool) → IsHistory threads calls → IsLog threads opening calls key upto [] l
+    (parts : List Part) (before : Option StreamCall) (left : Option Presence) → IsHistory threads calls → IsLog threads opening calls key upto [] l
     → IsReached moment calls upto → IsRestOf threads opening calls key l.since r → IsPermutation (calls_after r.since l) cs → calls_of parts ≡ cs
     → ((bound : ℕ) → HaveNoneOf bound key r.there left (asked_of parts)) → IfSome before (IsMadeBy key r l)
     → IsWindowOf threads opening calls left moment key r.since r.there before (shown_of parts)
@@ -192,12 +193,12 @@ rest_of_entry key l r rest threads upto opening calls is = (rest.after, (rest_so
 pub rest_of_base : (key : ℕ) (l : Logged) (r : Rest) → (l.since ≡ r.since) × (l.there ≡ Some r.there) → IsRestFrom key l r
 rest_of_base key l r same threads upto opening calls is =
     let base : (l.since ≤ upto) × IsAtRest threads opening calls key l.since r.there =
-    subst (λ o. IfSome o (λ (t : Bool). (l.since ≤ upto) × IsAtRest threads opening calls key l.since t)) same.1 is.base in
+    subst (λ o. IfSome o (λ (t : Presence). (l.since ≤ upto) × IsAtRest threads opening calls key l.since t)) same.1 is.base in
     let since = same.0 in (omega (arith, since), subst (λ m. IsAtRest threads opening calls key m r.there) since base.1)
 
 -- ---- by what the stream keeps
 
-module _ (s : Stream) (refusal : Refusal) (left : Option Bool) (l : Logged) (told : IsToldBy s.failed (NotLinearizable refusal))
+module _ (s : Stream) (refusal : Refusal) (left : Option Presence) (l : Logged) (told : IsToldBy s.failed (NotLinearizable refusal))
     (kept : l ≡ log_upto s.failed refusal.key.0 s.pending (log_for s.states refusal.key.0)) where
   module _ (w : Window) (h : TellsOf refusal.key left l w) (threads : ℕ) (opening : List ℕ) (calls : List CallRecord) (is : IsStreamOf threads opening calls s) where
     window_by : (failed : Option Failed) → IsToldBy failed (NotLinearizable refusal)
@@ -219,7 +220,7 @@ module _ (s : Stream) (refusal : Refusal) (left : Option Bool) (l : Logged) (tol
   tells_stream None h = tt
   tells_stream (Some w) h = (h.0, h.1, λ threads opening calls is. window_by w h threads opening calls is.stream s.failed told kept is.logged)
 
-pub tells_now : (s : Stream) (refusal : Refusal) (left other : Option Bool) (o : Option Window) → left ≡ other → IfSome o (TellsStream refusal left s)
+pub tells_now : (s : Stream) (refusal : Refusal) (left other : Option Presence) (o : Option Window) → left ≡ other → IfSome o (TellsStream refusal left s)
     → (threads : ℕ) (opening : List ℕ) (calls : List CallRecord) → IsStreamKept threads opening calls s
     → IfSome o (λ (w : Window). (w.key ≡ refusal.key) × (w.left ≡ other) × IsWindow threads opening calls other refusal.moment w)
 tells_now s refusal left other None e h threads opening calls is = tt

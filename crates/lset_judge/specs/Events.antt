@@ -1,42 +1,36 @@
 -- What a history tells of one key: the events of the key at its moments.
 use Rattle.std.specs.Prelude.{◌≡◌, ℕ, ◌+◌, ◌==◌, Bool, true, false, if◌then◌else◌, List, [], ◌∷◌, Option, Some, None}
 use Rattle.lset_words.specs.declared.Call.{Call}
-use Rattle.lset_words.specs.declared.Call.TheVariants.{Add, Remove, Contains, Ceiling}
+use Rattle.lset_words.specs.declared.Call.TheVariants.{Add, Remove}
 use Rattle.lset_words.specs.declared.Reply.{Reply}
-use Rattle.lset_words.specs.declared.Reply.TheVariants.{True, False, Full, At, Nothing}
+use Rattle.lset_words.specs.declared.effect.Effect.{Effect}
+use Rattle.lset_words.specs.declared.effect.Effect.TheVariants.{Changes, Sees, Other}
+use Rattle.lset_words.specs.Effects.{effect_of, is_there}
 use Rattle.lset_words.specs.declared.history.CallRecord.{CallRecord}
 use Rattle.lset_words.specs.SequentialSet.{has_key}
 use Rattle.lset_words.specs.Words.{key_of}
 use Rattle.lset_history.specs.History.{HistoryValue}
 use Rattle.lset_judge.specs.Rule.{Event, begins, ends, looks, idle, may_leave}
+
 -- WHAT A CALL DOES to its key: it turns it, to there or not there; it sees it there or not there; or nothing is told
-pub use Rattle.lset_judge.specs.declared.event.Kind.{Kind}
-pub use Rattle.lset_judge.specs.declared.event.Kind.TheVariants.{Changes as changes, Sees as sees, Nothing as nothing}
+pub data Kind : Type 0 where
+  changes : Bool → Kind
+  sees : Bool → Kind
+  nothing : Kind
+
+abbrev pub kind_as : Effect → Kind
+kind_as (Changes p) = changes (is_there p)
+kind_as (Sees p) = sees (is_there p)
+kind_as Other = nothing
 
 abbrev pub kind_of : Call → Reply → Kind
-kind_of (Add k) True = changes true
-kind_of (Add k) False = sees true
-kind_of (Add k) Full = sees false
-kind_of (Add k) (At x) = nothing
-kind_of (Add k) Nothing = nothing
-kind_of (Remove k) True = changes false
-kind_of (Remove k) False = sees false
-kind_of (Remove k) Full = nothing
-kind_of (Remove k) (At x) = nothing
-kind_of (Remove k) Nothing = nothing
-kind_of (Contains k) True = sees true
-kind_of (Contains k) False = sees false
-kind_of (Contains k) Full = nothing
-kind_of (Contains k) (At x) = nothing
-kind_of (Contains k) Nothing = nothing
-kind_of (Ceiling k) r = nothing
+kind_of c r = kind_as (effect_of c r)
 
 -- an open call may still turn the key; and no look is asked of it
 abbrev pub open_kind : Call → Kind
 open_kind (Add k) = changes true
 open_kind (Remove k) = changes false
-open_kind (Contains k) = nothing
-open_kind (Ceiling k) = nothing
+open_kind c = nothing
 
 abbrev pub kind_if : Call → Option (ℕ × Reply) → Kind
 kind_if c None = open_kind c

@@ -1,10 +1,13 @@
 -- WHAT IS KEPT OF THE CALLS OF A KEY: those that ended after a moment at which the key was at rest.
-use Rattle.std.specs.Prelude.{◌≡◌, ◌≢◌, ℕ, ◌<◌, ◌≤◌, ◌==◌, ◌||◌, ◌⊎◌, nat_lt, not, Bool, true, false, List, [], ◌∷◌, ◌++◌, length, map, filter, All, Contains}
+use Rattle.std.specs.Prelude.{◌≡◌, ◌≢◌, ℕ, ◌<◌, ◌≤◌, ◌==◌, ◌||◌, ◌⊎◌, nat_lt, not, Bool, true, List, [], ◌∷◌, ◌++◌, length, map, filter, All, Contains}
 use Rattle.std.specs.Prelude.{Option, Some, None, IfSome}
 use Rattle.std.specs.Bool.{nat_eq}
 use Rattle.std.specs.HashMap.{get}
 use Rattle.lset_words.specs.declared.Reply.{Reply}
 use Rattle.lset_words.specs.declared.history.CallRecord.{CallRecord}
+use Rattle.lset_words.specs.declared.effect.Presence.{Presence}
+use Rattle.lset_words.specs.declared.effect.Presence.TheVariants.{Absent}
+use Rattle.lset_words.specs.Effects.{is_there}
 use Rattle.lset_words.specs.Words.{key_of}
 use Rattle.lset_words.specs.History.{call_numbered, IsHistory}
 use Rattle.lset_words.specs.declared.Key.{Key}
@@ -26,18 +29,18 @@ use Rattle.lset_judge.specs.Window.{makes_so, IsReached, IsRestOf, IsWindow}
 -- the calls that ended after a moment; how the key was then, if it is known that it was at rest; and a change that made it so
 pub record Logged : Type 0 where
   pub since : ℕ
-  pub there : Option Bool
+  pub there : Option Presence
   pub before : Option StreamCall
   pub ended : List Ended
 
 abbrev pub log_of : Log → Logged
 log_of l = record { since = l.since; there = l.there; before = l.before; ended = l.ended.items }
 
-abbrev pub log_opened : Bool → Logged
+abbrev pub log_opened : Presence → Logged
 log_opened there = record { since = 0; there = Some there; before = None; ended = [] }
 
 abbrev pub log_or : Option KeyState → Logged
-log_or None = log_opened false
+log_or None = log_opened Absent
 log_or (Some s) = log_of s.log
 
 abbrev pub log_for : States → ℕ → Logged
@@ -55,7 +58,7 @@ with_pending xs l = record { since = l.since; there = l.there; before = l.before
 abbrev pub stays_after : ℕ → Ended → Bool
 stays_after since x = not (has_ended since x.call.ended)
 
-abbrev pub cut_to : ℕ → Option Bool → Option StreamCall → Logged → Logged
+abbrev pub cut_to : ℕ → Option Presence → Option StreamCall → Logged → Logged
 cut_to since there before l = record { since = since; there = there; before = before; ended = filter (stays_after since) l.ended }
 
 abbrev pub calls_in : List Ended → List StreamCall
@@ -75,7 +78,7 @@ abbrev pub IsOverBy : ℕ → ℕ → List CallRecord → Type 0
 IsOverBy key moment calls = All (λ (x : CallRecord). (key_of x.call).0 ≡ key → may_turn x ≡ true → x.begun ≤ moment → has_ended moment x.ended ≡ true) calls
 
 -- how the key is at rest after an end, if that is known, and if each change that began by then has ended by then
-abbrev pub Rests : ℕ → List ℕ → List CallRecord → ℕ → ℕ → Option Bool → Option (ℕ × Reply) → Type 0
+abbrev pub Rests : ℕ → List ℕ → List CallRecord → ℕ → ℕ → Option Presence → Option (ℕ × Reply) → Type 0
 Rests threads opening calls key upto None ended = Unit {0}
 Rests threads opening calls key upto (Some there) None = Unit {0}
 Rests threads opening calls key upto (Some there) (Some e) = (e.0 ≤ upto) × (IsOverBy key e.0 calls → IsAtRest threads opening calls key e.0 there)
@@ -92,7 +95,7 @@ IsHeld l pending x = (has_ended l.since x.ended ≡ true) ⊎ (Contains (calls_i
 
 -- the calls of the key that began by a moment
 pub record IsLog (threads : ℕ) (opening : List ℕ) (calls : List CallRecord) (key upto : ℕ) (pending : List Pending) (l : Logged) : Type 0 where
-  pub base : IfSome l.there (λ (there : Bool). (l.since ≤ upto) × IsAtRest threads opening calls key l.since there)
+  pub base : IfSome l.there (λ (there : Presence). (l.since ≤ upto) × IsAtRest threads opening calls key l.since there)
   pub made : IfSome l.before (λ (b : StreamCall). Contains calls (record_of b))
   pub entries : All (IsEntry threads opening calls key upto) l.ended
   pub all : (n : ℕ) → n < length calls → (key_of (call_numbered calls n).call).0 ≡ key → (call_numbered calls n).begun ≤ upto
@@ -139,18 +142,18 @@ StaysLog key pending old new = (threads upto : ℕ) (opening : List ℕ) (calls 
     → IsLog threads opening calls key upto waiting old → IsLog threads opening calls key upto waiting new
 
 -- how the key is after an end, if each change that had begun has taken effect
-abbrev pub IsQuiet : State → Option Bool → Type 0
-IsQuiet s quiet = IfSome quiet (λ (there : Bool). (s.there ≡ there) × (s.puts ≡ []) × (s.takes ≡ []))
+abbrev pub IsQuiet : State → Option Presence → Type 0
+IsQuiet s quiet = IfSome quiet (λ (there : Presence). (s.there ≡ is_there there) × (s.puts ≡ []) × (s.takes ≡ []))
 
 -- a call ends, and is kept
 abbrev pub IsKept : States → StreamCall → Bool → States → Type 0
-IsKept before call goes_on after = (quiet : Option Bool) × IsQuiet (state_for after (key_of call.call).0) quiet × IfSome quiet (λ (there : Bool). goes_on ≡ true)
+IsKept before call goes_on after = (quiet : Option Presence) × IsQuiet (state_for after (key_of call.call).0) quiet × IfSome quiet (λ (there : Presence). goes_on ≡ true)
     × (log_for after (key_of call.call).0 ≡ pushed (record { call = call; quiet = quiet }) (log_for before (key_of call.call).0))
 
 abbrev pub LogsEnd : States → List Pending → StreamCall → States → Option Failed → Option Failed → Type 0
 LogsEnd before pending call after (Some f) failed = (k : ℕ) → log_for after k ≡ log_for before k
 LogsEnd before pending call after None None = ((k : ℕ) → k ≢ (key_of call.call).0 → log_for after k ≡ log_for before k)
-    × ((quiet : Option Bool) × IsQuiet (state_for after (key_of call.call).0) quiet × StaysLog (key_of call.call).0 (waiting_of (key_of call.call).0 pending)
+    × ((quiet : Option Presence) × IsQuiet (state_for after (key_of call.call).0) quiet × StaysLog (key_of call.call).0 (waiting_of (key_of call.call).0 pending)
     (pushed (record { call = call; quiet = quiet }) (log_for before (key_of call.call).0)) (log_for after (key_of call.call).0))
 LogsEnd before pending call after None (Some f) = log_for after (key_of call.call).0
     ≡ with_pending (waiting_of (key_of call.call).0 pending) (pushed (unquiet call) (log_for before (key_of call.call).0))
@@ -168,11 +171,11 @@ IsRestFrom key l r = (threads upto : ℕ) (opening : List ℕ) (calls : List Cal
     → IsRestOf threads opening calls key l.since r
 
 -- by what is kept of a key
-abbrev pub TellsOf : Key → Option Bool → Logged → Window → Type 0
+abbrev pub TellsOf : Key → Option Presence → Logged → Window → Type 0
 TellsOf key left l w = (w.key ≡ key) × (w.left ≡ left) × ((threads upto : ℕ) (opening : List ℕ) (calls : List CallRecord) (moment : Option ℕ)
     → IsHistory threads calls → IsLog threads opening calls key.0 upto [] l → IsReached moment calls upto → IsWindow threads opening calls left moment w)
 
 -- by what the stream keeps
-abbrev pub TellsStream : Refusal → Option Bool → Stream → Window → Type 0
+abbrev pub TellsStream : Refusal → Option Presence → Stream → Window → Type 0
 TellsStream refusal left s w = (w.key ≡ refusal.key) × (w.left ≡ left) × ((threads : ℕ) (opening : List ℕ) (calls : List CallRecord)
     → IsStreamKept threads opening calls s → IsWindow threads opening calls left refusal.moment w)

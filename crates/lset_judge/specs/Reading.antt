@@ -2,9 +2,9 @@
 -- own key absent. Each of these calls tells more than that; so if no order explains the calls as read, none explains the calls.
 use Rattle.std.specs.Prelude.{ℕ, List, map, Option, Some, None}
 use Rattle.lset_words.specs.declared.Call.{Call}
-use Rattle.lset_words.specs.declared.Call.TheVariants.{Add, Remove, Contains, Ceiling}
+use Rattle.lset_words.specs.declared.Call.TheVariants.{Add, Contains, Ceiling}
 use Rattle.lset_words.specs.declared.Reply.{Reply}
-use Rattle.lset_words.specs.declared.Reply.TheVariants.{True, False, Full, At, Nothing}
+use Rattle.lset_words.specs.declared.Reply.TheVariants.{True, False, Full, At}
 use Rattle.lset_words.specs.declared.history.CallRecord.{CallRecord}
 use Rattle.lset_history.specs.History.{HistoryValue}
 use Rattle.lset_judge.specs.Verdict.{IsPlain, IsExplained, IsUnexplained, with_quota, without_quota}
@@ -14,28 +14,15 @@ use Rattle.lset_judge.specs.declared.history.Judged.TheVariants as judged
 use Rattle.lset_judge.specs.Judge.{IsVerdict}
 
 abbrev pub call_as : Call → Reply → Call
-call_as (Add k) True = Add k
-call_as (Add k) False = Add k
 call_as (Add k) Full = Contains k
-call_as (Add k) (At x) = Add k
-call_as (Add k) Nothing = Add k
-call_as (Remove k) r = Remove k
-call_as (Contains k) r = Contains k
-call_as (Ceiling k) True = Contains k
-call_as (Ceiling k) False = Contains k
-call_as (Ceiling k) Full = Contains k
 call_as (Ceiling k) (At x) = Contains x
-call_as (Ceiling k) Nothing = Contains k
+call_as (Ceiling k) r = Contains k
+call_as c r = c
 
 abbrev pub reply_as : Call → Reply → Reply
 reply_as c True = True
-reply_as c False = False
-reply_as c Full = False
-reply_as (Add k) (At x) = False
-reply_as (Remove k) (At x) = False
-reply_as (Contains k) (At x) = False
 reply_as (Ceiling k) (At x) = True
-reply_as c Nothing = False
+reply_as c r = False
 
 abbrev pub call_if : Call → Option (ℕ × Reply) → Call
 call_if c None = c

@@ -1,11 +1,15 @@
 -- The rule of the judge, on the calls of one key: what happens at each moment, and which pending change takes effect.
 use Rattle.std.specs.Prelude.{ℕ, zero, suc, ◌+◌, ◌==◌, ◌||◌, min, nat_lt, Bool, true, false, not, if◌then◌else◌, List, [], ◌∷◌}
 use Rattle.std.specs.Prelude.{length, Option, Some, None, is_some}
+
 -- WHAT HAPPENS AT A MOMENT: a change begins, to there (`true`) or to not there, and the moment at which it ends; such a change ends;
 -- a look ends, what it saw and the moment at which it began; the key is left there or not; or nothing of the key.
-pub use Rattle.lset_judge.specs.declared.event.Event.{Event}
-pub use Rattle.lset_judge.specs.declared.event.Event.TheVariants.{Begins as begins, Ends as ends, Looks as looks, Leaves as leaves}
-pub use Rattle.lset_judge.specs.declared.event.Event.TheVariants.{Idle as idle}
+pub data Event : Type 0 where
+  begins : Bool → ℕ → Event
+  ends : Bool → Event
+  looks : Bool → ℕ → Event
+  leaves : Bool → Event
+  idle : Event
 
 -- THE STATE of the key: whether it is there, the moment of the last turn, and the ends of the changes that have begun and may still
 -- turn it, to there and to not there

@@ -2,14 +2,15 @@
 use Rattle.std.specs.Prelude.{◌≡◌, ℕ, ◌≤◌, ◌==◌, ◌&&◌, nat_le, if◌then◌else◌, Bool, true, false, List, [], ◌∷◌, filter, length}
 use Rattle.std.specs.Prelude.{Option, Some, None, All, IfSome, count_by}
 use Rattle.lset_words.specs.declared.Call.{Call}
-use Rattle.lset_words.specs.declared.Call.TheVariants.{Add, Remove, Contains, Ceiling}
+use Rattle.lset_words.specs.declared.Call.TheVariants.{Ceiling}
 use Rattle.lset_words.specs.declared.Reply.{Reply}
-use Rattle.lset_words.specs.declared.Reply.TheVariants.{True, False, Full, At, Nothing}
+use Rattle.lset_words.specs.declared.Reply.TheVariants.{True, False}
 use Rattle.lset_words.specs.declared.history.CallRecord.{CallRecord}
 use Rattle.lset_words.specs.declared.history.Placed.{Placed}
 use Rattle.lset_words.specs.Words.{key_of}
 use Rattle.lset_words.specs.SequentialSet.{has_key}
 use Rattle.lset_history.specs.History.{HistoryValue, latest_moment}
+use Rattle.lset_judge.specs.Events.{Kind, changes, sees, nothing, kind_if}
 use Rattle.lset_history.specs.Faults.{Explains}
 
 -- SOME ORDER EXPLAINS the calls and leaves the keys
@@ -24,34 +25,21 @@ IsUnexplained h keys = (order : List Placed) → Explains h order keys → ⊥
 abbrev pub is_truth : Reply → Bool
 is_truth True = true
 is_truth False = true
-is_truth Full = false
-is_truth (At x) = false
-is_truth Nothing = false
+is_truth r = false
 
 -- and not to a ceiling
 abbrev pub is_plain : Call → Reply → Bool
-is_plain (Add k) r = is_truth r
-is_plain (Remove k) r = is_truth r
-is_plain (Contains k) r = is_truth r
 is_plain (Ceiling k) r = false
+is_plain c r = is_truth r
 
 -- an add that put its key in, or that is open and may
-abbrev pub is_true : Reply → Bool
-is_true True = true
-is_true False = false
-is_true Full = false
-is_true (At x) = false
-is_true Nothing = false
-
-abbrev pub is_true_or_open : Option (ℕ × Reply) → Bool
-is_true_or_open None = true
-is_true_or_open (Some e) = is_true e.1
+abbrev pub puts_in : Kind → Bool
+puts_in (changes w) = w
+puts_in (sees w) = false
+puts_in nothing = false
 
 abbrev pub may_add : Call → Option (ℕ × Reply) → Bool
-may_add (Add k) ended = is_true_or_open ended
-may_add (Remove k) ended = false
-may_add (Contains k) ended = false
-may_add (Ceiling k) ended = false
+may_add c ended = puts_in (kind_if c ended)
 
 -- how many adds of a thread put their keys in, or may
 abbrev pub adds_of : ℕ → List CallRecord → ℕ

@@ -1,13 +1,14 @@
 -- A WINDOW: the few calls of a key, from a moment at which it is at rest, that show why no order explains a recording.
-use Rattle.std.specs.Prelude.{◌≡◌, ℕ, ◌<◌, ◌≤◌, ◌==◌, ◌&&◌, ◌||◌, ◌⊎◌, nat_lt, if◌then◌else◌, Bool, true, List, map, filter, All, Option, Some, None, IfSome, false, not, Contains as Has}
-use Rattle.lset_words.specs.declared.Call.{Call}
-use Rattle.lset_words.specs.declared.Call.TheVariants.{Add, Remove, Contains, Ceiling}
+use Rattle.std.specs.Prelude.{◌≡◌, ℕ, ◌<◌, ◌≤◌, ◌==◌, ◌&&◌, ◌||◌, ◌⊎◌, nat_lt, if◌then◌else◌, Bool, true, List, map, filter, All, Option, Some, None, IfSome, Contains as Has}
 use Rattle.lset_words.specs.declared.history.CallRecord.{CallRecord}
+use Rattle.lset_words.specs.declared.effect.Presence.{Presence}
+use Rattle.lset_words.specs.Effects.{is_there, presence}
 use Rattle.lset_words.specs.Words.{key_of}
 use Rattle.lset_words.specs.History.{IsHistory}
 use Rattle.lset_words.specs.SequentialSet.{has_key}
 use Rattle.lset_judge.specs.declared.stream.StreamCall.{StreamCall}
-use Rattle.lset_judge.specs.Rest.{alone, has_ended, key_if, may_turn, IsAtRest}
+use Rattle.lset_judge.specs.Rest.{alone, has_ended, key_if, may_turn, turns_to, IsAtRest}
+use Rattle.lset_judge.specs.Events.{kind_if}
 use Rattle.lset_judge.specs.Stream.{record_of}
 use Rattle.lset_judge.specs.Verdict.{IsUnexplained}
 use Rattle.lset_judge.specs.declared.asked.Part.{Part}
@@ -18,19 +19,19 @@ abbrev pub records : List StreamCall → List CallRecord
 records calls = map record_of calls
 
 -- no order explains these calls of a key, of a set that opens with it or without it: whatever keys they leave, or if they leave the key so
-abbrev pub HaveNone : ℕ → ℕ → Bool → Option Bool → List CallRecord → Type 0
-HaveNone threads key there left calls = (quota : ℕ) (keys : List ℕ) → IfSome left (λ (l : Bool). keys ≡ key_if l key)
-    → IsUnexplained (alone threads quota there key calls) keys
+abbrev pub HaveNone : ℕ → ℕ → Presence → Option Presence → List CallRecord → Type 0
+HaveNone threads key there left calls = (quota : ℕ) (keys : List ℕ) → IfSome left (λ (l : Presence). keys ≡ key_if (is_there l) key)
+    → IsUnexplained (alone threads quota (is_there there) key calls) keys
 
 -- how the key of a refusal is left, if that is what has no order
-abbrev pub left_by : List ℕ → ℕ → Option ℕ → Option Bool
+abbrev pub left_by : List ℕ → ℕ → Option ℕ → Option Presence
 left_by keys key (Some moment) = None
-left_by keys key None = Some (has_key key keys)
+left_by keys key None = Some (presence (has_key key keys))
 
 -- ---- what the functions on the way say
 
 -- they are a history that has none, if their threads are below a number
-abbrev pub HaveNoneOf : ℕ → ℕ → Bool → Option Bool → List StreamCall → Type 0
+abbrev pub HaveNoneOf : ℕ → ℕ → Presence → Option Presence → List StreamCall → Type 0
 HaveNoneOf threads key there left calls = All (λ (x : StreamCall). x.thread < threads) calls
     → IsHistory threads (records calls) × HaveNone threads key there left (records calls)
 
@@ -57,19 +58,12 @@ hidden_between first last p = record {
   is_shown = p.is_shown && (nat_lt p.call.begun first || nat_lt last p.call.begun);
 }
 
--- an add or a remove that turned its key so
-abbrev pub turns_to : Bool → Call → Bool
-turns_to there (Add k) = there
-turns_to there (Remove k) = not there
-turns_to there (Contains k) = false
-turns_to there (Ceiling k) = false
-
 -- a change of the key to there, or to not there, that has ended by a moment
-abbrev pub makes_so : ℕ → ℕ → Bool → StreamCall → Bool
-makes_so key since there x = ((key_of x.call).0 == key && turns_to there x.call) && (may_turn (record_of x) && has_ended since x.ended)
+abbrev pub makes_so : ℕ → ℕ → Presence → StreamCall → Bool
+makes_so key since there x = (key_of x.call).0 == key && (turns_to there (kind_if x.call x.ended) && has_ended since x.ended)
 
 -- a call of the recording that made the key so
-pub record IsMaker (calls : List CallRecord) (key since : ℕ) (there : Bool) (x : StreamCall) : Type 0 where
+pub record IsMaker (calls : List CallRecord) (key since : ℕ) (there : Presence) (x : StreamCall) : Type 0 where
   pub known : Has calls (record_of x)
   pub makes : makes_so key since there x ≡ true
 
@@ -98,8 +92,8 @@ IsReached (Some moment) calls upto = moment ≡ upto
 
 -- THE WINDOW: at its moment the key is at rest, and there or not; and from there calls have no order that are the shown ones, and of the other
 -- changes of the key that begin after that moment, up to the refusal's, each as pending: whatever became of them
-pub record IsWindowOf (threads : ℕ) (opening : List ℕ) (calls : List CallRecord) (left : Option Bool) (moment : Option ℕ)
-    (key since : ℕ) (there : Bool) (before : Option StreamCall) (calls_shown : List StreamCall) : Type 0 where
+pub record IsWindowOf (threads : ℕ) (opening : List ℕ) (calls : List CallRecord) (left : Option Presence) (moment : Option ℕ)
+    (key since : ℕ) (there : Presence) (before : Option StreamCall) (calls_shown : List StreamCall) : Type 0 where
   pub rest : IsAtRest threads opening calls key since there
   pub made : IfSome before (IsMaker calls key since there)
   pub upto : ℕ
@@ -118,7 +112,7 @@ pub record IsWindowOf (threads : ℕ) (opening : List ℕ) (calls : List CallRec
   pub changes : All (λ (x : CallRecord). (key_of x.call).0 ≡ key → may_turn x ≡ true → since < x.begun → x.begun ≤ upto
       → (y : CallRecord) × Has asked y × (IsSame x y ⊎ IsOpened x y)) calls
 
-abbrev pub IsWindow : ℕ → List ℕ → List CallRecord → Option Bool → Option ℕ → Window → Type 0
+abbrev pub IsWindow : ℕ → List ℕ → List CallRecord → Option Presence → Option ℕ → Window → Type 0
 IsWindow threads opening calls left moment w = IsWindowOf threads opening calls left moment w.key.0 w.since w.there w.before w.calls.items
 
 -- a key at rest at a moment no earlier than another

@@ -2,12 +2,14 @@
 
 ghost use Rattle.std.specs.Prelude.{◌≡◌, ◌<◌, ℕ, All, IfOk, OnOk, IfSome, IsTrue, filter, map};
 ghost use Rattle.std.specs.List.Sorted.{IsStrictlyIncreasing};
+ghost use Rattle.lset_words.specs.Effects.{is_there};
 ghost use Rattle.lset_judge.specs.Rest.{key_if};
 ghost use Rattle.lset_judge.specs.Log.{IsStreamKept};
 ghost use Rattle.lset_judge.specs.Window.{records, asked_as, asked_of, calls_of, hidden_between, is_asked, HaveNoneOf};
 
 use crate::log::may_turn;
 use crate::stream::{Stream, StreamCall, StreamFault, StreamVerdict};
+use lset_words::Presence;
 use std::alloc::{AllocError, Global};
 
 /// How many calls are looked at, at most, to find those that need not be shown.
@@ -58,12 +60,12 @@ impl Part {
 }
 
 /// The key, if it is there.
-fn key_if(alloc: Global, there: bool, key: u32) -> Result<Vec<u32>, AllocError>
-    ensures are { IfOk result (λ keys. keys.items ≡ key_if there key) }
+fn key_if(alloc: Global, there: Presence, key: u32) -> Result<Vec<u32>, AllocError>
+    ensures are { IfOk result (λ keys. keys.items ≡ key_if (is_there there) key) }
     ensures increasing { IfOk result (λ keys. IsStrictlyIncreasing keys.items) }
 {
     let mut keys = Vec::new(alloc);
-    if there {
+    if there == Presence::Present {
         keys.push(key)?;
     }
     Ok(keys)
@@ -73,11 +75,11 @@ fn key_if(alloc: Global, there: bool, key: u32) -> Result<Vec<u32>, AllocError>
 fn stream_of(
     alloc: Global,
     key: u32,
-    there: bool,
+    there: Presence,
     calls: &[StreamCall],
 ) -> Result<Option<Stream>, AllocError>
     ensures { IfOk result (λ found. IfSome found (λ s. (threads : ℕ) → All (λ x. x.thread < threads) calls.now
-        → IsStreamKept threads (key_if there key) (records calls.now) s)) }
+        → IsStreamKept threads (key_if (is_there there) key) (records calls.now) s)) }
 {
     let opening = key_if(alloc, there, key)?;
     let mut stream = Stream::new(alloc, &opening)?;
@@ -101,8 +103,8 @@ fn stream_of(
 fn have_none(
     alloc: Global,
     key: u32,
-    there: bool,
-    left: Option<bool>,
+    there: Presence,
+    left: Option<Presence>,
     calls: &[StreamCall],
 ) -> Result<bool, AllocError>
     ensures { IfOk result (λ none. IsTrue none → (threads : ℕ) → HaveNoneOf threads key there left calls.now) }
@@ -141,8 +143,8 @@ fn asked_of(alloc: Global, parts: &[Part]) -> Result<Vec<StreamCall>, AllocError
 pub(crate) fn parts_have_none(
     alloc: Global,
     key: u32,
-    there: bool,
-    left: Option<bool>,
+    there: Presence,
+    left: Option<Presence>,
     parts: &[Part],
 ) -> Result<bool, AllocError>
     ensures { IfOk result (λ none. IsTrue none → (threads : ℕ) → HaveNoneOf threads key there left (asked_of parts.now)) }
@@ -167,8 +169,8 @@ fn without(alloc: Global, parts: &[Part], first: u64, last: u64) -> Result<Vec<P
 fn leave_out(
     alloc: Global,
     key: u32,
-    there: bool,
-    left: Option<bool>,
+    there: Presence,
+    left: Option<Presence>,
     parts: &mut Vec<Part>,
     block: (u64, u64),
 ) -> Result<u64, AllocError>
@@ -193,8 +195,8 @@ fn leave_out(
 pub(crate) fn shorten(
     alloc: Global,
     key: u32,
-    there: bool,
-    left: Option<bool>,
+    there: Presence,
+    left: Option<Presence>,
     parts: &mut Vec<Part>,
 ) -> Result<(), AllocError>
     ensures same { OnOk result (calls_of parts.new.items ≡ calls_of parts.old.items) }

@@ -1,79 +1,52 @@
-//! What the calls of a key do to it, and what happens of it at a moment.
+//! What happens of a key at a moment.
 
 ghost use Rattle.std.specs.Prelude.{◌≡◌};
-ghost use Rattle.lset_judge.specs.Events.{kind_of, open_kind, begin_event, end_event};
+ghost use Rattle.lset_judge.specs.Code.{event_as};
+ghost use Rattle.lset_judge.specs.Events.{kind_as, open_kind, begin_event, end_event};
 
-use lset_words::{Call, Reply};
-
-/// What a call does to its key.
-#[derive(Clone, Copy, Debug, PartialEq, Eq)]
-pub(crate) enum Kind {
-    /// It puts the key in, or takes it out.
-    Changes(bool),
-    /// It sees the key there, or not there.
-    Sees(bool),
-    /// Nothing is told.
-    Nothing,
-}
+use lset_words::{Call, Effect, Presence};
 
 /// What happens of a key at a moment.
 #[derive(Clone, Copy, Debug, PartialEq, Eq)]
 pub(crate) enum Event {
-    /// A change begins, to there or to not there, and the moment before which it takes effect.
-    Begins(bool, u64),
+    /// A change begins: how it leaves the key, and the moment before which it takes effect.
+    Begins(Presence, u64),
     /// Such a change ends.
-    Ends(bool),
-    /// A call ends that saw the key there, or not there, and the moment at which it began.
-    Looks(bool, u64),
-    /// The key is left there, or not there.
-    Leaves(bool),
+    Ends(Presence),
+    /// A call ends that saw the key so, and the moment at which it began.
+    Looks(Presence, u64),
     /// Nothing.
     Idle,
 }
 
-pub(crate) fn ended_kind(call: Call, reply: Reply) -> Kind
-    ensures { result ≡ kind_of call reply }
-{
-    match (call, reply) {
-        (Call::Add(_), Reply::True) => Kind::Changes(true),
-        (Call::Remove(_), Reply::True) => Kind::Changes(false),
-        (Call::Add(_), Reply::False) | (Call::Contains(_), Reply::True) => Kind::Sees(true),
-        (Call::Add(_), Reply::Full) | (Call::Remove(_) | Call::Contains(_), Reply::False) => {
-            Kind::Sees(false)
-        }
-        (Call::Add(_), Reply::At(_) | Reply::Nothing)
-        | (Call::Remove(_) | Call::Contains(_), Reply::Full | Reply::At(_) | Reply::Nothing)
-        | (Call::Ceiling(_), _) => Kind::Nothing,
-    }
-}
-
-pub(crate) fn open_kind(call: Call) -> Kind
-    ensures { result ≡ open_kind call }
+/// What a call that has not ended may do to its key.
+pub(crate) fn open_effect(call: Call) -> Effect
+    ensures { kind_as result ≡ open_kind call }
 {
     match call {
-        Call::Add(_) => Kind::Changes(true),
-        Call::Remove(_) => Kind::Changes(false),
-        Call::Contains(_) | Call::Ceiling(_) => Kind::Nothing,
+        Call::Add(_) => Effect::Changes(Presence::Present),
+        Call::Remove(_) => Effect::Changes(Presence::Absent),
+        Call::Contains(_) | Call::Ceiling(_) => Effect::Other,
     }
 }
 
 /// What a call is to its key as it begins: before which moment it takes effect.
-pub(crate) fn begin_event(kind: Kind, until: u64) -> Event
-    ensures { result ≡ begin_event kind until }
+pub(crate) fn begin_event(effect: Effect, until: u64) -> Event
+    ensures { event_as result ≡ begin_event (kind_as effect) until }
 {
-    match kind {
-        Kind::Changes(to) => Event::Begins(to, until),
-        Kind::Sees(_) | Kind::Nothing => Event::Idle,
+    match effect {
+        Effect::Changes(to) => Event::Begins(to, until),
+        Effect::Sees(_) | Effect::Other => Event::Idle,
     }
 }
 
 /// And as it ends: the moment at which it began.
-pub(crate) fn end_event(kind: Kind, begun: u64) -> Event
-    ensures { result ≡ end_event kind begun }
+pub(crate) fn end_event(effect: Effect, begun: u64) -> Event
+    ensures { event_as result ≡ end_event (kind_as effect) begun }
 {
-    match kind {
-        Kind::Changes(to) => Event::Ends(to),
-        Kind::Sees(there) => Event::Looks(there, begun),
-        Kind::Nothing => Event::Idle,
+    match effect {
+        Effect::Changes(to) => Event::Ends(to),
+        Effect::Sees(seen) => Event::Looks(seen, begun),
+        Effect::Other => Event::Idle,
     }
 }

@@ -31,14 +31,9 @@ fn call_as(call: Call, reply: Reply) -> Call
 {
     match (call, reply) {
         (Call::Add(key), Reply::Full) => Call::Contains(key),
-        (Call::Add(key), Reply::True | Reply::False | Reply::At(_) | Reply::Nothing) => Call::Add(
-            key,
-        ),
-        (Call::Remove(key), _) => Call::Remove(key),
-        (Call::Contains(key), _) => Call::Contains(key),
         (Call::Ceiling(_), Reply::At(key)) => Call::Contains(key),
-        (Call::Ceiling(key), Reply::True | Reply::False | Reply::Full | Reply::Nothing) =>
-            Call::Contains(key),
+        (Call::Ceiling(key), _) => Call::Contains(key),
+        (call, _) => call,
     }
 }
 
@@ -47,8 +42,7 @@ fn reply_as(call: Call, reply: Reply) -> Reply
 {
     match (call, reply) {
         (_, Reply::True) | (Call::Ceiling(_), Reply::At(_)) => Reply::True,
-        (_, Reply::False | Reply::Full | Reply::Nothing)
-        | (Call::Add(_) | Call::Remove(_) | Call::Contains(_), Reply::At(_)) => Reply::False,
+        _ => Reply::False,
     }
 }
 

@@ -3,19 +3,16 @@
 ghost use Rattle.std.specs.Prelude.{◌≡◌, ◌≤◌, ℕ, IsTrue, ◌↔◌, All, IfSome, true};
 ghost use Rattle.lset_judge.specs.Verdict.{is_plain, may_add, adds_of, IsPlain, IsJudged};
 
+use crate::event::open_effect;
 use lset_history::History;
-use lset_words::{Call, CallRecord, MOST_THREADS, Reply};
+use lset_words::{Call, CallRecord, Effect, MOST_THREADS, Presence, Reply};
 
 pub(crate) fn is_answer(call: Call, reply: Reply) -> bool
     ensures { result ≡ is_plain call reply }
 {
-    match (call, reply) {
-        (Call::Add(_) | Call::Remove(_) | Call::Contains(_), Reply::True | Reply::False) => true,
-        (
-            Call::Add(_) | Call::Remove(_) | Call::Contains(_),
-            Reply::Full | Reply::At(_) | Reply::Nothing,
-        )
-        | (Call::Ceiling(_), _) => false,
+    match call {
+        Call::Ceiling(_) => false,
+        _ => matches!(reply, Reply::True | Reply::False),
     }
 }
 
@@ -31,11 +28,11 @@ fn ends_plain(call_record: &CallRecord) -> bool
 fn may_add(call_record: &CallRecord) -> bool
     ensures { result ≡ may_add call_record.now.call call_record.now.ended }
 {
-    match (call_record.call, call_record.ended) {
-        (Call::Add(_), None | Some((_, Reply::True))) => true,
-        (Call::Add(_), Some((_, Reply::False | Reply::Full | Reply::At(_) | Reply::Nothing)))
-        | (Call::Remove(_) | Call::Contains(_) | Call::Ceiling(_), _) => false,
-    }
+    let effect = match call_record.ended {
+        None => open_effect(call_record.call),
+        Some((_, reply)) => call_record.call.effect(reply),
+    };
+    matches!(effect, Effect::Changes(Presence::Present))
 }
 
 fn all_plain(calls: &[CallRecord]) -> bool

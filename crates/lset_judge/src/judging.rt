@@ -9,9 +9,10 @@ ghost use Rattle.lset_judge.specs.Judge.{IsJudgeOf, IsVerdict, IsVerdictCutOff};
 ghost use Rattle.lset_judge.specs.Window.{left_by};
 ghost use Rattle.lset_judge.specs.declared.stream.StreamVerdict.TheVariants.{NotLinearizable};
 
-use crate::keys::is_among;
+use crate::keys::presence_in;
 use crate::stream::{Refusal, Stream, StreamCall, StreamFault, StreamVerdict};
 use crate::window::{Window, window_of};
+use lset_words::Presence;
 use std::alloc::{AllocError, Global};
 
 /// What the judge says.
@@ -34,13 +35,13 @@ pub struct Judge {
 }
 
 /// How the key of a refusal is left, if that is what has no order.
-fn left_as(keys: &[u32], refusal: Refusal) -> Option<bool>
+fn left_as(keys: &[u32], refusal: Refusal) -> Option<Presence>
     requires { IsStrictlyIncreasing keys.now }
     ensures { result ≡ left_by keys.now refusal.key.0 refusal.moment }
 {
     match refusal.moment {
         Some(_) => None,
-        None => Some(is_among(keys, refusal.key.0)),
+        None => Some(presence_in(keys, refusal.key.0)),
     }
 }
 
@@ -49,7 +50,7 @@ fn window_for(
     alloc: Global,
     stream: Stream,
     refusal: Refusal,
-    left: Option<bool>,
+    left: Option<Presence>,
 ) -> Result<Option<Window>, AllocError>
     requires { IsToldBy stream.failed (NotLinearizable refusal) }
     ensures { IfOk result (λ found. IfSome found (TellsStream refusal left stream)) }

@@ -2,12 +2,18 @@
 
 ghost use Rattle.std.specs.Prelude.{◌≡◌};
 ghost use Rattle.std.specs.List.Sorted.{IsStrictlyIncreasing};
+ghost use Rattle.lset_words.specs.Effects.{presence};
 ghost use Rattle.lset_words.specs.SequentialSet.{has_key};
 
+use lset_words::Presence;
+
 /// Whether a key is among keys.
-pub(crate) fn is_among(keys: &[u32], key: u32) -> bool
+pub(crate) fn presence_in(keys: &[u32], key: u32) -> Presence
     requires { IsStrictlyIncreasing keys.now }
-    ensures { result ≡ has_key key keys.now }
+    ensures { result ≡ presence (has_key key keys.now) }
 {
-    keys.binary_search(&key).is_ok()
+    match keys.binary_search(&key) {
+        Ok(_) => Presence::Present,
+        Err(_) => Presence::Absent,
+    }
 }

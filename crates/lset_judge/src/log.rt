@@ -1,14 +1,15 @@
 //! What is kept of the calls of a key: those that ended after a moment, and when the key was at rest.
 
 ghost use Rattle.std.specs.Prelude.{◌≡◌, ◌<◌, ◌≤◌, ◌++◌, ◌∷◌, [], ℕ, List, All, Contains, OnOk, IfOk, IfSome, Some, None, map, length, true};
-ghost use Rattle.lset_judge.specs.Rest.{has_ended, may_turn};
+ghost use Rattle.lset_judge.specs.Events.{kind_if};
+ghost use Rattle.lset_judge.specs.Rest.{has_ended, may_turn, turns_to};
 ghost use Rattle.lset_judge.specs.Stream.{record_of};
-ghost use Rattle.lset_judge.specs.Window.{turns_to, makes_so};
+ghost use Rattle.lset_judge.specs.Window.{makes_so};
 ghost use Rattle.lset_judge.specs.Log.{log_of, log_opened, is_over, pushed, cut_to, with_pending, stays_after, calls_after, IsMadeBy, IsRestIn, StaysLog};
 ghost use Rattle.std.specs.List.Sorted.{IsPermutation};
 
 use crate::stream::StreamCall;
-use lset_words::{Call, Reply};
+use lset_words::{Effect, Presence};
 use std::alloc::{AllocError, Global};
 
 /// How many calls of a key are kept, at most.
@@ -25,14 +26,14 @@ const WALKED_FOR_ONE: usize = 16;
 pub(crate) struct Ended {
     pub(crate) call: StreamCall,
     /// Whether the key is there after its end, if each change that had begun had taken effect.
-    pub(crate) quiet: Option<bool>,
+    pub(crate) quiet: Option<Presence>,
 }
 
 /// A moment at which a key is at rest, and whether it is there then.
 #[derive(Clone, Copy)]
 pub(crate) struct Rest {
     pub(crate) since: u64,
-    pub(crate) there: bool,
+    pub(crate) there: Presence,
 }
 
 /// The calls of a key that ended after a moment, by their ends. At that moment the key was at rest, and there or not, unless that is not
@@ -40,7 +41,7 @@ pub(crate) struct Rest {
 #[derive(Drop)]
 pub(crate) struct Log {
     since: u64,
-    there: Option<bool>,
+    there: Option<Presence>,
     before: Option<StreamCall>,
     ended: Vec<Ended>,
     next_look: usize,
@@ -50,23 +51,18 @@ pub(crate) struct Log {
 pub(crate) fn may_turn(call: StreamCall) -> bool
     ensures { result ≡ may_turn (record_of call) }
 {
-    match (call.call, call.ended) {
-        (Call::Add(_) | Call::Remove(_), None | Some((_, Reply::True))) => true,
-        (
-            Call::Add(_) | Call::Remove(_),
-            Some((_, Reply::False | Reply::Full | Reply::At(_) | Reply::Nothing)),
-        )
-        | (Call::Contains(_) | Call::Ceiling(_), _) => false,
+    match call.effect() {
+        Effect::Changes(_) => true,
+        Effect::Sees(_) | Effect::Other => false,
     }
 }
 
-fn turns(call: Call, there: bool) -> bool
-    ensures { result ≡ turns_to there call }
+fn turns_to(call: StreamCall, there: Presence) -> bool
+    ensures { result ≡ turns_to there (kind_if call.call call.ended) }
 {
-    match call {
-        Call::Add(_) => there,
-        Call::Remove(_) => !there,
-        Call::Contains(_) | Call::Ceiling(_) => false,
+    match call.effect() {
+        Effect::Changes(to) => to == there,
+        Effect::Sees(_) | Effect::Other => false,
     }
 }
 
@@ -83,8 +79,7 @@ fn has_ended(call: StreamCall, moment: u64) -> bool
 fn makes_so(call: StreamCall, key: u32, rest: Rest) -> bool
     ensures { result ≡ makes_so key rest.since rest.there call }
 {
-    let own = call.call.key().0 == key && turns(call.call, rest.there);
-    own && (may_turn(call) && has_ended(call, rest.since))
+    call.is_of(key) && (turns_to(call, rest.there) && has_ended(call, rest.since))
 }
 
 /// Whether a call is no change of its key that is pending at a moment.
@@ -111,7 +106,7 @@ fn earliest_begin(calls: &[StreamCall]) -> u64 {
 
 impl Log {
     /// No calls, of a key that is there at first, or not.
-    pub(crate) fn opened(alloc: Global, there: bool) -> Log
+    pub(crate) fn opened(alloc: Global, there: Presence) -> Log
         ensures { log_of result ≡ log_opened there }
     {
         Log {
@@ -124,7 +119,11 @@ impl Log {
     }
 
     /// Keeps a call that ends, after all that ended before.
-    pub(crate) fn push(&mut self, call: StreamCall, quiet: Option<bool>) -> Result<(), AllocError>
+    pub(crate) fn push(
+        &mut self,
+        call: StreamCall,
+        quiet: Option<Presence>,
+    ) -> Result<(), AllocError>
         ensures { OnOk result (log_of self.new ≡ pushed (record { call = call; quiet = quiet }) (log_of self.old)) }
     {
         self.ended.push(Ended { call, quiet })?;
@@ -263,7 +262,7 @@ impl Log {
     }
 
     /// Leaves out the calls that ended by a moment.
-    fn cut_to(&mut self, since: u64, there: Option<bool>, before: Option<StreamCall>)
+    fn cut_to(&mut self, since: u64, there: Option<Presence>, before: Option<StreamCall>)
         ensures { log_of self.new ≡ cut_to since there before (log_of self.old) }
     {
         self.ended.retain(|entry| !has_ended(entry.call, since));

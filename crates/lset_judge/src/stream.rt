@@ -9,20 +9,22 @@ ghost use Rattle.lset_words.specs.declared.history.CallRecord.{CallRecord as Rec
 ghost use Rattle.lset_words.specs.SequentialSet.{has_key};
 ghost use Rattle.lset_words.specs.Words.{key_of};
 ghost use Rattle.lset_judge.specs.Rule.{entered, found, opened};
-ghost use Rattle.lset_judge.specs.Events.{kind_if, until_if, begin_event, end_event};
+ghost use Rattle.lset_words.specs.Effects.{presence};
+ghost use Rattle.lset_judge.specs.Code.{event_as};
+ghost use Rattle.lset_judge.specs.Events.{kind_as, kind_if, until_if, begin_event, end_event};
 ghost use Rattle.lset_judge.specs.Leaving.{may_be_left};
 ghost use Rattle.lset_judge.specs.Log.{log_of, log_for, log_opened, log_upto, waiting_of, with_pending, IsKept, IsStreamKept, LogsEnd, StaysLog};
 ghost use Rattle.lset_judge.specs.Stream.{record_of, stream_history, behind_all, state_for, pending_of, key_in, event_of, IsBefore, IsMet, IsStreamOf, MayCome, failed_verdict, verdict_of_key, moment_of, pending_in, IsStreamVerdict, IsStreamVerdictCutOff, IsMetBy, IsToldBy};
 ghost use Rattle.lset_judge.specs.Verdict.{is_plain};
 ghost use Rattle.lset_judge.specs.declared.stream.StreamFault.TheVariants.{Memory};
 
-use crate::event::{Event, Kind, begin_event, end_event, ended_kind, open_kind};
+use crate::event::{Event, begin_event, end_event, open_effect};
 use crate::judged::is_answer;
-use crate::keys::is_among;
+use crate::keys::presence_in;
 use crate::log::Log;
 use crate::pending::PendingCalls;
 use crate::rule::KeyState;
-use lset_words::{Call, Key, Reply};
+use lset_words::{Call, Effect, Key, Presence, Reply};
 use std::alloc::{AllocError, Global};
 use std::collections::HashMap;
 use thiserror::Error;
@@ -114,12 +116,13 @@ impl StreamCall {
         self.call.key().0 == key
     }
 
-    fn kind(self) -> Kind
-        ensures { result ≡ kind_if self.call self.ended }
+    /// What the call does to its key, or may do.
+    pub(crate) fn effect(self) -> Effect
+        ensures { kind_as result ≡ kind_if self.call self.ended }
     {
         match self.ended {
-            None => open_kind(self.call),
-            Some((_, reply)) => ended_kind(self.call, reply),
+            None => open_effect(self.call),
+            Some((_, reply)) => self.call.effect(reply),
         }
     }
 
@@ -180,9 +183,9 @@ impl Pending {
 
     /// What the end of the call is to its key.
     pub(crate) fn event(self) -> Event
-        ensures { result ≡ event_of self }
+        ensures { event_as result ≡ event_of self }
     {
-        end_event(self.call.kind(), self.call.begun)
+        end_event(self.call.effect(), self.call.begun)
     }
 }
 
@@ -194,7 +197,7 @@ fn meet_key(
     before: u64,
     event: Event,
 ) -> Result<bool, AllocError>
-    ensures met { IfOk result (λ goes_on. entered event (found before event (state_for states.old key))
+    ensures met { IfOk result (λ goes_on. entered (event_as event) (found before (event_as event) (state_for states.old key))
         ≡ (if goes_on then Some (state_for states.new key) else None)) }
     ensures others { IfOk result (λ goes_on. (k : ℕ) → k ≢ key → state_for states.new k ≡ state_for states.old k) }
     ensures logs { OnOk result ((k : ℕ) → log_for states.new k ≡ log_for states.old k) }
@@ -203,7 +206,7 @@ fn meet_key(
         let goes_on = state.meet(before, event)?;
         return Ok(goes_on);
     }
-    let mut state = KeyState::opened(alloc, false);
+    let mut state = KeyState::opened(alloc, Presence::Absent);
     let goes_on = state.meet(before, event)?;
     states.insert(key, state)?;
     Ok(goes_on)
@@ -224,7 +227,7 @@ fn meet_key_end(
     event: Event,
     call: StreamCall,
 ) -> Result<EndMet, AllocError>
-    ensures met { IfOk result (λ m. entered event (found before event (state_for states.old (key_of call.call).0))
+    ensures met { IfOk result (λ m. entered (event_as event) (found before (event_as event) (state_for states.old (key_of call.call).0))
         ≡ (if m.goes_on then Some (state_for states.new (key_of call.call).0) else None)) }
     ensures others { OnOk result ((k : ℕ) → k ≢ (key_of call.call).0 → state_for states.new k ≡ state_for states.old k) }
     ensures logs { OnOk result ((k : ℕ) → k ≢ (key_of call.call).0 → log_for states.new k ≡ log_for states.old k) }
@@ -238,7 +241,7 @@ fn meet_key_end(
             is_due: state.log.is_due(),
         });
     }
-    let mut state = KeyState::opened(alloc, false);
+    let mut state = KeyState::opened(alloc, Presence::Absent);
     let goes_on = state.meet_end(before, event, call)?;
     states.insert(key, state)?;
     Ok(EndMet {
@@ -281,7 +284,7 @@ fn keep_pending(
         state.log.add_pending(&waiting)?;
         return Ok(());
     }
-    let mut state = KeyState::opened(alloc, false);
+    let mut state = KeyState::opened(alloc, Presence::Absent);
     state.log.add_pending(&waiting)?;
     states.insert(key, state)?;
     Ok(())
@@ -290,11 +293,11 @@ fn keep_pending(
 /// The states of a set that opens with these keys.
 fn opening_states(alloc: Global, opening: &[u32]) -> Result<HashMap<u32, KeyState>, AllocError>
     ensures states { IfOk result (λ states. (k : ℕ) → state_for states k ≡ opened (has_key k opening.now)) }
-    ensures logs { IfOk result (λ states. (k : ℕ) → log_for states k ≡ log_opened (has_key k opening.now)) }
+    ensures logs { IfOk result (λ states. (k : ℕ) → log_for states k ≡ log_opened (presence (has_key k opening.now))) }
 {
     let mut states = HashMap::new(alloc);
     for key in opening {
-        states.insert(*key, KeyState::opened(alloc, true))?;
+        states.insert(*key, KeyState::opened(alloc, Presence::Present))?;
     }
     Ok(states)
 }
@@ -381,7 +384,7 @@ impl Stream {
 
     /// Lets happen what happens of a key at a moment, and goes on to it.
     fn meet(&mut self, key: u32, moment: u64, event: Event) -> Result<(), AllocError>
-        ensures met { OnOk result (IsMet self.old key moment event self.new) }
+        ensures met { OnOk result (IsMet self.old key moment (event_as event) self.new) }
         ensures logs { OnOk result ((k : ℕ) → log_for self.new.states k ≡ log_for self.old.states k) }
     {
         if matches!(event, Event::Idle) {
@@ -479,7 +482,7 @@ impl Stream {
         self.meet(
             pending.key(),
             call.begun,
-            begin_event(call.kind(), pending.end),
+            begin_event(call.effect(), pending.end),
         )?;
         Ok(())
     }
@@ -522,7 +525,7 @@ impl Stream {
     {
         let mut wrong: Option<u32> = None;
         for (key, state) in &self.states {
-            if !state.may_be_left(is_among(keys, *key)) {
+            if !state.may_be_left(presence_in(keys, *key)) {
                 wrong = Some(smallest(*key, wrong));
             }
         }
@@ -599,7 +602,7 @@ impl Stream {
     {
         let mut log = match self.states.remove(&key) {
             Some(state) => state.into_log(),
-            None => Log::opened(self.alloc, false),
+            None => Log::opened(self.alloc, Presence::Absent),
         };
         if self.failed.is_some() {
             return Ok(log);

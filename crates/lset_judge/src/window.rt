@@ -7,7 +7,7 @@ ghost use Rattle.lset_judge.specs.Window.{calls_of, shown_of};
 use crate::asked::{Part, parts_have_none, shorten};
 use crate::log::{Log, Rest};
 use crate::stream::StreamCall;
-use lset_words::Key;
+use lset_words::{Key, Presence};
 use std::alloc::{AllocError, Global};
 
 /// A few calls of one key that no order explains, from a moment at which the key is at rest.
@@ -17,12 +17,12 @@ pub struct Window {
     pub key: Key,
     /// A moment at which each change of the key that has begun has ended.
     pub since: u64,
-    /// Whether the key is there at that moment: some order explains the calls of the key that have ended, and each leaves it so.
-    pub there: bool,
+    /// How the key is at that moment: some order explains the calls of the key that have ended, and each leaves it so.
+    pub there: Presence,
     /// The change that made it so: the last of those to end. `None` if the set opened so, or if the change is not known any more.
     pub before: Option<StreamCall>,
     /// How the key is left, if the calls have an order, and none that leaves it so.
-    pub left: Option<bool>,
+    pub left: Option<Presence>,
     /// Calls of the key that begin after that moment, by their begins: from the key as it is there they have no order, whatever became of
     /// the calls that are not shown. They are as many as that takes, mostly one to four.
     pub calls: Vec<StreamCall>,
@@ -96,7 +96,7 @@ fn hidden_of(parts: &[Part]) -> Option<Hidden> {
 fn window_at(
     alloc: Global,
     key: Key,
-    left: Option<bool>,
+    left: Option<Presence>,
     log: &Log,
     rest: Rest,
 ) -> Result<Option<Window>, AllocError>
@@ -126,7 +126,7 @@ fn window_at(
 pub(crate) fn window_of(
     alloc: Global,
     key: Key,
-    left: Option<bool>,
+    left: Option<Presence>,
     log: &Log,
 ) -> Result<Option<Window>, AllocError>
     ensures { IfOk result (λ found. IfSome found (TellsOf key left (log_of log.now))) }

@@ -98,7 +98,7 @@ fn of_many_calls_those_that_show_the_error_are_left(rt: HostRuntime) -> Result<(
     assert!(rt; refusal.key == FIVE && refusal.moment == Some(205));
     let begins: [u64; 2] = [202, 204];
     assert!(rt; window.calls.iter().map(|call| call.begun).eq(begins));
-    assert!(rt; window.since == 0 && !window.there && window.before.is_none());
+    assert!(rt; window.since == 0 && window.there == Presence::Absent && window.before.is_none());
     let hidden = Hidden {
         count: LOOKS - 1,
         first: 1,

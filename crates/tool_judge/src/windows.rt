@@ -1,5 +1,6 @@
 use lset_judge::{Hidden, StreamCall, Window};
 use lset_text::{call_word, reply_word};
+use lset_words::Presence;
 use std::alloc::{AllocError, Global};
 
 /// The most calls that are printed: of more, the last to begin.
@@ -47,15 +48,14 @@ fn put_state(out: &mut String, window: &Window) -> Result<(), AllocError> {
     }
 }
 
-fn state_words(there: bool) -> &'static str {
-    if there {
-        "the key is there"
-    } else {
-        "the key is not there"
+fn state_words(there: Presence) -> &'static str {
+    match there {
+        Presence::Present => "the key is there",
+        Presence::Absent => "the key is not there",
     }
 }
 
-fn heading(left: Option<bool>) -> &'static str {
+fn heading(left: Option<Presence>) -> &'static str {
     match left {
         None => "from there these calls have no order:",
         Some(_) => "from there these calls have no order that leaves the key as it was left:",

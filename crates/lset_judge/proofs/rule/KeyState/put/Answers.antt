@@ -1,12 +1,13 @@
-use Rattle.std.proofs.Common.{false}
+use Rattle.std.proofs.Common.{false, ap}
+use Rattle.lset_words.specs.Effects.{is_there}
 use Rattle.lset_judge.proofs.EndsInHeap.{put_turned, none_turned}
 use Rattle.lset_judge.proofs.rule.KeyState.put.Goals as goal
 
 pub returns-in-Some-clause-turned : goal.returns-in-Some-clause-turned
 returns-in-Some-clause-turned c =
     let s = c.args.self.now in
-    put_turned c.args.before s.turned _ s.there s.puts s.takes c.pop.new.self c.requires c.in-Some.ensures.0 c.in-Some.ensures.1
+    put_turned c.args.before s.turned _ (is_there s.there) s.puts s.takes c.pop.new.self (ap is_there c.requires) c.in-Some.ensures.0 c.in-Some.ensures.1
 
 pub returns-in-None-clause-turned : goal.returns-in-None-clause-turned
 returns-in-None-clause-turned c =
-    let s = c.args.self.now in none_turned c.args.before s.turned s.there false s.puts s.takes c.requires c.in-None.ensures
+    let s = c.args.self.now in none_turned c.args.before s.turned (is_there s.there) false s.puts s.takes (ap is_there c.requires) c.in-None.ensures

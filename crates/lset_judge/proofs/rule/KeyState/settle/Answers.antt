@@ -1,6 +1,6 @@
 use Rattle.std.proofs.Common.{arith, sym, ◌∙◌, suc, ◌≡◌, false, ◌<◌}
 use Rattle.lset_judge.specs.Rule.{fits, open_changes}
-use Rattle.lset_judge.specs.Code.{state_of}
+use Rattle.lset_judge.specs.Code.{state_of, event_as}
 use Rattle.lset_judge.proofs.EndsInHeap.{one_fewer, settles_on}
 use Rattle.lset_judge.proofs.rule.KeyState.settle.Goals as goal
 
@@ -13,8 +13,8 @@ loop-event-smaller c =
 pub loop-event-preserved : goal.loop-event-preserved
 loop-event-preserved c =
     let s = state_of c.loop-event.self in
-    let not_found : fits (suc c.args.before) c.args.event s ≡ false = sym c.loop-event-test.ensures in
+    let not_found : fits (suc c.args.before) (event_as c.args.event) s ≡ false = sym c.loop-event-test.ensures in
     record {
-      found = sym (settles_on c.args.before c.args.event s (state_of c.flip.new.self) not_found c.if-not-flip.ensures.turned) ∙ c.loop-event.invariant.found;
+      found = sym (settles_on c.args.before (event_as c.args.event) s (state_of c.flip.new.self) not_found c.if-not-flip.ensures.turned) ∙ c.loop-event.invariant.found;
       log = c.if-not-flip.ensures.log ∙ c.loop-event.invariant.log;
     }

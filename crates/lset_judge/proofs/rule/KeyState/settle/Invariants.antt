@@ -1,11 +1,11 @@
 use Rattle.std.proofs.Common.{◌≡◌}
 use Rattle.lset_judge.specs.Rule.{found, open_changes}
-use Rattle.lset_judge.specs.Code.{state_of}
+use Rattle.lset_judge.specs.Code.{state_of, event_as}
 use Rattle.lset_judge.proofs.rule.KeyState.settle.Given as goal
 
 abbrev pub invariant-loop-event : goal.invariant-loop-event
 invariant-loop-event l = record {
-  found : found l.before l.event (state_of l.self) ≡ found l.initial.before l.initial.event (state_of l.initial.self);
+  found : found l.before (event_as l.event) (state_of l.self) ≡ found l.initial.before (event_as l.initial.event) (state_of l.initial.self);
   log : l.self.log ≡ l.initial.self.log;
 }
 

@@ -1,6 +1,7 @@
 use Rattle.std.proofs.Common.{◌≢◌, ◌∷◌, ◌∙◌, List, All, IsPermutation, ap, sym, subst, arith}
 use Rattle.lset_words.specs.Words.{key_of}
 use Rattle.lset_judge.specs.declared.stream.Pending.{Pending}
+use Rattle.lset_judge.specs.Code.{event_as}
 use Rattle.lset_judge.specs.Events.{kind_if, begin_event}
 use Rattle.lset_judge.specs.Stream.{record_of, pending_of, key_in, IsMetBy}
 use Rattle.lset_judge.proofs.CallBegins.{begins_apart, call_begun}
@@ -17,14 +18,14 @@ pub returns-clause-begun : goal.returns-clause-begun
 returns-clause-begun c = λ threads opening calls low is.
     let s = c.args.self.now in let t = c.meet.new.self in let x = c.args.call in let p = c.pending-pending.result in
     let met = c.in_ok-meet.ensures.met in let own = c.pending-pending.ensures in
-    let event = c.begin_event.ensures ∙ ap (λ k. begin_event k p.end) c.kind.ensures
+    let event = c.begin_event.ensures ∙ ap (λ k. begin_event k p.end) c.effect.ensures
     ∙ ap (begin_event (kind_if x.call x.ended)) (ap (λ q. q.end) own) in
     let apart = subst (λ (q : Pending). All (λ (r : Pending). r.end ≢ q.end) s.pending) (sym own)
     (begins_apart threads opening calls s is.stream (record_of x) c.requires.may c.requires.met) in
     let moved = subst (λ (ps : List Pending). IsPermutation (pending_of (record_of x) ∷ s.pending) ps) (sym met.pending)
     (subst (λ (q : Pending). IsPermutation (q ∷ s.pending) c.insert.new.self) own (c.in_ok-insert.ensures apart)) in
     let by = subst (λ v. IsMetBy s.states (key_of x.call).0 x.begun v t.states s.failed t.failed) event
-    (subst (λ k. IsMetBy s.states k x.begun c.begin_event.result t.states s.failed t.failed) (c.key.ensures ∙ ap (λ q. key_in q) own) met.by) in record {
+    (subst (λ k. IsMetBy s.states k x.begun (event_as c.begin_event.result) t.states s.failed t.failed) (c.key.ensures ∙ ap (λ q. key_in q) own) met.by) in record {
       stream = call_begun threads opening calls s is.stream (record_of x) c.requires.may c.requires.met low t moved met.at_moment by;
       logged = begin_logged threads opening calls s t is.stream (record_of x) c.requires.may moved met.at_moment c.in_ok-meet.ensures.logs s.failed t.failed by
           is.stream.judged is.logged;

@@ -9,12 +9,14 @@ use Rattle.std.specs.Map.Iter.{deref_pair}
 use Rattle.std.proofs.lemmas.Bool.{cases_Bool}
 use Rattle.std.proofs.lemmas.Map.Iter.{hash_map_turn, iter_end}
 use Rattle.std.proofs.lemmas.List.Elements.{All-push, All-map, recursion_from_All}
+use Rattle.lset_words.specs.Effects.{is_there}
 use Rattle.lset_words.specs.SequentialSet.{has_key}
 use Rattle.lset_words.proofs.Numbers.{same_number}
 use Rattle.lset_judge.specs.declared.rule.KeyState.{KeyState}
 use Rattle.lset_judge.specs.Code.{state_of}
 use Rattle.lset_judge.specs.Leaving.{may_be_left}
 use Rattle.lset_judge.specs.Stream.{state_or, state_for}
+use Rattle.lset_judge.proofs.KeyStates.{there_again}
 use Rattle.lset_judge.proofs.stream.Stream.wrongly_left.Goals as goal
 
 -- one more that is left rightly
@@ -51,7 +53,8 @@ loop-key-preserved-then-not-may_be_left c =
     wrong_more (λ k. may_be_left (has_key k keys) (state_for m k) ≡ false)
     (All (λ p. may_be_left (has_key p.0.now keys) (state_of p.1.now) ≡ true) c.loop-key.yielded) c.loop-key.wrong k c.smallest.result c.smallest.ensures
     (ap (λ o. may_be_left (has_key k keys) (state_or o)) turn.1
-    ∙ sym (c.may_be_left.ensures ∙ ap (λ b. may_be_left b (state_of s)) c.is_among.ensures) ∙ c.if-not-may_be_left.true)
+    ∙ sym (c.may_be_left.ensures ∙ ap (λ p. may_be_left (is_there p) (state_of s)) c.presence_in.ensures
+    ∙ sym (ap (λ b. may_be_left b (state_of s)) (there_again (has_key c.in-Some.key.now keys)))) ∙ c.if-not-may_be_left.true)
     c.loop-key.invariant
 
 pub loop-key-preserved : goal.loop-key-preserved
@@ -59,7 +62,8 @@ loop-key-preserved c =
     let keys = c.args.keys.now in
     right_more keys c.loop-key.yielded (c.in-Some.key, c.in-Some.state) c.loop-key.wrong
     (λ k. may_be_left (has_key k keys) (state_for c.args.self.now.states k) ≡ false) c.loop-key.invariant
-    (sym (c.may_be_left.ensures ∙ ap (λ b. may_be_left b (state_of c.in-Some.state.now)) c.is_among.ensures) ∙ c.if-not-may_be_left.false)
+    (sym (c.may_be_left.ensures ∙ ap (λ p. may_be_left (is_there p) (state_of c.in-Some.state.now)) c.presence_in.ensures
+    ∙ sym (ap (λ b. may_be_left b (state_of c.in-Some.state.now)) (there_again (has_key c.in-Some.key.now keys)))) ∙ c.if-not-may_be_left.false)
 
 pub returns : goal.returns
 returns c =

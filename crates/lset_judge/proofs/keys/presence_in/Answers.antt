@@ -4,11 +4,12 @@ use Rattle.std.specs.List.Sorted.{IsStrictlyIncreasing, IsBinarySearchResult}
 use Rattle.std.specs.Ordering.{nat_cmp}
 use Rattle.std.proofs.lemmas.List.{get_or_default}
 use Rattle.std.proofs.lemmas.List.Sorted.{searched}
+use Rattle.lset_words.specs.Effects.{presence}
 use Rattle.lset_words.specs.SequentialSet.{has_key}
 use Rattle.lset_words.proofs.Numbers.{below_or_not}
 use Rattle.lset_history.proofs.MomentSearch.{below_increases}
 use Rattle.lset_history.proofs.Keys.{has_true, has_false}
-use Rattle.lset_judge.proofs.keys.is_among.Goals as goal
+use Rattle.lset_judge.proofs.keys.presence_in.Goals as goal
 
 among : (keys : List ℕ) (k : ℕ) (r : Result ℕ ℕ) → IsStrictlyIncreasing keys → IsBinarySearchResult (λ y. nat_cmp y k) keys r
     → is_ok r ≡ has_key k keys
@@ -25,5 +26,10 @@ among keys k r up found = by r (searched keys k r found (below_increases keys up
           | inr high ↦ (let a = h.2 c.0 high c.1 in omega (arith, a, same))
         ]))
 
-pub returns : goal.returns
-returns c = c.is_ok.ensures.value ∙ among c.args.keys.now c.args.key c.binary_search.result c.requires c.binary_search.ensures.position
+pub returns-in-Ok : goal.returns-in-Ok
+returns-in-Ok c = sym (ap (λ r. presence (is_ok r)) c.in-Ok.is)
+    ∙ ap presence (among c.args.keys.now c.args.key c.binary_search.result c.requires c.binary_search.ensures.position)
+
+pub returns-in-Err : goal.returns-in-Err
+returns-in-Err c = sym (ap (λ r. presence (is_ok r)) c.in-Err.is)
+    ∙ ap presence (among c.args.keys.now c.args.key c.binary_search.result c.requires c.binary_search.ensures.position)
