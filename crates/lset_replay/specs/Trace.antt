@@ -25,18 +25,10 @@ use Rattle.lset_replay.specs.declared.recorder.Recorder.{Recorder}
 -- Whether a reply of a call that changes nothing is correct if the call's key is in the set, or if it is not; of a ceiling, if what
 -- it answers is
 abbrev pub needs_key : Call → Reply → Bool
-needs_key (call.Add k) reply.True = false
 needs_key (call.Add k) reply.False = true
-needs_key (call.Add k) reply.Full = false
-needs_key (call.Add k) (reply.At x) = false
-needs_key (call.Add k) reply.Nothing = false
-needs_key (call.Remove k) r = false
 needs_key (call.Contains k) reply.True = true
-needs_key (call.Contains k) reply.False = false
-needs_key (call.Contains k) reply.Full = false
-needs_key (call.Contains k) (reply.At x) = false
-needs_key (call.Contains k) reply.Nothing = false
 needs_key (call.Ceiling k) r = true
+needs_key c r = false
 
 -- the key that a ceiling answers, or none
 abbrev pub found_in : Reply → Option ℕ

@@ -1,7 +1,7 @@
 ghost use Rattle.std.specs.Prelude.{◌≡◌};
 ghost use Rattle.lset_replay.specs.Trace.{needs_key, found_in, changed_at, read_at};
 
-use lset_words::{Call, Reply};
+use lset_words::{Call, Effect, Presence, Reply};
 
 /// A pending call: its number, and the moment at which it began.
 #[derive(Clone, Copy)]
@@ -16,12 +16,8 @@ pub(crate) struct OpenCall {
 pub(crate) fn needs_key(call: Call, reply: Reply) -> bool
     ensures { result ≡ needs_key call reply }
 {
-    match call {
-        Call::Add(_) => reply == Reply::False,
-        Call::Contains(_) => reply == Reply::True,
-        Call::Remove(_) => false,
-        Call::Ceiling(_) => true,
-    }
+    matches!(call, Call::Ceiling(_))
+        || matches!(call.effect(reply), Effect::Sees(Presence::Present))
 }
 
 /// Returns the key that a `ceiling` replied, `None` if it replied that there is none.

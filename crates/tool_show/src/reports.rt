@@ -2,16 +2,8 @@ use crate::picture::Picture;
 use crate::refusing::why_refused;
 use lset_history::{History, Placed};
 use lset_report::Report;
-use lset_words::{Call, Point, Reply};
+use lset_words::{Effect, Point};
 use std::alloc::{AllocError, Global};
-
-/// Whether a call with this reply changes the set.
-fn changes_set(call: Call, reply: Reply) -> bool {
-    match call {
-        Call::Add(_) | Call::Remove(_) => reply == Reply::True,
-        Call::Contains(_) | Call::Ceiling(_) => false,
-    }
-}
 
 /// The first points of an order that explains its calls: for each place the later of the moment at which its call began and the
 /// point before it. (Herlihy and Wing's linearization points.)
@@ -27,7 +19,7 @@ fn first_points(
             moment = record.begun.max(moment);
             points.push(Point {
                 moment,
-                change: changes_set(record.call, place.reply),
+                change: matches!(record.call.effect(place.reply), Effect::Changes(_)),
             })?;
         }
     }
