@@ -2,7 +2,7 @@
 use Rattle.std.proofs.Common.{◌≡◌, List, [], Option, Some, None, Result, Ok, Err, refl, true, subst, sym}
 use Rattle.std.specs.Prelude.{option_map, Box, IsErrAnd}
 use Rattle.std.specs.Box.{box_value}
-use Rattle.clap.specs.Words.{App, HasMatchesOf, Row, Text, fault_of, is_simple, is_simple_and_free, subcommand_of}
+use Rattle.clap.specs.Words.{App, HasMatchesOf, Row, Text, fault_of, is_simple_and_free, subcommand_of}
 use Rattle.clap.specs.Words.{subcommand_name_of, subcommand_rows, subcommand_rows_of}
 use Rattle.clap.specs.Kinds.{FailsBy, HasKind, Kinds}
 use Rattle.clap.specs.declared.error.Error.{Error}
@@ -14,25 +14,18 @@ use Rattle.lset_command.specs.declared.command_line.Command.{Command}
 use Rattle.lset_command.specs.declared.command_line.Command.TheVariants.{Replay}
 use Rattle.lset_command.specs.declared.command_line.Words.{Words}
 
-is_simple-listset : is_simple listset ≡ true
-is_simple-listset = refl
-
-is_simple_and_free-listset : is_simple_and_free listset ≡ true
-is_simple_and_free-listset = refl
-
 abbrev pub chosen : Command → List Text → OptionValues → Choice
 chosen command values options = record { command = command; values = values; options = options }
 
 -- what clap says of a command that is the program
 pub program_matches : (m : ArgMatches) (a : App) (words : List Text) → a ≡ listset → HasMatchesOf a words m →
     subcommand_rows_of m ≡ subcommand_of listset words
-program_matches m a words is matches = (subst (λ (x : App). HasMatchesOf x words m) is matches is_simple-listset).1
+program_matches m a words is matches = (subst (λ (x : App). HasMatchesOf x words m) is matches refl).1
 
 pub program_faults : (P : Kinds → Type 0) (a : App) (words : List Text) → a ≡ listset →
     (is_simple_and_free a ≡ true → P (fault_of a words))
     → P (fault_of listset words)
-program_faults P a words is faults = subst (λ (x : App). is_simple_and_free x ≡ true → P (fault_of x words)) is faults
-    is_simple_and_free-listset
+program_faults P a words is faults = subst (λ (x : App). is_simple_and_free x ≡ true → P (fault_of x words)) is faults refl
 
 pub no_command : (m : ArgMatches) (found : Option (Text × List Row)) → None ≡ subcommand_name_of m → subcommand_rows_of m ≡ found
     → found ≡ None

@@ -111,10 +111,6 @@ Makes made a = IfOk made (λ c. IsApp c a)
 abbrev pub MakesWithArg : Result clap.Command AllocError → Arg → Result clap.Command AllocError → Type 0
 MakesWithArg old arg new = (a : App) (r : Rule) → Makes old a → rule_of arg ≡ r → arg.global ≡ false → Makes new (with_rule a r)
 
--- one more value, which may be left out
-abbrev pub MakesWithValue : Result clap.Command AllocError → Text → Result clap.Command AllocError → Type 0
-MakesWithValue old name new = (a : App) → Makes old a → Makes new (with_rule a (new_rule name))
-
 -- one more subcommand, if both were made
 abbrev pub MakesWithSubcommand : Result clap.Command AllocError → Result clap.Command AllocError → Result clap.Command AllocError →
     Type 0

@@ -4,7 +4,7 @@ ghost use Rattle.clap.specs.Walk.{first_of, texts};
 ghost use Rattle.clap.specs.declared.error.kind.ErrorKind.TheVariants.{OutOfMemory};
 ghost use Rattle.lset_command.specs.CommandLine.{choice_in, choice_of, command_named, file_app, path_of, six_values, serve_app};
 ghost use Rattle.lset_command.specs.CommandLine.{example_app, flag_rule, option_rule, run_app, show_app, trace_app};
-ghost use Rattle.lset_command.specs.CommandLine.{IsApp, Makes, MakesWithArg, MakesWithSubcommand, MakesWithValue, is_on, is_option, listset, replay_app, options_in, options_of, values_by, values_in};
+ghost use Rattle.lset_command.specs.CommandLine.{IsApp, Makes, MakesWithArg, MakesWithSubcommand, is_on, is_option, listset, replay_app, options_in, options_of, values_by, values_in};
 
 use clap::error::ErrorKind;
 use clap::{Arg, ArgAction, ArgMatches, Error};
@@ -16,6 +16,8 @@ pub const VERSION: &str = "0.1.0\nRattle kit 13, logic dac8208d650f15bf";
 
 // Helps on arguments and options.
 const KIND: &str = "List: coarse, fine, optimistic, lazy or lock-free";
+
+const THREADS: &str = "Number of threads: 1 to 64";
 
 const QUOTA_OF_THREAD: &str = "Successful adds allowed per thread: 0 to 16384";
 
@@ -169,18 +171,6 @@ fn and_arg<'a>(
     command?.arg(arg)
 }
 
-// The command with one more value, which may be left out.
-fn and_value<'a>(
-    alloc: Global,
-    command: Result<clap::Command<'a>, AllocError>,
-    name: &'a str,
-    help: &'a str,
-) -> Result<clap::Command<'a>, AllocError>
-    ensures { MakesWithValue command.entry name.entry.now result }
-{
-    and_arg(command, value(alloc, name, help))
-}
-
 // The command with one more subcommand, if both were made.
 fn and_subcommand<'a>(
     command: Result<clap::Command<'a>, AllocError>,
@@ -287,12 +277,12 @@ fn random_command<'a>(
     ensures { Makes result (six_values name.entry.now) }
 {
     let command = command_with_usage(alloc, name, about, usage, example);
-    let command = and_value(alloc, Ok(command), "KIND", KIND);
-    let command = and_value(alloc, command, "THREADS", "Number of threads: 1 to 64");
-    let command = and_value(alloc, command, "QUOTA", QUOTA_OF_THREAD);
-    let command = and_value(alloc, command, "CALLS", calls_help);
-    let command = and_value(alloc, command, "KEYS", KEYS);
-    and_value(alloc, command, "SEED", SEED)
+    let command = and_arg(Ok(command), value(alloc, "KIND", KIND));
+    let command = and_arg(command, value(alloc, "THREADS", THREADS));
+    let command = and_arg(command, value(alloc, "QUOTA", QUOTA_OF_THREAD));
+    let command = and_arg(command, value(alloc, "CALLS", calls_help));
+    let command = and_arg(command, value(alloc, "KEYS", KEYS));
+    and_arg(command, value(alloc, "SEED", SEED))
 }
 
 fn serve_command<'a>(alloc: Global) -> Result<clap::Command<'a>, AllocError>
@@ -305,12 +295,12 @@ fn serve_command<'a>(alloc: Global) -> Result<clap::Command<'a>, AllocError>
         "listset serve KIND SEATS QUOTA PORT SESSIONS [FILE]",
         "Example: listset serve lazy 2 16 4000 1",
     );
-    let command = and_value(alloc, Ok(command), "KIND", KIND);
-    let command = and_value(alloc, command, "SEATS", SEATS);
-    let command = and_value(alloc, command, "QUOTA", QUOTA_OF_SEAT);
-    let command = and_value(alloc, command, "PORT", PORT);
-    let command = and_value(alloc, command, "SESSIONS", SESSIONS);
-    and_value(alloc, command, "FILE", KEYS_FILE)
+    let command = and_arg(Ok(command), value(alloc, "KIND", KIND));
+    let command = and_arg(command, value(alloc, "SEATS", SEATS));
+    let command = and_arg(command, value(alloc, "QUOTA", QUOTA_OF_SEAT));
+    let command = and_arg(command, value(alloc, "PORT", PORT));
+    let command = and_arg(command, value(alloc, "SESSIONS", SESSIONS));
+    and_arg(command, value(alloc, "FILE", KEYS_FILE))
 }
 
 fn gen_command<'a>(alloc: Global) -> Result<clap::Command<'a>, AllocError>
@@ -414,13 +404,10 @@ fn program_command<'a>(alloc: Global, helps: Helps<'a>) -> Result<clap::Command<
 fn is_option(name: &str) -> bool
     ensures { result ≡ is_option name.now }
 {
-    name == "svg"
-        || name == "from"
-        || name == "to"
-        || name == "width"
-        || name == "chain"
-        || name == "broken"
-        || name == "lacks"
+    matches!(
+        name,
+        "svg" | "from" | "to" | "width" | "chain" | "broken" | "lacks"
+    )
 }
 
 // Adds the texts that `found` has by the name, if it is that of values. There may be none.

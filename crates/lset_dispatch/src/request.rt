@@ -30,10 +30,6 @@ pub(crate) enum Request {
     Faults,
 }
 
-fn text_of(option: &Option<String>) -> Option<&str> {
-    Some(option.as_ref()?.as_str())
-}
-
 /// The broken list that the option `--lacks` names, if it is given.
 fn find_broken(lacks: &Option<String>) -> Result<Option<BrokenList>, ValueName> {
     match lacks {
@@ -55,10 +51,13 @@ fn read_replay(lacks: &Option<String>) -> Result<Request, ValueName>
 fn read_show_request(options: &Options) -> Result<Request, ValueName>
     ensures { IfOk result IsKnown }
 {
-    let from = text_of(&options.from);
-    let to = text_of(&options.to);
-    let width = text_of(&options.width);
-    let show = read_show(options.svg, from, to, width)?;
+    let (from, to, width) = (&options.from, &options.to, &options.width);
+    let show = read_show(
+        options.svg,
+        from.as_deref(),
+        to.as_deref(),
+        width.as_deref(),
+    )?;
     let lacks = find_broken(&options.lacks)?;
     Ok(Request::Show(Show { lacks, ..show }))
 }
@@ -66,10 +65,7 @@ fn read_show_request(options: &Options) -> Result<Request, ValueName>
 fn read_example(words: &Words) -> Result<Request, ValueName>
     ensures { IfOk result IsKnown }
 {
-    let name = match words.values.first() {
-        Some(name) => Some(name.as_bytes()),
-        None => None,
-    };
+    let name = words.values.first().map(|name| name.as_bytes());
     let example = read_example_request(name, words.options.broken)?;
     Ok(Request::Example(example))
 }

@@ -1,5 +1,5 @@
 -- What the values of `gen` ask for.
-use Rattle.std.specs.Prelude.{ℕ, List, Option, option_and_then, slice_get, Result, Ok}
+use Rattle.std.specs.Prelude.{ℕ, ◌-◌, ◌^◌, List, Option, option_and_then, slice_get, Result, Ok}
 use Rattle.lset_words.specs.declared.Kind.{Kind}
 use Rattle.lset_words.specs.declared.TheConstants.{MOST_THREADS, MOST_QUOTA}
 use Rattle.lset_text.specs.Numbers.{number_in}
@@ -8,7 +8,7 @@ use Rattle.lset_text.specs.Spellings.{kind_of}
 use Rattle.tool_base.specs.declared.trouble.ValueName.{ValueName}
 use Rattle.tool_base.specs.declared.trouble.ValueName.TheVariants as name
 use Rattle.tool_base.specs.declared.arguments.RandomRequest.{RandomRequest}
-use Rattle.tool_base.specs.declared.arguments.TheConstants.{MOST_CALLS_ASKED, MOST_KEYS_ASKED, MOST_SEED}
+use Rattle.tool_base.specs.declared.arguments.TheConstants.{MOST_CALLS_ASKED}
 
 -- the kind whose word the value with this index, from 0, is
 abbrev pub kind_at : List (List ℕ) → ℕ → Option Kind
@@ -25,6 +25,6 @@ random_request_of values = do
   threads ← or_fail name.Threads (number_at values 1 1 MOST_THREADS)
   quota ← or_fail name.Quota (number_at values 2 0 MOST_QUOTA)
   calls ← or_fail name.Calls (number_at values 3 0 MOST_CALLS_ASKED)
-  keys ← or_fail name.Keys (number_at values 4 1 MOST_KEYS_ASKED)
-  seed ← or_fail name.Seed (number_at values 5 0 MOST_SEED)
+  keys ← or_fail name.Keys (number_at values 4 1 (2 ^ 32 - 1))
+  seed ← or_fail name.Seed (number_at values 5 0 (2 ^ 64 - 1))
   Ok (record { kind = kind; threads = threads; quota = quota; calls = calls; keys = keys; seed = seed })

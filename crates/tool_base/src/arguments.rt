@@ -1,4 +1,4 @@
-ghost use Rattle.std.specs.Prelude.{◌≡◌, ◌≤◌, IfOk, IfSome, map, string_bytes};
+ghost use Rattle.std.specs.Prelude.{◌≡◌, ◌≤◌, ◌-◌, ◌^◌, IfOk, IfSome, map, string_bytes};
 ghost use Rattle.lset_schedule.specs.Generating.{IsAccepted};
 ghost use Rattle.tool_base.specs.Arguments.{kind_at, number_at, random_request_of};
 
@@ -8,12 +8,6 @@ use lset_words::{Kind, MOST_QUOTA, MOST_THREADS};
 
 /// The maximum number of calls that an argument may ask for.
 pub const MOST_CALLS_ASKED: u32 = 10_000;
-
-/// The maximum number of keys of which calls are drawn: all keys are below it.
-pub const MOST_KEYS_ASKED: u32 = u32::MAX;
-
-/// The largest seed.
-pub const MOST_SEED: u64 = u64::MAX;
 
 /// The maximum number of rounds of `run`.
 pub const MOST_LIVES: u32 = 100;
@@ -83,9 +77,9 @@ fn number_at(values: &[String], index: usize, low: u32, high: u32) -> Option<u32
 }
 
 fn seed_at(values: &[String], index: usize) -> Option<u64>
-    ensures { result ≡ number_at (map string_bytes values.now) index 0 MOST_SEED }
+    ensures { result ≡ number_at (map string_bytes values.now) index 0 (2 ^ 64 - 1) }
 {
-    long_number(values.get(index)?.as_bytes(), 0, MOST_SEED)
+    long_number(values.get(index)?.as_bytes(), 0, u64::MAX)
 }
 
 /// Reads the arguments KIND, THREADS, QUOTA, CALLS, KEYS and SEED, in this order, with the ranges of `RandomRequest`;
@@ -100,7 +94,7 @@ pub fn read_random_request(values: &[String]) -> Result<RandomRequest, ValueName
     let threads = number_at(values, 1, 1, MOST_THREADS).ok_or(ValueName::Threads)?;
     let quota = number_at(values, 2, 0, MOST_QUOTA).ok_or(ValueName::Quota)?;
     let calls = number_at(values, 3, 0, MOST_CALLS_ASKED).ok_or(ValueName::Calls)?;
-    let keys = number_at(values, 4, 1, MOST_KEYS_ASKED).ok_or(ValueName::Keys)?;
+    let keys = number_at(values, 4, 1, u32::MAX).ok_or(ValueName::Keys)?;
     let seed = seed_at(values, 5).ok_or(ValueName::Seed)?;
     Ok(RandomRequest {
         kind,

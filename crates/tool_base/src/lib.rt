@@ -11,9 +11,8 @@ mod trouble;
 
 pub use answer::{Answer, deliver, line_of};
 pub use arguments::{
-    LivesRequest, MOST_CALLS_ASKED, MOST_KEYS_ASKED, MOST_LIVES, MOST_PORT, MOST_SEED,
-    MOST_SESSIONS_ASKED, RandomRequest, ServeRequest, read_lives_request, read_random_request,
-    read_serve_request,
+    LivesRequest, MOST_CALLS_ASKED, MOST_LIVES, MOST_PORT, MOST_SESSIONS_ASKED, RandomRequest,
+    ServeRequest, read_lives_request, read_random_request, read_serve_request,
 };
 pub use faults::{FAULTS, list_faults};
 pub use input::{Input, LONGEST, READ_SIZE, put, read_all};

@@ -127,15 +127,6 @@ pub fn run_lives<R: Threads + Wait + Sync>(
     })
 }
 
-fn run_values<R: Threads + Wait + Sync>(
-    rt: &R,
-    alloc: Global,
-    values: &[String],
-) -> Result<Answer, Trouble> {
-    let request = read_lives_request(values)?;
-    run_lives(rt, alloc, request)
-}
-
 /// Does what `run` does on these values, which are those of `read_lives_request`: writes the answer of `run_lives` to
 /// `output`, and returns the exit status. It is 0 if that was written. Else one line on `faults` says why, if it can be
 /// written: 2 for the first argument that is missing or wrong, 3 if an allocation failed, 1 for anything else, such as a
@@ -147,6 +138,9 @@ pub fn tool_run<R: Threads + Wait + Sync, W: Write, F: Write>(
     output: &mut W,
     faults: &mut F,
 ) -> u8 {
-    let made = run_values(rt, alloc, values);
+    let made = match read_lives_request(values) {
+        Ok(request) => run_lives(rt, alloc, request),
+        Err(wrong) => Err(Trouble::Bad(wrong)),
+    };
     deliver(made, output, faults)
 }
