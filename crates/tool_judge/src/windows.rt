@@ -111,11 +111,13 @@ fn put_hidden(out: &mut String, hidden: Option<Hidden>) -> Result<(), AllocError
     Ok(())
 }
 
-/// The lines about the few calls that show why no order explains a recording.
-pub(crate) fn window_text(alloc: Global, window: &Window) -> Result<Vec<u8>, AllocError> {
+/// The lines about the few calls that show why no order explains a recording, if there are such.
+pub(crate) fn window_text(alloc: Global, window: Option<&Window>) -> Result<String, AllocError> {
     let mut text = String::new(alloc);
-    put_state(&mut text, window)?;
-    put_calls(&mut text, window)?;
-    put_hidden(&mut text, window.hidden)?;
-    Ok(text.into_bytes())
+    if let Some(window) = window {
+        put_state(&mut text, window)?;
+        put_calls(&mut text, window)?;
+        put_hidden(&mut text, window.hidden)?;
+    }
+    Ok(text)
 }
