@@ -124,7 +124,6 @@ constexpr const char *IN_SET = ", in the fresh set %s of the run";
 constexpr const char *NO_FOLDER = "no file can be written in %s: name another folder by record";
 constexpr const char *NO_MEMORY = "there is no memory for the calls of a run";
 constexpr const char *NO_PROCESS = "no process could be started for a run: %s";
-constexpr const char *NOT_AGAIN = "the test did not come to this judge again in a process of its own: set own_process to false";
 constexpr const char *NO_JUDGE = "%s cannot be run: build listset, and put it in PATH or name it by LISTSET (node runs a listset.js)";
 constexpr const char *NO_VERDICT = "%s gave no verdict, but said: %s. Take a newer listset";
 // end of what is made

@@ -74,7 +74,6 @@ public final class Judge {
     private static final String RANGE = "%s is %s, and has to be %s to %s";
     private static final String TWICE = "the key function gives %s for %s and for %s: let it give each number a key of its own";
     private static final String HUNG = "the set hung: no call began or ended for %s s";
-    private static final String CRASHED = "the set crashed: %s";
     private static final String ENDED_SO = "the set ended its process with the status %s";
     private static final String THREW = "a call of the set failed: %s";
     private static final String NOT_MADE = "the set could not be made: %s";
@@ -86,9 +85,6 @@ public final class Judge {
     private static final String KEY_IS = "key %s of the recording is %s";
     private static final String IN_SET = ", in the fresh set %s of the run";
     private static final String NO_FOLDER = "no file can be written in %s: name another folder by record";
-    private static final String NO_MEMORY = "there is no memory for the calls of a run";
-    private static final String NO_PROCESS = "no process could be started for a run: %s";
-    private static final String NOT_AGAIN = "the test did not come to this judge again in a process of its own: set own_process to false";
     private static final String NO_JUDGE = "%s cannot be run: build listset, and put it in PATH or name it by LISTSET (node runs a listset.js)";
     private static final String NO_VERDICT = "%s gave no verdict, but said: %s. Take a newer listset";
     // end of what is made
