@@ -458,21 +458,23 @@ inline std::string proof_in(const std::string &version) {
     return at == std::string::npos ? "proof unknown" : version.substr(at, version.find('\n', at) - at);
 }
 
-#ifdef LISTSET_H
+// A judge: its name, what it says of its proof, and of the recording in a file.
 struct judge_found {
-    const std::string name = "liblistset", proof = proof_in(listset_version());
-
-    answer asked_of(const std::string &file) const {
-        std::string room(8192, '\0');
-        uint8_t status;
-        const std::unique_ptr<FILE, int (*)(FILE *)> from(fopen(file.c_str(), "r"), fclose);
-        if (!from) throw no_verdict(say(NO_FOLDER, file));
-        room.resize(listset_judge_from(fileno(from.get()), room.data(), room.size(), &status));
-        return {status, stripped(room)};
-    }
+    std::string name, proof;
+    std::function<answer(const std::string &file)> asked_of;
 };
 
-inline judge_found find_judge() { return {}; }
+#ifdef LISTSET_H
+inline answer asked_of(const std::string &file) {
+    std::string room(8192, '\0');
+    uint8_t status;
+    const std::unique_ptr<FILE, int (*)(FILE *)> from(fopen(file.c_str(), "r"), fclose);
+    if (!from) throw no_verdict(say(NO_FOLDER, file));
+    room.resize(listset_judge_from(fileno(from.get()), room.data(), room.size(), &status));
+    return {status, stripped(room)};
+}
+
+inline judge_found find_judge() { return {"liblistset", proof_in(listset_version()), asked_of}; }
 #else
 inline answer ran(const std::string &command) {
     FILE *made = popen(("exec " + command).c_str(), "r");
@@ -489,16 +491,6 @@ inline std::string quoted(const std::string &word) {
     return text + "'";
 }
 
-struct judge_found {
-    std::string name, proof, command;  // the last for a shell
-
-    answer asked_of(const std::string &file) const {
-        const std::string asked = command + " judge " + quoted(file);
-        const answer given = ran(asked + " 2>/dev/null");
-        return given.said.empty() ? ran(asked + " 2>&1") : given;
-    }
-};
-
 inline judge_found find_judge() {
     const char *named = std::getenv("LISTSET");
     const std::string name = named && *named ? named : "listset";
@@ -506,7 +498,11 @@ inline judge_found find_judge() {
     const std::string command = (is_script ? "node " : "") + quoted(name);
     const answer version = ran(command + " --version --long");  // (what it says of a judge that it builds is for the user's eyes)
     if (version.status == 127) throw no_verdict(say(NO_JUDGE, name));
-    return {name, proof_in(version.said), command};
+    return {name, proof_in(version.said), [command](const std::string &file) {
+                const std::string asked = command + " judge " + quoted(file);
+                const answer given = ran(asked + " 2>/dev/null");
+                return given.said.empty() ? ran(asked + " 2>&1") : given;
+            }};
 }
 #endif
 
