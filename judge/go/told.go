@@ -97,11 +97,17 @@ func (r refusal) key() int {
 	return key
 }
 
-func (r refusal) calls() [][]string { return callLine.FindAllStringSubmatch(string(r), -1) }
+func (r refusal) calls() int {
+	calls := len(callLine.FindAllString(string(r), -1))
+	if strings.Contains(string(r), " belong to these") {
+		calls += 1000 // (which are not printed)
+	}
+	return calls
+}
 
 // rank is the number of its calls; a refusal of one call alone comes last.
 func (r refusal) rank() int {
-	if calls := len(r.calls()); calls > 1 && !strings.Contains(string(r), " belong to these") {
+	if calls := r.calls(); calls > 1 {
 		return calls
 	}
 	return 999
@@ -109,7 +115,7 @@ func (r refusal) rank() int {
 
 // explained is what the judge says; or, in place of many calls, what their count shows.
 func (r refusal) explained(file string) string {
-	if r.rank() > manyReadable {
+	if r.calls() > manyReadable {
 		if text, err := os.ReadFile(file); err == nil {
 			if counted := countOf(string(text), strconv.Itoa(r.key())); counted != "" {
 				return strings.Join(append(strings.SplitN(string(r), "\n", 3)[:2], counted), "\n")

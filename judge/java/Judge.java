@@ -23,6 +23,7 @@ import java.util.List;
 import java.util.Map;
 import java.util.Set;
 import java.util.SplittableRandom;
+import java.util.concurrent.atomic.AtomicReference;
 import java.util.concurrent.locks.LockSupport;
 import java.util.function.BiPredicate;
 import java.util.function.BooleanSupplier;
@@ -364,7 +365,7 @@ public final class Judge {
     }
 
     /** A run in memory that another JVM may share: the calls since those in its file. */
-    private static final class Area {
+    private record Area(Options how, ByteBuffer memory) {
         private static final VarHandle INT = MethodHandles.byteBufferViewVarHandle(int[].class, ByteOrder.nativeOrder());
         // Where numbers are: IS_HERE that another JVM has come, WRITTEN the bytes of the file, SHAPE five of them; WHY and FILE a text.
         private static final int TICKETS = 0, THERE = 4, DONE = 8, BEGUN = 12, AT = 16, STOPPING = 20, IS_HERE = 24, SEED = 32, WRITTEN = 40,
@@ -373,12 +374,8 @@ public final class Judge {
         private static final int GOING = 1, OVER = 2, FAILED = 3, UNMADE = 4; // AT
         private static final int SIZE = SLOTS + PART * SLOT;
 
-        private final Options how;
-        private final ByteBuffer memory;
-
-        Area(Options how, ByteBuffer memory) {
-            this.how = how;
-            this.memory = memory.order(ByteOrder.nativeOrder());
+        Area {
+            memory.order(ByteOrder.nativeOrder());
         }
 
         int get(int at) { return (int) INT.getVolatile(memory, at); }
@@ -448,8 +445,23 @@ public final class Judge {
 
         /** Makes sets and calls them, to the end. */
         <S, K> void callAll(Calls<S, K> calls) {
-            new Play<>(this, calls, shape()).all();
+            new Play<>(this, calls, shape(), new AtomicReference<>()).all();
             INT.compareAndSet(memory, AT, GOING, OVER);
+        }
+    }
+
+    /** Who makes a run: the threads, and where they find the set. */
+    private record Play<S, K>(Area area, Calls<S, K> calls, Shape of, AtomicReference<S> set) {
+        void all() {
+            List<Thread> threads = new ArrayList<>();
+            for (int i = 0; i < of.threads; i++) {
+                int thread = i;
+                threads.add(start(() -> tried(Area.FAILED, () -> callInRounds(thread))));
+            }
+            tried(Area.FAILED, () -> {
+                lead();
+                for (Thread it : threads) it.join();
+            });
         }
 
         private interface Doing {
@@ -461,49 +473,21 @@ public final class Judge {
             try {
                 does.run();
             } catch (Throwable why) {
-                if (next(STOPPING) > 1) return;
-                putText(WHY, FILE - WHY, (as == UNMADE ? NOT_MADE : THREW).formatted(why));
-                set(AT, as);
+                if (area.next(Area.STOPPING) > 1) return;
+                area.putText(Area.WHY, Area.FILE - Area.WHY, (as == Area.UNMADE ? NOT_MADE : THREW).formatted(why));
+                area.set(Area.AT, as);
                 why.printStackTrace();
             }
         }
 
         /** Waits, first awake if each thread may have a processor, so that all go on at once; false if the run stops. */
-        private boolean waits(int threads, BooleanSupplier isDone) {
-            int awake = threads <= Runtime.getRuntime().availableProcessors() ? AWAKE : LONGEST;
-            for (int looks = 0; !isDone.getAsBoolean() && get(STOPPING) == 0; looks++) {
+        private boolean waits(BooleanSupplier isDone) {
+            int awake = of.threads <= Runtime.getRuntime().availableProcessors() ? AWAKE : LONGEST;
+            for (int looks = 0; !isDone.getAsBoolean() && area.get(Area.STOPPING) == 0; looks++) {
                 if (looks >= awake) LockSupport.parkNanos(20_000);
             }
-            return get(STOPPING) == 0;
+            return area.get(Area.STOPPING) == 0;
         }
-    }
-
-    /** Who makes a run: the threads, and where they find the set. */
-    private static final class Play<S, K> {
-        private final Area area;
-        private final Calls<S, K> calls;
-        private final Shape of;
-        private volatile S set;
-
-        Play(Area area, Calls<S, K> calls, Shape of) {
-            this.area = area;
-            this.calls = calls;
-            this.of = of;
-        }
-
-        void all() {
-            List<Thread> threads = new ArrayList<>();
-            for (int i = 0; i < of.threads; i++) {
-                int thread = i;
-                threads.add(start(() -> area.tried(Area.FAILED, () -> callInRounds(thread))));
-            }
-            area.tried(Area.FAILED, () -> {
-                lead();
-                for (Thread it : threads) it.join();
-            });
-        }
-
-        private boolean waits(BooleanSupplier isDone) { return area.waits(of.threads, isDone); }
 
         /** Waits until all threads are here. */
         private boolean meets() {
@@ -518,7 +502,7 @@ public final class Judge {
             for (int i = 0; i < of.rounds(); i++) {
                 int round = i;
                 if (round % of.parts() == 0) {
-                    area.tried(Area.UNMADE, () -> set = calls.make.get());
+                    tried(Area.UNMADE, () -> set.set(calls.make.get()));
                     if (area.get(Area.STOPPING) > 0) return;
                     if (area.how.opensWithKeys) area.write(linesOfKeys("opening ", round));
                 }
@@ -535,7 +519,7 @@ public final class Judge {
             StringBuilder lines = new StringBuilder();
             for (int key = 0; key < of.keys; key++, area.next(Area.TICKETS)) {
                 int number = round / of.parts() * of.keys + key;
-                if (calls.reply(set, 2, calls.key(key, of.times)) == Calls.YES) lines.append(word).append(number).append('\n');
+                if (calls.reply(set.get(), 2, calls.key(key, of.times)) == Calls.YES) lines.append(word).append(number).append('\n');
             }
             return lines.toString();
         }
@@ -547,7 +531,7 @@ public final class Judge {
             for (int i = 0; i < of.rounds(); i++) {
                 int round = i, count = Math.min(of.rows(), of.calls - round % of.parts() * of.rows());
                 if (!waits(() -> area.get(Area.BEGUN) > round)) return;
-                S its = set;
+                S its = set.get();
                 for (int done = 0; done < count; done++) {
                     if (done % MEET == 0 && !meets()) return;
                     int at = Area.SLOTS + (thread * of.rows() + done) * Area.SLOT;

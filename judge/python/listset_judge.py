@@ -131,21 +131,8 @@ class NoVerdict(Exception):
     """Nothing is known of the set: an option is out of range, no set could be made, it has not the three calls, or there is no judge."""
 
 
-@dataclasses.dataclass(frozen=True)
-class Options:
-    threads: int | None
-    calls: int | None
-    keys: int | None
-    key: Callable[[int], Any] | None
-    pauses: int
-    runs: int
-    seed: int
-    seconds: int
-    at_least: int
-    shares: tuple[int, int, int]
-    own_process: bool
-    opens_with_keys: bool
-    record: str | os.PathLike | None
+class Options(collections.namedtuple("Options", "threads calls keys key pauses runs seed seconds at_least shares own_process opens_with_keys record")):
+    """What `judge` is given."""
 
     def check(self) -> None:
         first = [1 if it is None else it for it in (self.threads, self.calls, self.keys)]
