@@ -157,7 +157,7 @@ def are_bars(lines, calls):
         return not lines
     bars, columns = [BAR.fullmatch(it) for it in lines], {}
     for it, bar in zip(calls, bars):
-        columns[it.begin], columns[it.end or LAST + 1] = bar.end(1), bar.end()
+        columns[it.begin], columns[it.end or LAST + 1] = bar.end(1), bar.end() - 1
     places = [columns[it] for it in sorted(columns)]
     said = [(*bar[1].split(), bar[2], bar[3].strip("].") or None) for bar in bars]
     return said == [("thread", f"{it.thread}", f"{it.word} {it.key}", it.reply) for it in calls] and places == sorted({*places})

@@ -282,7 +282,7 @@ public final class Judge {
 
         private Verdict all() throws IOException {
             long count = 0, overlapped = 0, until = System.nanoTime() + PATIENCE * SECOND;
-            for (long seed = how.seed; seed < how.seed + how.runs; seed++) {
+            for (long seed = how.seed; seed - how.seed < how.runs; seed++) {
                 Shape shape = how.shapeOf(seed);
                 for (int tries = 0; tries <= HARDER; tries++, shape = how.harder(shape)) {
                     Outcome found = judged(seed, shape);
@@ -411,12 +411,12 @@ public final class Judge {
         }
 
         /** The lines of the calls since those in the file. */
-        private String lines() { return rows(shape()).stream().map(Row::line).collect(Collectors.joining()); }
+        private String lines() { return rows().stream().map(Row::line).collect(Collectors.joining()); }
 
         /** Writes those calls as the last of a run that was cut short; gives those under way. */
         String cut() throws IOException {
-            List<Row> rows = rows(shape());
-            write(rows.stream().map(Row::line).collect(Collectors.joining()) + "cut\n");
+            List<Row> rows = rows();
+            write(lines() + "cut\n");
             return rows.stream().filter(it -> it.end == 0 && it.reply != Calls.UNKNOWN).map(Row::line).collect(Collectors.joining());
         }
 
@@ -433,9 +433,10 @@ public final class Judge {
         }
 
         /** The calls of the part by their begins. */
-        private List<Row> rows(Shape of) {
+        private List<Row> rows() {
             List<Row> found = new ArrayList<>();
-            for (int at = SLOTS; at < SLOTS + of.threads * of.rows() * SLOT; at += SLOT) {
+            int behind = SLOTS + shape().threads * shape().rows() * SLOT;
+            for (int at = SLOTS; at < behind; at += SLOT) {
                 int end = get(at + END), begin = get(at + BEGIN), reply = end > 0 ? get(at + REPLY) : Calls.NO;
                 if (begin > 0) found.add(new Row(get(at + THREAD), get(at + CALL), get(at + KEY), begin, end, reply));
             }
