@@ -349,8 +349,7 @@ template <class Make, class K> struct maker {
     }
 
     // Makes each set and has the threads call it; writes each part once it is made.
-    void lead(area &run) {
-        pointer own{};
+    void lead(area &run, pointer &own) {
         std::string left, lines = "listset-calls 1\n";
         for (unsigned round = 0; round < run.rounds; round++, lines = "") {
             if (round % run.parts == 0) {
@@ -376,8 +375,11 @@ template <class Make, class K> struct maker {
         for (unsigned i = 0; i < run.of.threads; i++)
             threads.emplace_back([&run, this, i] { run.tries(FAILED, [&] { call_in_rounds(run, i); }); });
         if (how.begins) how.begins();
-        run.tries(FAILED, [&] { lead(run); });
-        for (auto &it : threads) it.join();
+        {
+            pointer own{};  // (threads may call it as long as they are)
+            run.tries(FAILED, [&] { lead(run, own); });
+            for (auto &it : threads) it.join();
+        }
         if (how.ends) how.ends();
         if (!run.is_stopping) run.at = OVER;
     }
