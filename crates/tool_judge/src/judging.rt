@@ -5,23 +5,12 @@ ghost use Rattle.tool_base.specs.declared.trouble.Trouble.TheVariants.{CannotRea
 ghost use Rattle.tool_judge.specs.Judging.{IsAnswerTo, Judges};
 ghost use Rattle.tool_judge.specs.Exact.{AnswersAreRight};
 
-use crate::bars::put_bars;
 use crate::texts::{ok_text, refused_text};
-use crate::windows::window_text;
-use lset_judge::{Verdict, Window};
+use lset_judge::Verdict;
 use lset_recording::{RecordingAnswer, RecordingReader};
 use std::alloc::{AllocError, Global};
 use std::io::Read;
 use tool_base::{Answer, READ_SIZE, Trouble};
-
-/// The lines about the few calls that show a refusal, and below them their bars.
-fn drawn_text(alloc: Global, window: Option<&Window>) -> Result<String, AllocError> {
-    let mut text = window_text(alloc, window)?;
-    if let Some(window) = window {
-        put_bars(alloc, &mut text, window)?;
-    }
-    Ok(text)
-}
 
 fn answer_to(alloc: Global, said: RecordingAnswer) -> Result<Answer, AllocError>
     ensures { IfOk result (λ a. IsAnswerTo said.verdict said.calls (record { text = a.text.items; status = a.status })) }
@@ -37,13 +26,10 @@ fn answer_to(alloc: Global, said: RecordingAnswer) -> Result<Answer, AllocError>
             text: ok_text(alloc, calls, overlapped, cut_off)?,
             status: 0,
         }),
-        Verdict::NotLinearizable(refusal, window) => {
-            let below = drawn_text(alloc, window.as_ref())?;
-            Ok(Answer {
-                text: refused_text(alloc, refusal, below.as_bytes())?,
-                status: 1,
-            })
-        }
+        Verdict::NotLinearizable(refusal, window) => Ok(Answer {
+            text: refused_text(alloc, refusal, window, true)?,
+            status: 1,
+        }),
     }
 }
 

@@ -1,5 +1,4 @@
 use crate::texts::refused_text;
-use crate::windows::window_text;
 use lset_judge::{Judged, Refusal, Window, is_judged, judge};
 use lset_words::increases;
 use std::alloc::{AllocError, Global};
@@ -41,10 +40,7 @@ pub fn claim_on(alloc: Global, picture: &Picture) -> Result<Claim, AllocError> {
 fn claim_text(alloc: Global, picture: &Picture) -> Result<Vec<u8>, AllocError> {
     match claim_on(alloc, picture)? {
         Claim::NotIncreasing => Vec::from_slice(alloc, NOT_INCREASING),
-        Claim::NotLinearizable(refusal, window) => {
-            let shown = window_text(alloc, window.as_ref())?;
-            refused_text(alloc, refusal, shown.as_bytes())
-        }
+        Claim::NotLinearizable(refusal, window) => refused_text(alloc, refusal, window, false),
         Claim::Explained => Vec::from_slice(alloc, EXPLAINED),
         Claim::Unknown => Vec::from_slice(alloc, UNKNOWN),
     }

@@ -1,7 +1,8 @@
 ghost use Rattle.std.specs.Prelude.{◌≡◌, IfOk};
 ghost use Rattle.tool_judge.specs.Judging.{Begins, calls_of_key, extent, ok_line, refused_lines};
 
-use lset_judge::Refusal;
+use crate::windows::window_text;
+use lset_judge::{Refusal, Window};
 use std::alloc::{AllocError, Global};
 
 const AS_LEFT: &[u8] = b" and leaves it as it was left\n";
@@ -81,15 +82,21 @@ fn refused_lines(alloc: Global, refusal: Refusal) -> Result<Vec<u8>, AllocError>
 }
 
 /// Returns the lines about calls that no order explains, as `judge_bytes` answers them: `not linearizable`, of which key and up to which
-/// moment, and the lines below. Allocates; `AllocError` if that fails.
+/// moment, and below that the few calls of the window that show it, if there is one, with or without their bars. Allocates; `AllocError` if
+/// that fails.
 pub(crate) fn refused_text(
     alloc: Global,
     refusal: Refusal,
-    below: &[u8],
+    window: Option<Window>,
+    bars: bool,
 ) -> Result<Vec<u8>, AllocError>
     ensures { IfOk result (λ text. Begins (refused_lines refusal) text.items) }
 {
     let mut text = refused_lines(alloc, refusal)?;
-    text.extend_from_slice(below)?;
+    let shown = match window {
+        Some(window) => window_text(alloc, &window, bars)?,
+        None => Vec::new(alloc),
+    };
+    text.extend_from_slice(&shown)?;
     Ok(text)
 }
