@@ -415,8 +415,8 @@ public final class Judge {
 
         /** Writes those calls as the last of a run that was cut short; gives those under way. */
         String cut() throws IOException {
-            List<Row> rows = rows();
-            write(lines() + "cut\n");
+            List<Row> rows = rows(); // (once: calls that were under way may go on)
+            write(rows.stream().map(Row::line).collect(Collectors.joining()) + "cut\n");
             return rows.stream().filter(it -> it.end == 0 && it.reply != Calls.UNKNOWN).map(Row::line).collect(Collectors.joining());
         }
 
