@@ -41,9 +41,11 @@ def built_rust(folder):
     return [tests, "set", "--exact", "--nocapture"]
 
 
+WARN = ["-Wall", "-Wextra", "-Wshadow", "-Wconversion", "-Werror"]
+
+
 def built_cpp(folder):
-    warn = ["-Wall", "-Wextra", "-Wshadow", "-Wconversion", "-Werror"]
-    well("g++", "-O0", *warn, "-std=c++17", "-pthread", FORMS / "cpp/tests/sets.cpp", "-o", folder / "sets")
+    well("g++", "-O0", *WARN, "-std=c++17", "-pthread", FORMS / "cpp/tests/sets.cpp", "-o", folder / "sets")
     return [folder / "sets"]
 
 
@@ -57,7 +59,7 @@ def in_jvm(*words):
 
 
 def built_java(folder):
-    well(*in_jvm("javac"), "-Xlint:all,-serial", "-Werror", "-d", folder, "Judge.java", "tests/Sets.java", cwd=FORMS / "java")
+    well(*in_jvm("javac"), "-Xlint:all", "-Werror", "-d", folder, "Judge.java", "tests/Sets.java", cwd=FORMS / "java")
     return [*in_jvm(shutil.which("java")), "-cp", folder, "Sets"]
 
 
@@ -220,6 +222,7 @@ case $1 in judge) ;; *) exit 0 ;; esac
 mkdir "$0 was asked" 2> /dev/null && count=%d || count=%d
 echo not linearizable; echo no order explains the calls of key 1 up to moment 9
 for i in $(seq $count); do echo call $i add 1 $i $((i + 20)) true; done
+echo 'thread 1   [add 1-true]'
 exit 1
 """
 
@@ -230,25 +233,18 @@ def refusing(form, first, then=None):
 
 
 @each(LANGUAGES)
-def test_a_picture_shows_two_calls(form):
-    said = form.told(refusing(form, 2), "right", f"{FEW} keys=4")[1]
-    assert re.search(r"^thread 1 +\[add 1-true\]\nthread 2 +\[add 1-true\]$", said, re.M), said
-    assert re.search(r"^thread 2 +", said, re.M)[0].count(" ") == re.search(r"^thread 1 +", said, re.M)[0].count(" ") + 1
-
-
-@each(LANGUAGES)
 def test_a_count_stands_in_place_of_many_calls(form):
     kind, said = form.told(refusing(form, 12), "right", "threads=1 calls=200 keys=4 runs=1")
     assert kind == "refused" and said.count("\ncall ") == 12, said  # (the count is right: it proves nothing)
     said = form.told(refusing(form, 12), "opens", "threads=1 calls=200 keys=4 runs=1")[1]
     assert re.search("^[0-9]+ adds and [0-9]+ removes of key 1 answered true; it was not there at first, and is ", said, re.M), said
-    assert "\ncall " not in said
+    assert "\ncall " not in said and "\nthread " not in said
 
 
 @each(LANGUAGES)
 def test_the_smallest_refusal_of_further_runs_is_told(form):
     said = form.told(refusing(form, 1, 2), "right", f"{FEW} keys=4")[1]
-    assert said.count("\ncall ") == 2 and "seed 8 (few keys): not linearizable" in said and len(form.left()) == 1, said
+    assert said.count("\ncall ") == 2 and "true\nthread 1   [add 1-true]\n" in said and "seed 8 (few keys): not linearizable" in said and len(form.left()) == 1, said
 
 
 # ---- the judge underneath
@@ -327,7 +323,7 @@ def test_a_lock_that_another_test_holds(room, once, program):
 
 @pytest.mark.needs("clang++")
 def test_clang_has_no_warning():
-    well("clang++", "-fsyntax-only", "-Wall", "-Wextra", "-Werror", "-std=c++17", "-pthread", FORMS / "cpp/tests/sets.cpp")
+    well("clang++", "-fsyntax-only", *WARN, "-std=c++17", "-pthread", FORMS / "cpp/tests/sets.cpp")
 
 
 TRACED = """import sys, threading

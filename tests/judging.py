@@ -17,7 +17,7 @@ TEXTS, SEEDS = 100, range(1, 5)  # of each seed; --few: 10
 THREADS, KEYS = 4, 3
 LAST = 2**63 - 1
 LONGEST_LINE = 128
-MOST_SHOWN = 16
+MOST_SHOWN, MOST_DRAWN = 16, 6
 TITLE = "listset-calls 1"
 
 Call = collections.namedtuple("Call", "thread word key begin end reply")
@@ -148,6 +148,21 @@ class Judged:
         return ["not linearizable", f"no order explains the calls of key {self.key} {upto}"]
 
 
+BAR = re.compile(r"(thread \d+ +)\[(\w+ \d+)-+(\w+\]|\.\.)")
+
+
+def are_bars(lines, calls):
+    """Whether the lines are the bars of so many calls, whose ends come in their order in time; two to six calls have bars."""
+    if not 2 <= len(calls) <= MOST_DRAWN:
+        return not lines
+    bars, columns = [BAR.fullmatch(it) for it in lines], {}
+    for it, bar in zip(calls, bars):
+        columns[it.begin], columns[it.end or LAST + 1] = bar.end(1), bar.end() - 1
+    places = [columns[it] for it in sorted(columns)]
+    said = [(*bar[1].split(), bar[2], bar[3].strip("].") or None) for bar in bars]
+    return said == [("thread", f"{it.thread}", f"{it.word} {it.key}", it.reply) for it in calls] and places == sorted({*places})
+
+
 @pytest.mark.parametrize("seed", SEEDS)
 def test_a_verdict_and_what_is_said_of_it(program, few, seed):
     rng, found = random.Random(seed), collections.Counter()
@@ -160,6 +175,8 @@ def test_a_verdict_and_what_is_said_of_it(program, few, seed):
         assert (done.returncode, said, done.stderr) == (int(is_refused), due, ""), text
         assert len([it for it in shown if it.startswith("call ")]) <= 1 + MOST_SHOWN * is_refused and (is_refused or not shown), text
         assert {it for it in shown if it.startswith("call ")} <= {*map(call_line, judged.of_key.get(judged.key, []))}, text
+        calls = [call_of(it.split(" ")) for it in shown if it.startswith("call ")]
+        assert are_bars([it for it in shown if it.startswith("thread ")], calls), done.stdout
         if change := re.search(r"moment (\d+) the key is (not )?there, by this change:\n(call .*)", done.stdout):
             turns = [it for it in judged.of_key[judged.key] if it.word == ("remove" if change[2] else "add") and it.reply == "true"]
             assert change[3] == call_line(max((it for it in turns if it.end <= int(change[1])), key=lambda it: it.end)), text

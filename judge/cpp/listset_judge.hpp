@@ -22,6 +22,8 @@
 #include <filesystem>
 #include <fstream>
 #include <functional>
+#include <iterator>
+#include <locale>
 #include <map>
 #include <memory>
 #include <new>
@@ -35,7 +37,6 @@
 #include <thread>
 #include <utility>
 #include <vector>
-#include <dirent.h>
 #include <sys/mman.h>
 #include <sys/wait.h>
 #include <unistd.h>
@@ -123,31 +124,34 @@ constexpr const char *IN_SET = ", in the fresh set %s of the run";
 constexpr const char *NO_FOLDER = "no file can be written in %s: name another folder by record";
 constexpr const char *NO_MEMORY = "there is no memory for the calls of a run";
 constexpr const char *NO_PROCESS = "no process could be started for a run: %s";
-constexpr const char *NOT_AGAIN = "the test did not come to this judge again in a process of its own: set own_process to false";
 constexpr const char *NO_JUDGE = "%s cannot be run: build listset, and put it in PATH or name it by LISTSET (node runs a listset.js)";
 constexpr const char *NO_VERDICT = "%s gave no verdict, but said: %s. Take a newer listset";
 // end of what is made
 
-inline std::string text_of(const std::string &it) { return it; }
-template <class N> std::enable_if_t<std::is_arithmetic_v<N>, std::string> text_of(N it) { return std::to_string(it); }
-
+// The text with what is given in place of each %s.
 template <class... With> std::string say(const char *text, const With &...with) {
-    std::string said = text;
-    size_t at = 0;
-    auto put = [&](const std::string &it) { said.replace(at = said.find("%s", at), 2, it), at += it.size(); };
-    (put(text_of(with)), ...);
-    return said;
+    std::ostringstream said;
+    said.imbue(std::locale::classic());
+    auto put = [&](const auto &it) {
+        const char *gap = std::strstr(text, "%s");
+        said << std::string(text, gap) << it;
+        text = gap + 2;
+    };
+    (put(with), ...);
+    said << text;
+    return said.str();
 }
 
 inline void check(const options &it) {
-    const uint64_t all = uint64_t(it.threads ? it.threads : 1) * (it.calls ? it.calls : 1);
-    const uint64_t given[] = {it.threads ? it.threads : 1, all, it.keys ? it.keys : 1, it.pauses, it.runs, it.seconds, it.at_least, uint64_t(it.adds) + it.removes + it.finds};
-    const uint64_t *at = given;
-    for (const range &its : RANGES) {
-        if (*at < its.least || *at > its.most) throw no_verdict(say(RANGE, its.name, *at, its.least, its.most));
-        at++;
+    const uint64_t threads = std::max(it.threads, 1u), calls = std::max(it.calls, 1u), shares = uint64_t(it.adds) + it.removes + it.finds;
+    const uint64_t given[] = {threads, threads * calls, std::max(it.keys, 1u), it.pauses, it.runs, it.seconds, it.at_least, shares};
+    for (size_t i = 0; i < std::size(RANGES); i++) {
+        const auto &[name, least, most] = RANGES[i];
+        if (given[i] < least || given[i] > most) throw no_verdict(say(RANGE, name, given[i], least, most));
     }
 }
+
+inline bool is_few(uint64_t overlapped, uint64_t calls) { return overlapped * 100 < calls * ENOUGH; }
 
 // ---- the three calls, by the names that the set has for them
 
@@ -158,30 +162,19 @@ inline reply reply_of(bool it) { return it ? reply::yes : reply::no; }
 template <class I> reply reply_of(const std::pair<I, bool> &it) { return reply_of(it.second); }
 inline reply reply_of(const std::optional<bool> &it) { return it ? reply_of(*it) : reply::unknown; }  // (a call that was timed out, say)
 
-#define LISTSET_HAS(name)                                                               \
-    template <class S, class K, class = void> struct has_##name : std::false_type {};   \
-    template <class S, class K> struct has_##name<S, K, std::void_t<decltype(std::declval<S &>().name(std::declval<const K &>()))>> : std::true_type {};
-LISTSET_HAS(add) LISTSET_HAS(insert) LISTSET_HAS(remove) LISTSET_HAS(erase) LISTSET_HAS(contains) LISTSET_HAS(count)
-#undef LISTSET_HAS
+inline constexpr auto by_add = [](auto &set, auto &key) -> decltype(set.add(key)) { return set.add(key); };
+inline constexpr auto by_insert = [](auto &set, auto &key) -> decltype(set.insert(key)) { return set.insert(key); };
+inline constexpr auto by_remove = [](auto &set, auto &key) -> decltype(set.remove(key)) { return set.remove(key); };
+inline constexpr auto by_erase = [](auto &set, auto &key) -> decltype(set.erase(key)) { return set.erase(key); };
+inline constexpr auto by_contains = [](auto &set, auto &key) -> decltype(set.contains(key)) { return set.contains(key); };
+inline constexpr auto by_count = [](auto &set, auto &key) -> decltype(set.count(key)) { return set.count(key); };
 
-template <class S, class K> constexpr bool removes = has_remove<S, K>::value || has_erase<S, K>::value;
+// Whether a set of such keys has one of these calls, and the reply of the first that it has.
+template <class S, class K, class... Calls> constexpr bool has(const Calls &...) { return (std::is_invocable_v<Calls, S &, const K &> || ...); }
 
-template <class S, class K> reply add(S &set, const K &key) {
-    static_assert(has_add<S, K>::value || has_insert<S, K>::value, "the set has neither `add` nor `insert` of such a key");
-    if constexpr (has_add<S, K>::value) return reply_of(set.add(key));
-    else return reply_of(set.insert(key));
-}
-
-template <class S, class K> reply remove([[maybe_unused]] S &set, [[maybe_unused]] const K &key) {
-    if constexpr (has_remove<S, K>::value) return reply_of(set.remove(key));
-    else if constexpr (has_erase<S, K>::value) return reply_of(set.erase(key) ? true : false);
-    else return reply::unknown;
-}
-
-template <class S, class K> reply contains(S &set, const K &key) {
-    static_assert(has_contains<S, K>::value || has_count<S, K>::value, "the set has neither `contains` nor `count` of such a key");
-    if constexpr (has_contains<S, K>::value) return reply_of(set.contains(key));
-    else return reply_of(set.count(key) ? true : false);
+template <class S, class K, class First, class... Others> reply called(S &set, const K &key, First first, Others... others) {
+    if constexpr (std::is_invocable_v<First, S &, const K &>) return reply_of(first(set, key));
+    else return called(set, key, others...);
 }
 
 // ---- a run, written down as it goes
@@ -215,14 +208,24 @@ struct area {
         const size_t count = area(it, of_seed).count(), size = sizeof(area) + count * sizeof(slot);
         void *place = mmap(nullptr, size, PROT_READ | PROT_WRITE, MAP_SHARED | MAP_ANONYMOUS, -1, 0);
         if (place == MAP_FAILED) throw no_verdict(NO_MEMORY);
-        std::shared_ptr<area> found(new (place) area(it, of_seed), [size](area *old) { old->~area(), munmap(old, size); });
+        std::shared_ptr<area> found(new (place) area(it, of_seed), [size](area *old) { munmap(old, size); });
         found->slots = new (found.get() + 1) slot[count]();
         return found;
     }
 
     size_t count() const { return size_t(of.threads) * rows; }
 
-    // Writes down what was thrown; the first stays.
+    // Does this; what it throws is written down, the first alone.
+    template <class F> void tries(phase as, F call) {
+        try {
+            call();
+        } catch (const std::exception &thrown) {
+            fail(as, thrown.what());
+        } catch (...) {
+            fail(as, "what is no std::exception");
+        }
+    }
+
     void fail(phase as, const std::string &thrown) {
         if (is_stopping.exchange(true)) return;
         snprintf(why, sizeof why, "%s", say(as == FAILED ? THREW : NOT_MADE, thrown).c_str());
@@ -259,24 +262,20 @@ inline std::pair<std::string, std::string> lines_of(const area &from) {
         if (begin > 0) found[begin] = {&from.slots[i], end};
     }
     std::string lines, under_way;
-    for (auto &[begin, it] : found) lines += line_of(*it.first, it.second), under_way += it.second == 0 ? line_of(*it.first, 0) : "";
-    return {lines, under_way};
-}
-
-template <class F> void tried(area &run, phase as, F call) {
-    try {
-        call();
-    } catch (const std::exception &thrown) {
-        run.fail(as, thrown.what());
-    } catch (...) {
-        run.fail(as, "what is no std::exception");
+    for (const auto &[begin, it] : found) {
+        lines += line_of(*it.first, it.second);
+        if (it.second == 0) under_way += line_of(*it.first, 0);
     }
+    return {lines, under_way};
 }
 
 // What makes a run.
 template <class Make, class K> struct maker {
-    using pointer = decltype(std::declval<Make &>()());
+    using pointer = std::invoke_result_t<Make &>;
     using set_type = typename std::pointer_traits<pointer>::element_type;
+    static_assert(has<set_type, K>(by_add, by_insert), "the set has neither `add` nor `insert` of such a key");
+    static_assert(has<set_type, K>(by_contains, by_count), "the set has neither `contains` nor `count` of such a key");
+    static constexpr bool removes = has<set_type, K>(by_remove, by_erase);
     const options how;
     const std::vector<K> keys;
     Make make;
@@ -285,8 +284,17 @@ template <class Make, class K> struct maker {
 
     maker(const options &it, std::vector<K> of, Make by, const std::string &path) : how(it), keys(std::move(of)), make(std::move(by)), file(path) {}
 
+    static reply contains(set_type &its, const K &key) { return called(its, key, by_contains, by_count); }
+
+    static reply call(kind word, set_type &its, const K &key) {
+        if (word == kind::add) return called(its, key, by_add, by_insert);
+        if constexpr (removes)
+            if (word == kind::remove) return called(its, key, by_remove, by_erase);
+        return contains(its, key);
+    }
+
     kind drawn(std::mt19937 &draw) const {
-        const unsigned removes_too = removes<set_type, K> ? how.removes : 0, at = unsigned(draw()) % (how.adds + removes_too + how.finds);
+        const unsigned removes_too = removes ? how.removes : 0, at = unsigned(draw()) % (how.adds + removes_too + how.finds);
         return at < how.adds ? kind::add : at < how.adds + removes_too ? kind::remove : kind::contains;
     }
 
@@ -303,10 +311,12 @@ template <class Make, class K> struct maker {
         for (unsigned i = 0; i < count; i++, at++) {
             if (i % MEET == 0) run.meet();
             const unsigned key = drawn_key(draw);
-            at->thread = number, at->call = drawn(draw), at->key = round / run.parts * run.of.keys + key;
+            at->thread = number;
+            at->call = drawn(draw);
+            at->key = round / run.parts * run.of.keys + key;
             for (unsigned pause = draw() % 100 < how.pauses ? unsigned(draw()) % LONGEST : 0; pause > 0; pause--) run.tickets.load();
             at->begin.store(++run.tickets, std::memory_order_release);
-            const reply given = at->call == kind::add ? add(its, keys[key]) : at->call == kind::remove ? remove(its, keys[key]) : contains(its, keys[key]);
+            const reply given = call(at->call, its, keys[key]);
             at->answer = given;
             at->end.store(++run.tickets, std::memory_order_release);
             if (given == reply::unknown) number += run.of.threads;
@@ -318,7 +328,7 @@ template <class Make, class K> struct maker {
         unsigned number = thread;
         if (how.begins) how.begins();
         for (unsigned round = 0; round < run.rounds && run.waits([&] { return run.begun > round; }); round++) {
-            tried(run, FAILED, [&] { call_set(run, thread, round, number, draw); });
+            run.tries(FAILED, [&] { call_set(run, thread, round, number, draw); });
             run.done++;
         }
         if (how.ends) how.ends();
@@ -339,12 +349,15 @@ template <class Make, class K> struct maker {
     }
 
     // Makes each set and has the threads call it; writes each part once it is made.
-    void lead(area &run) {
-        pointer own{};
+    void lead(area &run, pointer &own) {
         std::string left, lines = "listset-calls 1\n";
         for (unsigned round = 0; round < run.rounds; round++, lines = "") {
             if (round % run.parts == 0) {
-                tried(run, UNMADE, [&] { set = nullptr, own = nullptr, own = make(), set = &*own; });
+                run.tries(UNMADE, [&] {
+                    own = nullptr;
+                    own = make();
+                    set = &*own;
+                });
                 if (run.is_stopping) return;
                 write(run, lines + (how.opens_with_keys ? lines_of_keys(run, "opening ", round) : ""));
             }
@@ -360,10 +373,13 @@ template <class Make, class K> struct maker {
     void all(area &run) {
         std::vector<std::thread> threads;
         for (unsigned i = 0; i < run.of.threads; i++)
-            threads.emplace_back([&run, this, i] { tried(run, FAILED, [&] { call_in_rounds(run, i); }); });
+            threads.emplace_back([&run, this, i] { run.tries(FAILED, [&] { call_in_rounds(run, i); }); });
         if (how.begins) how.begins();
-        tried(run, FAILED, [&] { lead(run); });
-        for (auto &it : threads) it.join();
+        {
+            pointer own{};  // (threads may call it as long as they are)
+            run.tries(FAILED, [&] { lead(run, own); });
+            for (auto &it : threads) it.join();
+        }
         if (how.ends) how.ends();
         if (!run.is_stopping) run.at = OVER;
     }
@@ -374,7 +390,10 @@ template <class Done> bool comes_to_end(const area &run, unsigned seconds, Done 
     using clock = std::chrono::steady_clock;
     unsigned seen = run.tickets;
     for (auto since = clock::now(); !is_done(); std::this_thread::sleep_for(std::chrono::microseconds(300))) {
-        if (seen != run.tickets) seen = run.tickets, since = clock::now();
+        if (const unsigned now = run.tickets; now != seen) {
+            seen = now;
+            since = clock::now();
+        }
         if (clock::now() - since > std::chrono::seconds(seconds)) return false;
     }
     return true;
@@ -382,65 +401,48 @@ template <class Done> bool comes_to_end(const area &run, unsigned seconds, Done 
 
 // Whether no thread but this is in the process, whose copy another could leave in the middle of anything.
 inline bool is_alone() {
-    unsigned found = 0;
-    DIR *threads = opendir("/proc/self/task");
-    while (threads && readdir(threads)) found++;
-    if (threads) closedir(threads);
-    return found <= 3;  // (two names are of folders)
+    std::error_code none;
+    const std::filesystem::directory_iterator threads("/proc/self/task", none);
+    return std::distance(begin(threads), end(threads)) <= 1;
 }
 
-// Where a run is made, and ended with this: a process of its own, or, which cannot be ended if it hangs, a thread.
-struct caller {
-    virtual bool has_ended() = 0;
-    virtual std::string trouble() = 0;  // once it has ended: how it went wrong, or nothing
-    virtual ~caller() = default;
-};
-
-struct child : caller {
-    const area &run;
-    pid_t process;
-    int status = 0;
-    bool is_over = false;
-
-    template <class Maker> child(Maker &by, area &of) : run(of), process(fork()) {
-        if (process < 0) throw no_verdict(say(NO_PROCESS, std::string(strerror(errno))));
-        if (process > 0) return;
+// Makes a run in a process of its own; gives how it was cut short, or nothing.
+template <class Maker> std::string made_in_child(Maker &by, area &run) {
+    const pid_t process = fork();
+    if (process < 0) throw no_verdict(say(NO_PROCESS, strerror(errno)));
+    if (process == 0) {
 #ifdef __linux__
         prctl(PR_SET_PDEATHSIG, SIGKILL);
 #endif
-        by.all(of);
+        by.all(run);
         _exit(0);
     }
-    ~child() override {
-        if (!is_over) kill(process, SIGKILL), waitpid(process, nullptr, 0);
+    int status = 0;
+    if (!comes_to_end(run, by.how.seconds, [&] { return waitpid(process, &status, WNOHANG) == process; })) {
+        kill(process, SIGKILL);
+        waitpid(process, nullptr, 0);
+        return say(HUNG, by.how.seconds);
     }
-    bool has_ended() override { return is_over = is_over || waitpid(process, &status, WNOHANG) == process; }
-    std::string trouble() override {
-        if (WIFSIGNALED(status)) return say(CRASHED, std::string(strsignal(WTERMSIG(status))));
-        int ended = WEXITSTATUS(status);  // (not 0 if the set ended its process while it was destroyed, as a sanitizer does)
-        return run.at < OVER || ended != 0 ? say(ENDED_SO, ended) : "";
-    }
-};
+    if (WIFSIGNALED(status)) return say(CRASHED, strsignal(WTERMSIG(status)));
+    const int ended = WEXITSTATUS(status);  // (not 0 if the set ended its process while it was destroyed, as a sanitizer does)
+    return run.at < OVER || ended != 0 ? say(ENDED_SO, ended) : "";
+}
 
-struct here : caller {
-    const std::shared_ptr<area> run;
-    const unsigned seconds;
-    const std::shared_ptr<std::atomic<bool>> is_over;
-    std::thread thread;
-
-    template <class Maker> here(std::shared_ptr<Maker> by, std::shared_ptr<area> of)
-        : run(of), seconds(by->how.seconds), is_over(std::make_shared<std::atomic<bool>>(false)),
-          thread([by, of, over = is_over] { by->all(*of), *over = true; }) {}
-    ~here() override {
-        const bool is_hanging = !*is_over && run->at == GOING;
-        run->is_stopping = true;
-        // (a call may also wait for one that threw, and the set may hang while it is destroyed)
-        if (is_hanging || !comes_to_end(*run, seconds, [&] { return is_over->load(); })) thread.detach();
-        else thread.join();
+// The same in threads of this process, which stay if they hang.
+template <class Maker> std::string made_here(std::shared_ptr<Maker> by, std::shared_ptr<area> run) {
+    const auto is_over = std::make_shared<std::atomic<bool>>(false);
+    std::thread leader([=] {
+        by->all(*run);
+        *is_over = true;
+    });
+    if (comes_to_end(*run, by->how.seconds, [&] { return is_over->load(); })) {
+        leader.join();
+        return "";
     }
-    bool has_ended() override { return *is_over; }
-    std::string trouble() override { return ""; }
-};
+    run->is_stopping = true;
+    leader.detach();
+    return say(HUNG, by->how.seconds);
+}
 
 // ---- the judge
 
@@ -450,36 +452,35 @@ struct answer {
     std::string said;
 };
 
+inline std::string stripped(const std::string &text) { return text.substr(0, text.find_last_not_of('\n') + 1); }
+
 // The line in which a judge says whether it is proved.
 inline std::string proof_in(const std::string &version) {
-    size_t at = ("\n" + version).find("\nproof ");
+    const size_t at = ("\n" + version).find("\nproof ");
     return at == std::string::npos ? "proof unknown" : version.substr(at, version.find('\n', at) - at);
 }
 
-inline std::string stripped(std::string text) {
-    while (!text.empty() && text.back() == '\n') text.pop_back();
-    return text;
-}
-
-#ifdef LISTSET_H
+// A judge: its name, what it says of its proof, and of the recording in a file.
 struct judge_found {
-    const std::string name = "liblistset", proof = proof_in(listset_version());
-
-    answer asked_of(const std::string &file) const {
-        std::string room(8192, '\0');
-        uint8_t status;
-        std::unique_ptr<FILE, int (*)(FILE *)> from(fopen(file.c_str(), "r"), fclose);
-        if (!from) throw no_verdict(say(NO_FOLDER, file));
-        room.resize(listset_judge_from(fileno(from.get()), room.data(), room.size(), &status));
-        return {status, stripped(room)};
-    }
+    std::string name, proof;
+    std::function<answer(const std::string &file)> asked_of;
 };
 
-inline judge_found find_judge() { return {}; }
+#ifdef LISTSET_H
+inline answer asked_of(const std::string &file) {
+    std::string room(8192, '\0');
+    uint8_t status;
+    const std::unique_ptr<FILE, int (*)(FILE *)> from(fopen(file.c_str(), "r"), fclose);
+    if (!from) throw no_verdict(say(NO_FOLDER, file));
+    room.resize(listset_judge_from(fileno(from.get()), room.data(), room.size(), &status));
+    return {status, stripped(room)};
+}
+
+inline judge_found find_judge() { return {"liblistset", proof_in(listset_version()), asked_of}; }
 #else
 inline answer ran(const std::string &command) {
     FILE *made = popen(("exec " + command).c_str(), "r");
-    if (!made) throw no_verdict(say(NO_PROCESS, std::string(strerror(errno))));
+    if (!made) throw no_verdict(say(NO_PROCESS, strerror(errno)));
     std::string said;
     for (int it; (it = fgetc(made)) != EOF;) said += char(it);
     const int status = pclose(made);
@@ -492,170 +493,105 @@ inline std::string quoted(const std::string &word) {
     return text + "'";
 }
 
-struct judge_found {
-    std::string name, proof, command;  // the last for a shell
-
-    answer asked_of(const std::string &file) const {
-        const std::string asked = command + " judge " + quoted(file);
-        const answer given = ran(asked + " 2>/dev/null");
-        return given.said.empty() ? ran(asked + " 2>&1") : given;
-    }
-};
-
 inline judge_found find_judge() {
     const char *named = std::getenv("LISTSET");
     const std::string name = named && *named ? named : "listset";
-    const bool is_script = name.size() > 3 && name.substr(name.size() - 3) == ".js";
+    const bool is_script = std::filesystem::path(name).extension() == ".js";
     const std::string command = (is_script ? "node " : "") + quoted(name);
     const answer version = ran(command + " --version --long");  // (what it says of a judge that it builds is for the user's eyes)
     if (version.status == 127) throw no_verdict(say(NO_JUDGE, name));
-    return {name, proof_in(version.said), command};
+    return {name, proof_in(version.said), [command](const std::string &file) {
+                const std::string asked = command + " judge " + quoted(file);
+                const answer given = ran(asked + " 2>/dev/null");
+                return given.said.empty() ? ran(asked + " 2>&1") : given;
+            }};
 }
 #endif
-
-// What a judge says of a recording that no order explains, or nothing; and how many calls overlapped a change of their key.
-struct judgement {
-    std::string refused;
-    uint64_t overlapped;
-};
-
-inline judgement judged(const judge_found &by, const std::string &file) {
-    const auto [status, said] = by.asked_of(file);
-    const std::string first = said.substr(0, said.find('\n'));
-    unsigned long long overlapped;
-    if (status == 1 && first == "not linearizable") return {said, 0};
-    if (status == 0 && sscanf(said.c_str(), "ok %*u calls\n%llu of them", &overlapped) == 1) return {"", overlapped};
-    throw no_verdict(say(NO_VERDICT, by.name, first.empty() ? "nothing" : first));
-}
-
-// ---- a run, as it is judged
-
-// The file into which a run is written as it grows.
-struct recording {
-    const std::string path;
-    bool is_kept;
-
-    recording(const options &how, uint64_t seed) : path(path_of(how.record, seed)), is_kept(!how.record.empty()) {
-        std::error_code fault;
-        if (is_kept) std::filesystem::create_directories(how.record, fault);
-        if (!std::ofstream(path)) throw no_verdict(say(NO_FOLDER, path.substr(0, path.rfind('/'))));
-    }
-    recording(const recording &) = delete;
-    ~recording() {
-        if (!is_kept) std::remove(path.c_str());
-    }
-    static std::string path_of(const std::string &folder, uint64_t seed) {
-        static std::atomic<unsigned> files{0};
-        std::string name = "seed-" + std::to_string(seed);
-        if (!folder.empty()) return folder + "/" + name + ".calls";
-        const char *temporary = std::getenv("TMPDIR");
-        return (temporary ? temporary : "/tmp") + ("/listset-" + name) + "-" + std::to_string(getpid()) + "-" + std::to_string(++files) + ".calls";
-    }
-};
-
-// How a run was cut short, and the calls under way.
-struct trouble {
-    std::string how, under_way;
-};
-
-// Waits until a run is made. If it is cut short, its last calls are written here.
-inline trouble watched(caller &by, const area &run, const std::string &path, unsigned seconds) {
-    trouble found;
-    if (!comes_to_end(run, seconds, [&] { return by.has_ended(); })) found.how = say(HUNG, seconds);
-    else found.how = by.trouble();
-    if (run.at == UNMADE) throw no_verdict(run.why);
-    if (run.at == FAILED) found.how = run.why;
-    if (found.how.empty()) return found;
-    if (run.tickets == 0) throw no_verdict(say(NOT_MADE, found.how));
-    auto [lines, under_way] = lines_of(run);
-    std::filesystem::resize_file(path, run.written);
-    std::ofstream(path, std::ios::app) << lines << "cut\n";
-    return {found.how, under_way};
-}
-
-// ---- a refusal, as it is told
-
-// A call, as a line of a recording or of the judge has it; the end is 0 if it has none.
-struct call_line {
-    std::string thread, word, key, answer;
-    uint64_t begin = 0, end = 0;
-
-    std::string head() const { return "[" + word + " " + key; }
-};
-
-inline std::optional<call_line> call_in(const std::string &line) {
-    call_line it;
-    std::string call, end;
-    std::istringstream words(line);
-    if (!(words >> call >> it.thread >> it.word >> it.key >> it.begin >> end >> it.answer) || call != "call") return {};
-    if (end != "-") it.end = std::stoull(end);
-    return it;
-}
 
 // What a judge says of a recording that no order explains; nothing if some order does.
 struct refusal {
     std::string said, key;  // the key of which it speaks
-    std::vector<call_line> calls;
+    size_t calls = 0;
 
     refusal(const std::string &text = "") : said(text) {
         if (const size_t at = text.find("of key "); at != std::string::npos) std::istringstream(text.substr(at + 7)) >> key;
-        std::istringstream lines(text);
-        for (std::string line; std::getline(lines, line);)
-            if (auto it = call_in(line)) calls.push_back(*it);
+        for (size_t at = 0; (at = text.find("\ncall ", at)) != std::string::npos; at++) calls++;
+        if (text.find(" belong to these") != std::string::npos) calls += 1000;  // (which are not printed)
     }
-    size_t size() const { return calls.size() + (said.find(" belong to these") == std::string::npos ? 0 : 1000); }
-    size_t rank() const { return size() > 1 ? size() : 999; }  // (a refusal of one call alone comes last)
+    size_t rank() const { return calls > 1 ? calls : 999; }  // (a refusal of one call alone comes last)
 };
 
-// The calls as bars, one below another, from their begins to their ends.
-inline std::string picture_of(const std::vector<call_line> &calls) {
-    std::map<uint64_t, size_t> columns;  // of each moment
-    auto end_of = [](const call_line &it) { return it.end ? it.end : UINT64_MAX; };
-    for (auto &it : calls) columns[it.begin] = columns[end_of(it)] = 0;
-    size_t next = 0;
-    for (auto &[moment, column] : columns) {
-        for (auto &it : calls)
-            if (end_of(it) == moment) next = std::max(next, columns[it.begin] + it.head().size() + it.answer.size() + 1);
-        column = next++;
-    }
-    std::string text;
-    for (auto &it : calls) {
-        const size_t from = columns[it.begin], dashes = columns[end_of(it)] - from - it.head().size() - it.answer.size();
-        text += "\nthread " + it.thread + std::string(it.thread.size() < 2 ? 2 : 1, ' ') + std::string(from, ' ') + it.head();
-        text += std::string(dashes, '-') + (it.end ? it.answer + "]" : "-..");
-    }
-    return text;
+// That, and how many calls overlapped a change of their key.
+inline std::pair<refusal, uint64_t> judged(const judge_found &by, const std::string &file) {
+    const auto [status, said] = by.asked_of(file);
+    const std::string first = said.substr(0, said.find('\n'));
+    unsigned long long overlapped;
+    if (status == 1 && first == "not linearizable") return {said, 0};
+    if (status == 0 && sscanf(said.c_str(), "ok %*u calls\n%llu of them", &overlapped) == 1) return {{}, overlapped};
+    throw no_verdict(say(NO_VERDICT, by.name, first.empty() ? "nothing" : first));
 }
 
-// Whether the calls of a key that answered true do not fit to how it was; then in words.
+// That the calls of a key that answered true do not fit to how it was, in words; else nothing.
 inline std::string count_of(const std::string &file, const std::string &key) {
     std::ifstream recorded(file);
-    uint64_t adds = 0, removes = 0;
-    bool was = false, is = false, is_cut = false;
+    std::map<std::string, uint64_t> trues;
+    bool was_there = false, is_there = false;
     for (std::string line; std::getline(recorded, line);) {
-        auto call = call_in(line);
-        if (call && call->key == key && !call->end) return "";
-        if (call && call->key == key && call->answer == "true") adds += call->word == "add", removes += call->word == "remove";
-        was |= line == "opening " + key, is |= line == "key " + key, is_cut |= line == "cut";
+        std::istringstream words(line);
+        std::string call, thread, word, its_key, begin, end, answer;
+        words >> call >> thread >> word >> its_key >> begin >> end >> answer;
+        if (call == "cut" || (its_key == key && answer == "-")) return "";
+        if (its_key == key && answer == "true") trues[word]++;
+        was_there = was_there || line == "opening " + key;
+        is_there = is_there || line == "key " + key;
     }
-    auto word = [](bool it) { return std::string(it ? THERE : NOT_THERE); };
-    return is_cut || was + adds == is + removes ? "" : say(COUNTED, adds, removes, key, word(was), word(is));
+    const uint64_t adds = trues["add"], removes = trues["remove"];
+    if (was_there + adds == is_there + removes) return "";
+    return say(COUNTED, adds, removes, key, was_there ? THERE : NOT_THERE, is_there ? THERE : NOT_THERE);
 }
 
-// What the judge says, with a picture; or, in place of many calls, what their count shows.
+// What the judge says; or, in place of many calls, what their count shows.
 inline std::string explained(const refusal &it, const std::string &file) {
-    const std::string counted = it.size() > READABLE ? count_of(file, it.key) : "";
-    if (counted.empty()) return it.said + (it.calls.size() > 1 ? picture_of(it.calls) : "");
+    const std::string counted = it.calls > READABLE ? count_of(file, it.key) : "";
+    if (counted.empty()) return it.said;
     return it.said.substr(0, it.said.find('\n', it.said.find('\n') + 1)) + "\n" + counted;
 }
 
 // ---- runs, one after another
 
+// The file into which a run is written as it grows.
+struct recording {
+    std::string path;
+    bool is_kept;
+
+    recording(const options &how, uint64_t seed) : is_kept(!how.record.empty()) {
+        static std::atomic<unsigned> files{0};
+        std::error_code none;
+        const std::string folder = is_kept ? how.record : std::filesystem::temp_directory_path(none).string();
+        const std::string name = "seed-" + std::to_string(seed), others = std::to_string(getpid()) + "-" + std::to_string(++files);
+        if (is_kept) std::filesystem::create_directories(folder, none);
+        path = folder + (is_kept ? "/" + name : "/listset-" + name + "-" + others) + ".calls";
+        if (!std::ofstream(path)) throw no_verdict(say(NO_FOLDER, folder));
+    }
+    recording(const recording &) = delete;
+    ~recording() {
+        if (!is_kept) std::remove(path.c_str());
+    }
+};
+
+// Ends the recording of a run that was cut short; gives the calls under way.
+inline std::string cut(const area &run, const std::string &path, const std::string &trouble) {
+    if (run.tickets == 0) throw no_verdict(say(NOT_MADE, trouble));
+    const auto [lines, under_way] = lines_of(run);
+    std::filesystem::resize_file(path, run.written);
+    std::ofstream(path, std::ios::app) << lines << "cut\n";
+    return under_way;
+}
+
 struct outcome {
     uint64_t seed = 0, calls = 0, overlapped = 0;
     std::string name, said, file;
     refusal refused;
-    bool is_few() const { return overlapped * 100 < calls * ENOUGH; }
 };
 
 struct number {
@@ -666,17 +602,16 @@ template <class S> struct made {
     std::unique_ptr<S> operator()() const { return std::make_unique<S>(); }
 };
 
-template <class K, class = void> struct can_be_shown : std::false_type {};
-template <class K> struct can_be_shown<K, std::void_t<decltype(std::declval<std::ostream &>() << std::declval<const K &>())>> : std::true_type {};
+inline constexpr auto put_to = [](std::ostream &to, auto &key) -> decltype(to << key) { return to << key; };
 
 template <class K> std::string shown(const K &key) {
     std::ostringstream to;
-    if constexpr (can_be_shown<K>::value) to << key;
+    if constexpr (has<std::ostream, K>(put_to)) to << key;
     return to.str();
 }
 
 template <class Make, class Key> struct tester {
-    using K = std::decay_t<decltype(std::declval<Key &>()(0u))>;
+    using K = std::decay_t<std::invoke_result_t<const Key &, unsigned>>;
     const options &how;
     const judge_found by;
     const Make &make;
@@ -688,8 +623,10 @@ template <class Make, class Key> struct tester {
         if (how.threads) it.threads = how.threads;
         if (how.keys || !std::is_same_v<Key, number>) it.times = 1;
         if (how.keys) it.keys = how.keys;
-        if (how.calls) it.calls = how.calls, it.sets = 1;
-        if (how.opens_with_keys) it.calls *= std::exchange(it.sets, 1);
+        if (how.calls || how.opens_with_keys) {
+            it.calls = how.calls ? how.calls : it.sets * it.calls;
+            it.sets = 1;
+        }
         return it;
     }
 
@@ -711,7 +648,8 @@ template <class Make, class Key> struct tester {
         return keys;
     }
 
-    std::string key_line(const std::string &number, const shape &it, const std::vector<K> &keys) const {
+    // Which key of which set the judge names, if its number does not say so.
+    static std::string key_line(const std::string &number, const shape &it, const std::vector<K> &keys) {
         if (number.empty()) return "";
         const unsigned long at = std::stoul(number);
         const std::string name = shown(keys[at % it.keys]), set = it.sets > 1 ? say(IN_SET, at / it.keys + 1) : "";
@@ -719,29 +657,30 @@ template <class Make, class Key> struct tester {
     }
 
     outcome judged_run(uint64_t seed, const shape &it) const {
-        auto run = area::made(it, seed);
+        const auto run = area::made(it, seed);
         recording text(how, seed);
-        auto by_maker = std::make_shared<maker<Make, K>>(how, keys_of(it), make, text.path);
-        std::unique_ptr<caller> start;
-        if (how.own_process && is_alone()) start = std::make_unique<child>(*by_maker, *run);
-        else start = std::make_unique<here>(by_maker, run);
-        auto [trouble, under_way] = watched(*start, *run, text.path, how.seconds);
-        start.reset();
-        auto [refused, overlapped] = judged(by, text.path);
+        const auto by_maker = std::make_shared<maker<Make, K>>(how, keys_of(it), make, text.path);
+        std::string trouble = how.own_process && is_alone() ? made_in_child(*by_maker, *run) : made_here(by_maker, run);
+        if (run->at == UNMADE) throw no_verdict(run->why);
+        if (run->at == FAILED) trouble = run->why;
+        const std::string under_way = trouble.empty() ? "" : cut(*run, text.path, trouble);
+        const auto [refused, overlapped] = judged(by, text.path);
         outcome found{seed, uint64_t(it.threads) * it.sets * it.calls, overlapped, it.name, "", text.path, refused};
-        if (!refused.empty()) found.said = explained(found.refused, text.path) + key_line(found.refused.key, it, by_maker->keys);
-        if (!trouble.empty()) found.said = say(UNDER_WAY, trouble, under_way, refused.empty() ? EXPLAINED : found.said), found.refused = {};
-        text.is_kept |= !found.said.empty();
+        if (!refused.said.empty()) found.said = explained(refused, text.path) + key_line(refused.key, it, by_maker->keys);
+        if (!trouble.empty()) {
+            found.said = say(UNDER_WAY, trouble, under_way, found.said.empty() ? EXPLAINED : found.said);
+            found.refused = {};
+        }
+        text.is_kept = text.is_kept || !found.said.empty();
         return found;
     }
 
     // Of the refusal and of further runs, the one that has the fewest calls, and two at least.
     outcome smallest(outcome found) const {
-        const auto since = std::chrono::steady_clock::now();
-        const uint64_t first = found.seed;
-        for (unsigned i = 1; i <= FURTHER && found.refused.rank() > READABLE / 2; i++) {
-            if (std::chrono::steady_clock::now() - since > std::chrono::seconds(PATIENCE)) break;
-            const uint64_t seed = first + i * std::size(PRESETS);
+        const auto until = std::chrono::steady_clock::now() + std::chrono::seconds(PATIENCE);
+        uint64_t seed = found.seed;
+        for (unsigned i = 0; i < FURTHER && found.refused.rank() > READABLE / 2 && std::chrono::steady_clock::now() < until; i++) {
+            seed += std::size(PRESETS);
             outcome other = judged_run(seed, shape_of(seed));
             if (!other.refused.said.empty() && other.refused.rank() < found.refused.rank()) std::swap(found, other);
             if (how.record.empty() && !other.said.empty()) std::remove(other.file.c_str());
@@ -758,24 +697,25 @@ template <class Make, class Key> struct tester {
             shape it = shape_of(seed);
             for (unsigned tries = 0; tries <= HARDER && found.said.empty(); tries++, it = harder(it)) {
                 found = judged_run(seed, it);
-                all.calls += found.calls, all.overlapped += found.overlapped;
-                if (!found.is_few() || std::chrono::steady_clock::now() > until) break;
+                all.calls += found.calls;
+                all.overlapped += found.overlapped;
+                if (!is_few(found.overlapped, found.calls) || std::chrono::steady_clock::now() > until) break;
             }
         }
+        if (found.said.empty()) return passed(all);
         if (!found.refused.said.empty()) found = smallest(found);
-        all.ok = found.said.empty();
-        if (!all.ok) all.seed = found.seed, all.said = found.said, all.file = found.file;
-        all.text = all.ok ? passed(all) : say(FAILED_RUN, found.seed, found.name, found.said, found.file, all.judge);
-        return all;
+        const std::string text = say(FAILED_RUN, found.seed, found.name, found.said, found.file, all.judge);
+        return {false, all.calls, all.overlapped, found.seed, found.said, found.file, all.judge, text};
     }
 
-    // What is said of runs that are right; they may have met too little.
-    std::string passed(verdict &all) const {
-        const bool is_few = all.overlapped * 100 < all.calls * ENOUGH;
-        std::string text = say(OK, all.calls, all.overlapped) + (is_few ? std::string("; ") + FEW : "") + "; judge: " + all.judge;
-        if (is_few) fprintf(stderr, "listset: %s\n", text.c_str());  // (a test that passes may show no verdict)
+    // The verdict on runs that are right; they may have met too little.
+    verdict passed(verdict all) const {
+        const bool few = is_few(all.overlapped, all.calls);
+        all.text = say(OK, all.calls, all.overlapped) + (few ? std::string("; ") + FEW : "") + "; judge: " + all.judge;
+        if (few) fprintf(stderr, "listset: %s\n", all.text.c_str());  // (a test that passes may show no verdict)
         all.ok = all.overlapped * 100 >= all.calls * how.at_least;
-        return all.ok ? text : all.said = say(TOO_FEW, all.overlapped, all.calls, how.at_least);
+        if (!all.ok) all.text = all.said = say(TOO_FEW, all.overlapped, all.calls, how.at_least);
+        return all;
     }
 };
 

@@ -8,7 +8,6 @@ import (
 	"os/exec"
 	"path/filepath"
 	"regexp"
-	"sort"
 	"strconv"
 	"strings"
 )
@@ -98,26 +97,32 @@ func (r refusal) key() int {
 	return key
 }
 
-func (r refusal) calls() [][]string { return callLine.FindAllStringSubmatch(string(r), -1) }
+func (r refusal) calls() int {
+	calls := len(callLine.FindAllString(string(r), -1))
+	if strings.Contains(string(r), " belong to these") {
+		calls += 1000 // (which are not printed)
+	}
+	return calls
+}
 
 // rank is the number of its calls; a refusal of one call alone comes last.
 func (r refusal) rank() int {
-	if calls := len(r.calls()); calls > 1 && !strings.Contains(string(r), " belong to these") {
+	if calls := r.calls(); calls > 1 {
 		return calls
 	}
 	return 999
 }
 
-// explained is what the judge says, with a picture; or, in place of many calls, what their count shows.
+// explained is what the judge says; or, in place of many calls, what their count shows.
 func (r refusal) explained(file string) string {
-	if r.rank() > manyReadable {
+	if r.calls() > manyReadable {
 		if text, err := os.ReadFile(file); err == nil {
 			if counted := countOf(string(text), strconv.Itoa(r.key())); counted != "" {
 				return strings.Join(append(strings.SplitN(string(r), "\n", 3)[:2], counted), "\n")
 			}
 		}
 	}
-	return string(r) + pictureOf(r.calls())
+	return string(r)
 }
 
 // countOf says that the calls of a key that answered true do not fit to how it was; else nothing.
@@ -136,45 +141,6 @@ func countOf(recorded, key string) string {
 	}
 	word := []string{sayNotThere, sayThere}
 	return fmt.Sprintf(sayCounted, adds, removes, key, word[was], word[left])
-}
-
-// pictureOf has the calls as bars, one below another, from their begins to their ends; one call has none.
-func pictureOf(calls [][]string) string {
-	if len(calls) < 2 {
-		return ""
-	}
-	type bar struct {
-		begin, end int
-		head, tail string
-	}
-	bars, moments := make([]bar, len(calls)), []int{}
-	for i, call := range calls {
-		begin, _ := strconv.Atoi(call[4])
-		bars[i] = bar{begin, 1 << 62, fmt.Sprintf("[%s %s", call[2], call[3]), ".."}
-		if end, err := strconv.Atoi(call[5]); err == nil {
-			bars[i].end, bars[i].tail = end, call[6]+"]"
-		}
-		moments = append(moments, begin, bars[i].end)
-	}
-	sort.Ints(moments)
-	places, place, text := map[int]int{}, 0, ""
-	for _, moment := range moments {
-		if _, is := places[moment]; is {
-			continue
-		}
-		for _, b := range bars {
-			if least := places[b.begin] + len(b.head+b.tail); b.end == moment && least > place {
-				place = least
-			}
-		}
-		places[moment] = place
-		place++
-	}
-	for i, b := range bars {
-		dashes := strings.Repeat("-", places[b.end]-places[b.begin]-len(b.head+b.tail)+1)
-		text += fmt.Sprintf("\n%-10s %*s%s%s%s", "thread "+calls[i][1], places[b.begin], "", b.head, dashes, b.tail)
-	}
-	return text
 }
 
 // ---- the judge

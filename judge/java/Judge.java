@@ -23,18 +23,17 @@ import java.util.List;
 import java.util.Map;
 import java.util.Set;
 import java.util.SplittableRandom;
-import java.util.TreeMap;
+import java.util.concurrent.atomic.AtomicReference;
 import java.util.concurrent.locks.LockSupport;
 import java.util.function.BiPredicate;
 import java.util.function.BooleanSupplier;
 import java.util.function.Consumer;
 import java.util.function.IntFunction;
 import java.util.function.Supplier;
-import java.util.regex.MatchResult;
 import java.util.regex.Matcher;
 import java.util.regex.Pattern;
 import java.util.stream.Collectors;
-import java.util.stream.LongStream;
+import java.util.stream.Stream;
 
 /**
  * Whether runs of a concurrent set of your own are linearizable, in one line of a test (Java 16):
@@ -49,6 +48,7 @@ import java.util.stream.LongStream;
  */
 public final class Judge {
     private static final String[] WORDS = {"add", "remove", "contains"};
+    private static final long SECOND = 1_000_000_000L; // nanoseconds
 
     /** A run: the threads, the fresh sets one after another, the calls of each thread on each, the keys, what their numbers are multiples of. */
     private record Shape(String name, int threads, int sets, int calls, int keys, int times) {
@@ -75,7 +75,6 @@ public final class Judge {
     private static final String RANGE = "%s is %s, and has to be %s to %s";
     private static final String TWICE = "the key function gives %s for %s and for %s: let it give each number a key of its own";
     private static final String HUNG = "the set hung: no call began or ended for %s s";
-    private static final String CRASHED = "the set crashed: %s";
     private static final String ENDED_SO = "the set ended its process with the status %s";
     private static final String THREW = "a call of the set failed: %s";
     private static final String NOT_MADE = "the set could not be made: %s";
@@ -87,9 +86,6 @@ public final class Judge {
     private static final String KEY_IS = "key %s of the recording is %s";
     private static final String IN_SET = ", in the fresh set %s of the run";
     private static final String NO_FOLDER = "no file can be written in %s: name another folder by record";
-    private static final String NO_MEMORY = "there is no memory for the calls of a run";
-    private static final String NO_PROCESS = "no process could be started for a run: %s";
-    private static final String NOT_AGAIN = "the test did not come to this judge again in a process of its own: set own_process to false";
     private static final String NO_JUDGE = "%s cannot be run: build listset, and put it in PATH or name it by LISTSET (node runs a listset.js)";
     private static final String NO_VERDICT = "%s gave no verdict, but said: %s. Take a newer listset";
     // end of what is made
@@ -175,11 +171,6 @@ public final class Judge {
             int more = threads > 0 ? it.threads : Math.min(2 * it.threads, 8), fewer = keys > 0 ? it.keys : Math.max(it.keys / 2, 1);
             return new Shape(it.name, more, it.sets, it.calls, fewer, it.times);
         }
-
-        /** The most keys of a run. */
-        private int mostKeys() {
-            return LongStream.rangeClosed(1, PRESETS.length).mapToObj(this::shapeOf).mapToInt(Shape::keys).max().getAsInt();
-        }
     }
 
     /**
@@ -212,12 +203,8 @@ public final class Judge {
     /** No order explains the run. */
     public static final class NotLinearizable extends Failed {
         private static final long serialVersionUID = 1;
-        private final String refused;
 
-        NotLinearizable(long seed, String name, String said, String refused, Path file, Program judge) {
-            super(seed, name, said, file, judge);
-            this.refused = refused;
-        }
+        NotLinearizable(long seed, String name, String said, Path file, Program judge) { super(seed, name, said, file, judge); }
     }
 
     /** The set ended its JVM, hung or threw in the run, which was judged up to there. */
@@ -269,42 +256,41 @@ public final class Judge {
 
     /** Judges any set, by its three calls; throws of a run that no order explains, or in which the set hangs, throws or ends its JVM. */
     public static <S> Verdict judge(Make<? extends S> make, Call<S, Integer> add, Call<S, Integer> remove, Call<S, Integer> contains, Options how) {
-        return new Judge.Tester<>(how, new Calls<>(make, null, add, remove, contains)).all();
+        return Tester.judge(how, new Calls<>(make, null, add, remove, contains));
     }
 
     /** The same for a set of other keys. */
     public static <S, K> Verdict judge(Make<? extends S> make, Keys<K> keys, Call<S, K> add, Call<S, K> remove, Call<S, K> contains, Options how) {
-        return new Judge.Tester<>(how, new Calls<>(make, keys, add, remove, contains)).all();
+        return Tester.judge(how, new Calls<>(make, keys, add, remove, contains));
     }
 
-    /** Judges one run after another. */
-    private static final class Tester<S, K> {
-        private final Options how;
-        private final Calls<S, K> calls;
-        private final Program program;
-        private Caller caller;
+    /** Of a run: how many calls overlapped a change of their key; or why it failed, and what the judge refused. */
+    private record Outcome(long overlapped, Failed failed, Refusal refused) { }
 
-        Tester(Options how, Calls<S, K> calls) {
+    /** Judges one run after another. */
+    private record Tester<S, K>(Options how, Calls<S, K> calls, Program program, Caller<S, K> caller) {
+        static <S, K> Verdict judge(Options how, Calls<S, K> calls) {
             how.check();
-            this.how = how;
-            this.calls = calls;
-            calls.check(how.mostKeys());
-            program = Program.found();
+            calls.check(how.keys > 0 ? how.keys : Stream.of(PRESETS).mapToInt(Shape::keys).max().getAsInt());
+            Program program = Program.found();
+            try (Caller<S, K> caller = Caller.of(calls, how)) {
+                return new Tester<>(how, calls, program, caller).all();
+            } catch (IOException full) {
+                throw new NoVerdict("the recording cannot be written: ", full);
+            }
         }
 
-        Verdict all() {
-            long count = 0, overlapped = 0, until = System.nanoTime() + PATIENCE * 1_000_000_000L;
-            Caller child = how.ownProcess ? Child.of(calls, how) : null;
-            try (Caller own = child == null ? new Here<>(calls, new Area(how, ByteBuffer.allocateDirect(Area.SIZE))) : child) {
-                caller = own;
-                for (int one = 0; one < how.runs; one++) {
-                    Shape shape = how.shapeOf(how.seed + one);
-                    for (int tries = 0; tries <= HARDER; tries++, shape = how.harder(shape)) {
-                        long met = judgedOrSmallest(how.seed + one, shape);
-                        overlapped += met;
-                        count += shape.allCalls();
-                        if (!isFew(met, shape.allCalls()) || System.nanoTime() > until) break;
-                    }
+        private Verdict all() throws IOException {
+            long count = 0, overlapped = 0, until = System.nanoTime() + PATIENCE * SECOND;
+            for (long seed = how.seed; seed - how.seed < how.runs; seed++) {
+                Shape shape = how.shapeOf(seed);
+                for (int tries = 0; tries <= HARDER; tries++, shape = how.harder(shape)) {
+                    Outcome found = judged(seed, shape);
+                    if (found.refused != null) found = smallest(found);
+                    if (found.failed != null) throw found.failed;
+                    count += shape.allCalls();
+                    overlapped += found.overlapped;
+                    if (!isFew(found.overlapped, shape.allCalls()) || System.nanoTime() > until) break;
                 }
             }
             Verdict verdict = new Verdict(count, overlapped, program.toString());
@@ -313,46 +299,42 @@ public final class Judge {
             return verdict;
         }
 
-        private long judgedOrSmallest(long seed, Shape shape) {
-            try {
-                return judged(seed, shape);
-            } catch (NotLinearizable refused) {
-                throw smallest(refused);
-            }
-        }
-
         /** Of a refusal and of further runs, the one that has the fewest calls, and two at least. */
-        private NotLinearizable smallest(NotLinearizable found) {
-            long since = System.nanoTime(), seed = found.seed;
-            for (int i = 0; i < FURTHER && Told.rank(found.refused) > READABLE / 2 && System.nanoTime() - since < PATIENCE * 1_000_000_000L; i++) {
+        private Outcome smallest(Outcome found) throws IOException {
+            long until = System.nanoTime() + PATIENCE * SECOND, seed = found.failed.seed;
+            for (int i = 0; i < FURTHER && found.refused.rank() > READABLE / 2 && System.nanoTime() < until; i++) {
                 seed += PRESETS.length;
-                try {
-                    judged(seed, how.shapeOf(seed));
-                } catch (NotLinearizable other) {
-                    boolean isSmaller = Told.rank(other.refused) < Told.rank(found.refused);
-                    drop(isSmaller ? found : other);
-                    if (isSmaller) found = other;
-                } catch (CutShort ended) {
-                    drop(ended);
-                    break; // (a JVM of its own that has ended makes no further run)
-                }
+                Outcome other = judged(seed, how.shapeOf(seed));
+                if (other.failed == null) continue;
+                boolean isSmaller = other.refused != null && other.refused.rank() < found.refused.rank();
+                if (how.record == null) new File((isSmaller ? found : other).failed.file).delete();
+                if (isSmaller) found = other;
+                if (other.refused == null) break; // (a JVM of its own that has ended makes no further run)
             }
             return found;
         }
 
-        private void drop(Failed failed) {
-            if (how.record == null) new File(failed.file).delete();
+        private Outcome judged(long seed, Shape shape) throws IOException {
+            try (Recording recording = new Recording(seed, how.record)) {
+                Path file = recording.file;
+                String trouble = caller.made(seed, shape, file), underWay = trouble == null ? "" : caller.area.cut();
+                Judgement judged = program.judged(file);
+                Refusal refused = judged.refused;
+                if (trouble == null && refused == null) return new Outcome(judged.overlapped, null, null);
+                recording.isKept = true;
+                String said = refused == null ? EXPLAINED : refused.explained(file) + keyLine(refused, shape);
+                if (trouble == null) return new Outcome(0, new NotLinearizable(seed, shape.name, said, file, program), refused);
+                return new Outcome(0, new CutShort(seed, shape.name, UNDER_WAY.formatted(trouble, underWay, said), file, program), null);
+            }
         }
 
-        /** How many calls of a run overlapped a change of their key; throws if it failed. */
-        private long judged(long seed, Shape shape) {
-            try (Recording recording = new Recording(seed, shape, how.record, program)) {
-                Area area = caller.area();
-                String trouble = area.made(seed, shape, recording.file, caller);
-                return recording.judged(trouble == null ? null : UNDER_WAY.formatted(trouble, area.cut(), "%s"), calls);
-            } catch (IOException full) {
-                throw new NoVerdict("the recording cannot be written: ", full);
-            }
+        /** Which key of which set it is that the judge names, if its number does not say so. */
+        private String keyLine(Refusal refused, Shape shape) {
+            int number = refused.key();
+            if (number < 0) return "";
+            String key = String.valueOf(calls.key(number % shape.keys, shape.times));
+            String ofSet = shape.sets > 1 ? IN_SET.formatted(number / shape.keys + 1) : "";
+            return key.equals("" + number) && ofSet.isEmpty() ? "" : "\n" + KEY_IS.formatted(number, key) + ofSet;
         }
     }
 
@@ -383,7 +365,7 @@ public final class Judge {
     }
 
     /** A run in memory that another JVM may share: the calls since those in its file. */
-    private static final class Area {
+    private record Area(Options how, ByteBuffer memory) {
         private static final VarHandle INT = MethodHandles.byteBufferViewVarHandle(int[].class, ByteOrder.nativeOrder());
         // Where numbers are: IS_HERE that another JVM has come, WRITTEN the bytes of the file, SHAPE five of them; WHY and FILE a text.
         private static final int TICKETS = 0, THERE = 4, DONE = 8, BEGUN = 12, AT = 16, STOPPING = 20, IS_HERE = 24, SEED = 32, WRITTEN = 40,
@@ -392,12 +374,8 @@ public final class Judge {
         private static final int GOING = 1, OVER = 2, FAILED = 3, UNMADE = 4; // AT
         private static final int SIZE = SLOTS + PART * SLOT;
 
-        private final Options how;
-        private final ByteBuffer memory;
-
-        Area(Options how, ByteBuffer memory) {
-            this.how = how;
-            this.memory = memory.order(ByteOrder.nativeOrder());
+        Area {
+            memory.order(ByteOrder.nativeOrder());
         }
 
         int get(int at) { return (int) INT.getVolatile(memory, at); }
@@ -410,31 +388,13 @@ public final class Judge {
             return new Shape("", get(SHAPE), get(SHAPE + 4), get(SHAPE + 8), get(SHAPE + 12), get(SHAPE + 16));
         }
 
-        /** Has the run of a seed made; gives how it was cut short, or null. */
-        String made(long seed, Shape of, Path file, Caller caller) {
+        /** Begins the run of a seed, which is written into a file. */
+        void begin(long seed, Shape of, Path file) {
             for (int at = 0; at < SIZE; at += 4) if (at != IS_HERE) memory.putInt(at, 0);
             memory.putLong(SEED, seed);
             memory.putInt(SHAPE, of.threads).putInt(SHAPE + 4, of.sets).putInt(SHAPE + 8, of.calls).putInt(SHAPE + 12, of.keys).putInt(SHAPE + 16, of.times);
             putText(FILE, SLOTS - FILE, file.toString());
             set(AT, GOING);
-            caller.begin();
-            String trouble = isHung(caller) ? HUNG.formatted(how.seconds) : caller.trouble();
-            if (get(AT) >= FAILED) trouble = text(WHY);
-            if (get(AT) == UNMADE) throw new NoVerdict(trouble);
-            if (trouble != null && get(TICKETS) == 0) throw new NoVerdict(NOT_MADE.formatted(trouble));
-            return trouble;
-        }
-
-        /** Waits until the run has ended; true if before that no call begins or ends for too long. */
-        private boolean isHung(Caller caller) {
-            long since = System.nanoTime();
-            for (int seen = -1; !caller.hasEnded(); LockSupport.parkNanos(300_000)) {
-                int now = get(TICKETS);
-                if (now != seen) since = System.nanoTime();
-                seen = now;
-                if (System.nanoTime() - since > how.seconds * 1_000_000_000L) return true;
-            }
-            return false;
         }
 
         private void putText(int at, int room, String text) {
@@ -451,11 +411,11 @@ public final class Judge {
         }
 
         /** The lines of the calls since those in the file. */
-        private String lines() { return rows(shape()).stream().map(Row::line).collect(Collectors.joining()); }
+        private String lines() { return rows().stream().map(Row::line).collect(Collectors.joining()); }
 
         /** Writes those calls as the last of a run that was cut short; gives those under way. */
         String cut() throws IOException {
-            List<Row> rows = rows(shape());
+            List<Row> rows = rows(); // (once: calls that were under way may go on)
             write(rows.stream().map(Row::line).collect(Collectors.joining()) + "cut\n");
             return rows.stream().filter(it -> it.end == 0 && it.reply != Calls.UNKNOWN).map(Row::line).collect(Collectors.joining());
         }
@@ -473,9 +433,10 @@ public final class Judge {
         }
 
         /** The calls of the part by their begins. */
-        private List<Row> rows(Shape of) {
+        private List<Row> rows() {
             List<Row> found = new ArrayList<>();
-            for (int at = SLOTS; at < SLOTS + of.threads * of.rows() * SLOT; at += SLOT) {
+            int behind = SLOTS + shape().threads * shape().rows() * SLOT;
+            for (int at = SLOTS; at < behind; at += SLOT) {
                 int end = get(at + END), begin = get(at + BEGIN), reply = end > 0 ? get(at + REPLY) : Calls.NO;
                 if (begin > 0) found.add(new Row(get(at + THREAD), get(at + CALL), get(at + KEY), begin, end, reply));
             }
@@ -485,8 +446,23 @@ public final class Judge {
 
         /** Makes sets and calls them, to the end. */
         <S, K> void callAll(Calls<S, K> calls) {
-            new Play<>(this, calls, shape()).all();
+            new Play<>(this, calls, shape(), new AtomicReference<>()).all();
             INT.compareAndSet(memory, AT, GOING, OVER);
+        }
+    }
+
+    /** Who makes a run: the threads, and where they find the set. */
+    private record Play<S, K>(Area area, Calls<S, K> calls, Shape of, AtomicReference<S> set) {
+        void all() {
+            List<Thread> threads = new ArrayList<>();
+            for (int i = 0; i < of.threads; i++) {
+                int thread = i;
+                threads.add(start(() -> tried(Area.FAILED, () -> callInRounds(thread))));
+            }
+            tried(Area.FAILED, () -> {
+                lead();
+                for (Thread it : threads) it.join();
+            });
         }
 
         private interface Doing {
@@ -498,47 +474,21 @@ public final class Judge {
             try {
                 does.run();
             } catch (Throwable why) {
-                if (next(STOPPING) > 1) return;
-                putText(WHY, FILE - WHY, (as == UNMADE ? NOT_MADE : THREW).formatted(why));
-                set(AT, as);
+                if (area.next(Area.STOPPING) > 1) return;
+                area.putText(Area.WHY, Area.FILE - Area.WHY, (as == Area.UNMADE ? NOT_MADE : THREW).formatted(why));
+                area.set(Area.AT, as);
                 why.printStackTrace();
             }
         }
 
         /** Waits, first awake if each thread may have a processor, so that all go on at once; false if the run stops. */
-        private boolean waits(int threads, BooleanSupplier isDone) {
-            int awake = threads <= Runtime.getRuntime().availableProcessors() ? AWAKE : LONGEST;
-            for (int looks = 0; !isDone.getAsBoolean() && get(STOPPING) == 0; looks++) {
+        private boolean waits(BooleanSupplier isDone) {
+            int awake = of.threads <= Runtime.getRuntime().availableProcessors() ? AWAKE : LONGEST;
+            for (int looks = 0; !isDone.getAsBoolean() && area.get(Area.STOPPING) == 0; looks++) {
                 if (looks >= awake) LockSupport.parkNanos(20_000);
             }
-            return get(STOPPING) == 0;
+            return area.get(Area.STOPPING) == 0;
         }
-    }
-
-    /** Who makes a run: the threads, and where they find the set. */
-    private static final class Play<S, K> {
-        private final Area area;
-        private final Calls<S, K> calls;
-        private final Shape of;
-        private volatile S set;
-
-        Play(Area area, Calls<S, K> calls, Shape of) {
-            this.area = area;
-            this.calls = calls;
-            this.of = of;
-        }
-
-        void all() {
-            List<Thread> threads = new ArrayList<>();
-            for (int i = 0; i < of.threads; i++) {
-                int thread = i;
-                threads.add(started(() -> area.tried(Area.FAILED, () -> callInRounds(thread))));
-            }
-            area.tried(Area.FAILED, this::lead);
-            for (Thread it : threads) join(it);
-        }
-
-        private boolean waits(BooleanSupplier isDone) { return area.waits(of.threads, isDone); }
 
         /** Waits until all threads are here. */
         private boolean meets() {
@@ -553,7 +503,7 @@ public final class Judge {
             for (int i = 0; i < of.rounds(); i++) {
                 int round = i;
                 if (round % of.parts() == 0) {
-                    area.tried(Area.UNMADE, () -> set = calls.make.get());
+                    tried(Area.UNMADE, () -> set.set(calls.make.get()));
                     if (area.get(Area.STOPPING) > 0) return;
                     if (area.how.opensWithKeys) area.write(linesOfKeys("opening ", round));
                 }
@@ -570,7 +520,7 @@ public final class Judge {
             StringBuilder lines = new StringBuilder();
             for (int key = 0; key < of.keys; key++, area.next(Area.TICKETS)) {
                 int number = round / of.parts() * of.keys + key;
-                if (calls.reply(set, 2, calls.key(key, of.times)) == Calls.YES) lines.append(word).append(number).append('\n');
+                if (calls.reply(set.get(), 2, calls.key(key, of.times)) == Calls.YES) lines.append(word).append(number).append('\n');
             }
             return lines.toString();
         }
@@ -582,7 +532,7 @@ public final class Judge {
             for (int i = 0; i < of.rounds(); i++) {
                 int round = i, count = Math.min(of.rows(), of.calls - round % of.parts() * of.rows());
                 if (!waits(() -> area.get(Area.BEGUN) > round)) return;
-                S its = set;
+                S its = set.get();
                 for (int done = 0; done < count; done++) {
                     if (done % MEET == 0 && !meets()) return;
                     int at = Area.SLOTS + (thread * of.rows() + done) * Area.SLOT;
@@ -607,61 +557,33 @@ public final class Judge {
         }
     }
 
-    /** What has the runs of an area made. */
-    private interface Caller extends AutoCloseable {
-        Area area();
-
-        void begin();
-
-        /** Whether nothing more comes of the run; then how it went wrong, or null. */
-        boolean hasEnded();
-
-        String trouble();
-
-        @Override void close();
-    }
-
-    /** Threads of this JVM. Those that hang stay. */
-    private record Here<S, K>(Calls<S, K> calls, Area area) implements Caller {
-        @Override public void begin() { Judge.started(() -> area.callAll(calls)); }
-
-        @Override public boolean hasEnded() { return area.get(Area.AT) >= Area.OVER; }
-
-        @Override public String trouble() { return null; }
-
-        @Override public void close() { area.next(Area.STOPPING); }
-    }
-
-    /** A JVM that is given the calls. It ends if its input does, and so with this one. */
-    private record Child(Area area, Process process) implements Caller {
-        private static final long STARTING = 60_000_000_000L; // the most nanoseconds until it has come
-
-        /** None if the calls cannot be passed on, or no set be made there. */
-        static Child of(Calls<?, ?> calls, Options how) {
+    /** Has runs made, one after another: in another JVM, which is given the calls and ends if its input does; or, if it is null, in this one. */
+    private record Caller<S, K>(Calls<S, K> calls, Options how, Area area, Process process) implements AutoCloseable {
+        static <S, K> Caller<S, K> of(Calls<S, K> calls, Options how) {
             try {
-                ByteArrayOutputStream bytes = new ByteArrayOutputStream();
-                try (ObjectOutputStream out = new ObjectOutputStream(bytes)) {
-                    out.writeObject(how);
-                    out.writeObject(calls);
-                }
-                return started(calls, how, bytes);
+                Caller<S, K> child = how.ownProcess ? inChild(calls, how) : null;
+                if (child != null) return child;
             } catch (IOException | URISyntaxException | SecurityException cannot) {
-                return null;
+                // (the calls cannot be passed on)
             }
+            return new Caller<>(calls, how, new Area(how, ByteBuffer.allocateDirect(Area.SIZE)), null);
         }
 
-        private static Child started(Calls<?, ?> calls, Options how, ByteArrayOutputStream given) throws IOException, URISyntaxException {
+        /** Null if no set can be made there. */
+        private static <S, K> Caller<S, K> inChild(Calls<S, K> calls, Options how) throws IOException, URISyntaxException {
+            ByteArrayOutputStream given = new ByteArrayOutputStream();
+            try (ObjectOutputStream out = new ObjectOutputStream(given)) {
+                out.writeObject(how);
+                out.writeObject(calls);
+            }
             Path file = Files.createTempFile("listset-", ".area");
             try {
-                Area area = shared(how, file);
-                ProcessBuilder words = new ProcessBuilder(Path.of(System.getProperty("java.home"), "bin", "java").toString(),
-                    Judge.class.desiredAssertionStatus() ? "-ea" : "-da", "-cp", path(calls), Child.class.getName(), file.toString());
-                Child made = new Child(area, words.redirectOutput(ProcessBuilder.Redirect.DISCARD).redirectError(ProcessBuilder.Redirect.INHERIT).start());
+                Caller<S, K> made = new Caller<>(calls, how, Child.shared(how, file), Child.started(Child.path(calls), file));
                 given.writeTo(made.process.getOutputStream());
                 made.process.getOutputStream().flush();
-                long since = System.nanoTime();
-                while (area.get(Area.IS_HERE) == 0 && made.process.isAlive() && System.nanoTime() - since < STARTING) LockSupport.parkNanos(1_000_000);
-                if (area.get(Area.IS_HERE) == 1) return made;
+                for (long until = System.nanoTime() + 60 * SECOND; made.process.isAlive() && System.nanoTime() < until; LockSupport.parkNanos(1_000_000)) {
+                    if (made.area.get(Area.IS_HERE) == 1) return made;
+                }
                 made.close();
                 return null;
             } finally {
@@ -669,14 +591,52 @@ public final class Judge {
             }
         }
 
-        private static Area shared(Options how, Path file) throws IOException {
+        /** Has the run of a seed made; gives how it was cut short, or null. */
+        String made(long seed, Shape of, Path file) {
+            area.begin(seed, of, file);
+            if (process == null) start(() -> area.callAll(calls));
+            String trouble = isHung() ? HUNG.formatted(how.seconds) : area.get(Area.AT) >= Area.OVER ? null : ENDED_SO.formatted(process.exitValue());
+            if (area.get(Area.AT) >= Area.FAILED) trouble = area.text(Area.WHY);
+            if (area.get(Area.AT) == Area.UNMADE) throw new NoVerdict(trouble);
+            if (trouble != null && area.get(Area.TICKETS) == 0) throw new NoVerdict(NOT_MADE.formatted(trouble));
+            return trouble;
+        }
+
+        /** Waits until the run has ended; true if before that no call begins or ends for too long. */
+        private boolean isHung() {
+            long since = System.nanoTime();
+            for (int seen = -1; area.get(Area.AT) < Area.OVER && (process == null || process.isAlive()); LockSupport.parkNanos(300_000)) {
+                int now = area.get(Area.TICKETS);
+                if (now != seen) since = System.nanoTime();
+                seen = now;
+                if (System.nanoTime() - since > how.seconds * SECOND) return true;
+            }
+            return false;
+        }
+
+        /** (Threads of this JVM that hang stay.) */
+        @Override public void close() {
+            if (process == null) area.next(Area.STOPPING);
+            else process.destroyForcibly();
+        }
+    }
+
+    /** The other JVM. */
+    private static final class Child {
+        static Process started(String path, Path file) throws IOException {
+            return new ProcessBuilder(Path.of(System.getProperty("java.home"), "bin", "java").toString(),
+                Judge.class.desiredAssertionStatus() ? "-ea" : "-da", "-cp", path, Child.class.getName(), file.toString())
+                .redirectOutput(ProcessBuilder.Redirect.DISCARD).redirectError(ProcessBuilder.Redirect.INHERIT).start();
+        }
+
+        static Area shared(Options how, Path file) throws IOException {
             try (FileChannel channel = FileChannel.open(file, StandardOpenOption.READ, StandardOpenOption.WRITE)) {
                 return new Area(how, channel.map(FileChannel.MapMode.READ_WRITE, 0, Area.SIZE));
             }
         }
 
-        /** Where the classes are that a JVM of its own needs. */
-        private static String path(Calls<?, ?> calls) throws URISyntaxException {
+        /** Where the classes are that it needs. */
+        static String path(Calls<?, ?> calls) throws URISyntaxException {
             StringBuilder path = new StringBuilder(System.getProperty("java.class.path"));
             for (Class<?> it : List.of(Judge.class, calls.make.getClass(), calls.add.getClass())) {
                 path.append(File.pathSeparator).append(Path.of(it.getProtectionDomain().getCodeSource().getLocation().toURI()));
@@ -690,8 +650,11 @@ public final class Judge {
                 Options how = (Options) in.readObject();
                 Calls<?, ?> calls = (Calls<?, ?>) in.readObject();
                 calls.make.get();
-                Judge.started(Child::endWithInput);
-                serve(shared(how, Path.of(words[0])), calls);
+                start(Child::endWithInput);
+                Area area = shared(how, Path.of(words[0]));
+                for (area.set(Area.IS_HERE, 1);; LockSupport.parkNanos(100_000)) {
+                    if (area.get(Area.AT) == Area.GOING) area.callAll(calls);
+                }
             } catch (Exception | LinkageError cannot) {
                 System.exit(1); // (what cannot be made here is made in the other JVM)
             }
@@ -705,37 +668,13 @@ public final class Judge {
             }
             Runtime.getRuntime().halt(1);
         }
-
-        private static void serve(Area area, Calls<?, ?> calls) {
-            for (area.set(Area.IS_HERE, 1);; LockSupport.parkNanos(100_000)) {
-                if (area.get(Area.AT) == Area.GOING) area.callAll(calls);
-            }
-        }
-
-        @Override public void begin() { }
-
-        @Override public boolean hasEnded() { return area.get(Area.AT) >= Area.OVER || !process.isAlive(); }
-
-        @Override public String trouble() {
-            return area.get(Area.AT) >= Area.OVER ? null : ENDED_SO.formatted(process.exitValue());
-        }
-
-        @Override public void close() { process.destroyForcibly(); }
     }
 
-    private static Thread started(Runnable does) {
+    private static Thread start(Runnable does) {
         Thread made = new Thread(does);
         made.setDaemon(true);
         made.start();
         return made;
-    }
-
-    private static void join(Thread thread) {
-        try {
-            thread.join();
-        } catch (InterruptedException why) {
-            throw new NoVerdict("the test was interrupted: ", why);
-        }
     }
 
     // ---- a run, as it is judged
@@ -749,16 +688,10 @@ public final class Judge {
 
     /** The file into which a run is written as it grows. */
     private static final class Recording implements AutoCloseable {
-        private final long seed;
-        private final Shape shape;
-        private final Program program;
         private final Path file;
         private boolean isKept;
 
-        Recording(long seed, Shape shape, String record, Program program) {
-            this.seed = seed;
-            this.shape = shape;
-            this.program = program;
+        Recording(long seed, String record) {
             isKept = record != null;
             Path folder = Path.of(isKept ? record : System.getProperty("java.io.tmpdir"));
             try {
@@ -770,114 +703,62 @@ public final class Judge {
             }
         }
 
-        /** How many calls overlapped a change of their key; throws if no order explains them, or the run was cut short. */
-        long judged(String trouble, Calls<?, ?> calls) {
-            Judgement judged = program.judged(file);
-            if (trouble == null && judged.refused == null) return judged.overlapped;
-            isKept = true;
-            String said = judged.refused == null ? EXPLAINED : Told.explained(judged.refused, file) + keyLine(judged.refused, calls);
-            if (trouble != null) throw new CutShort(seed, shape.name, trouble.formatted(said), file, program);
-            throw new NotLinearizable(seed, shape.name, said, judged.refused, file, program);
-        }
-
-        /** Which key of which set it is that the judge names, if its number does not say so. */
-        private String keyLine(String refused, Calls<?, ?> calls) {
-            int number = Told.keyIn(refused);
-            if (number < 0) return "";
-            String key = String.valueOf(calls.key(number % shape.keys, shape.times));
-            String ofSet = shape.sets > 1 ? IN_SET.formatted(number / shape.keys + 1) : "";
-            return key.equals("" + number) && ofSet.isEmpty() ? "" : "\n" + KEY_IS.formatted(number, key) + ofSet;
-        }
-
         @Override public void close() {
             if (!isKept) file.toFile().delete();
         }
     }
 
-    // ---- a refusal, as it is told
-
-    private static final class Told {
-        private static final Pattern CALL = Pattern.compile("^call ([0-9]+) (\\w+) ([0-9]+) ([0-9]+) ([0-9]+|-) (\\w+|-)$", Pattern.MULTILINE);
+    /** What the judge says of a recording that no order explains. */
+    private record Refusal(String said) {
+        private static final Pattern CALL = Pattern.compile("^call [0-9]+ (\\w+) ([0-9]+) [0-9]+ [0-9-]+ (\\w+|-)$", Pattern.MULTILINE);
         private static final Pattern OF_KEY = Pattern.compile("of key ([0-9]+) ");
 
         /** The number of the key of which the judge speaks, or -1. */
-        static int keyIn(String refused) {
-            Matcher found = OF_KEY.matcher(refused);
+        int key() {
+            Matcher found = OF_KEY.matcher(said);
             return found.find() ? Integer.parseInt(found.group(1)) : -1;
         }
 
-        private static long callsIn(String refused) { return CALL.matcher(refused).results().count() + (refused.contains(" belong to these") ? 1000 : 0); }
+        private long calls() { return CALL.matcher(said).results().count() + (said.contains(" belong to these") ? 1000 : 0); }
 
         /** The number of its calls; a refusal of one call alone comes last. */
-        static long rank(String refused) { return callsIn(refused) > 1 ? callsIn(refused) : 999; }
+        long rank() { return calls() > 1 ? calls() : 999; }
 
-        /** What the judge says, with a picture; or, in place of many calls, what their count shows. */
-        static String explained(String refused, Path file) {
-            String counted = callsIn(refused) > READABLE ? countOf(file, "" + keyIn(refused)) : "";
-            if (!counted.isEmpty()) return String.join("\n", refused.lines().limit(2).toList()) + "\n" + counted;
-            return refused + pictureOf(CALL.matcher(refused).results().toList());
+        /** What the judge says; or, in place of many calls, what their count shows. */
+        String explained(Path file) {
+            String counted = calls() > READABLE ? countOf(file, "" + key()) : "";
+            return counted.isEmpty() ? said : said.lines().limit(2).collect(Collectors.joining("\n")) + "\n" + counted;
         }
 
         /** That the calls of a key that answered true do not fit to how it was; else nothing. */
         private static String countOf(Path file, String key) {
-            String recorded;
             try {
-                recorded = Files.readString(file);
+                String recorded = Files.readString(file);
+                Map<String, Long> count = CALL.matcher(recorded).results().filter(it -> it.group(2).equals(key))
+                    .collect(Collectors.groupingBy(it -> it.group(3).equals("true") ? it.group(1) : it.group(3), Collectors.counting()));
+                long adds = count.getOrDefault("add", 0L), removes = count.getOrDefault("remove", 0L);
+                boolean was = recorded.contains("\nopening " + key + "\n"), left = recorded.contains("\nkey " + key + "\n");
+                boolean isKnown = !recorded.endsWith("cut\n") && !count.containsKey("-");
+                if (!isKnown || adds + (was ? 1 : 0) == removes + (left ? 1 : 0)) return "";
+                return COUNTED.formatted(adds, removes, key, was ? THERE : NOT_THERE, left ? THERE : NOT_THERE);
             } catch (IOException gone) {
                 return "";
             }
-            List<MatchResult> calls = CALL.matcher(recorded).results().filter(it -> it.group(3).equals(key)).toList();
-            long adds = calls.stream().filter(it -> it.group(2).equals("add") && it.group(6).equals("true")).count();
-            long removes = calls.stream().filter(it -> it.group(2).equals("remove") && it.group(6).equals("true")).count();
-            boolean was = recorded.contains("\nopening " + key + "\n"), left = recorded.contains("\nkey " + key + "\n");
-            boolean isKnown = !recorded.endsWith("cut\n") && calls.stream().noneMatch(it -> it.group(5).equals("-"));
-            if (!isKnown || adds + (was ? 1 : 0) == removes + (left ? 1 : 0)) return "";
-            return COUNTED.formatted(adds, removes, key, was ? THERE : NOT_THERE, left ? THERE : NOT_THERE);
-        }
-
-        private record Bar(String thread, String head, String tail, long begin, long end) {
-            Bar(MatchResult of) {
-                this("thread " + of.group(1), "[" + of.group(2) + " " + of.group(3), of.group(5).equals("-") ? ".." : of.group(6) + "]",
-                    Long.parseLong(of.group(4)), of.group(5).equals("-") ? Long.MAX_VALUE : Long.parseLong(of.group(5)));
-            }
-
-            int width() { return head.length() + tail.length(); }
-        }
-
-        /** The calls as bars, one below another, from their begins to their ends. */
-        private static String pictureOf(List<MatchResult> calls) {
-            List<Bar> bars = calls.size() < 2 ? List.of() : calls.stream().map(Bar::new).toList();
-            TreeMap<Long, Integer> places = new TreeMap<>();
-            for (Bar it : bars) {
-                places.put(it.begin, 0);
-                places.put(it.end, 0);
-            }
-            int place = 0;
-            for (Map.Entry<Long, Integer> moment : places.entrySet()) {
-                for (Bar it : bars) if (it.end == moment.getKey()) place = Math.max(place, places.get(it.begin) + it.width());
-                moment.setValue(place++);
-            }
-            StringBuilder text = new StringBuilder();
-            for (Bar it : bars) {
-                int from = places.get(it.begin), to = places.get(it.end);
-                text.append("\n%-10s ".formatted(it.thread)).append(" ".repeat(from)).append(it.head).append("-".repeat(to + 1 - from - it.width())).append(it.tail);
-            }
-            return text.toString();
         }
     }
 
     // ---- the judge
 
-    /** What the judge says of a recording that no order explains, or null; and how many calls overlapped a change of their key. */
-    private record Judgement(String refused, long overlapped) {
-        private static final Pattern OK = Pattern.compile("ok [0-9]+ calls\n([0-9]+) of them.*", Pattern.DOTALL);
-    }
+    /** What the judge refuses, or null; and how many calls overlapped a change of their key. */
+    private record Judgement(Refusal refused, long overlapped) { }
 
     /** The status of a command, and what it said. */
     private record Answer(String said, int status) { }
 
     /** The program that judges: its name, the command to which words are added, and what it says of its proof. It prints itself. */
     private record Program(String name, List<String> command, String proof) {
+        private static final Pattern OVERLAPPED = Pattern.compile("ok [0-9]+ calls\n([0-9]+) of them");
+
         @Override public String toString() { return name + ", " + proof; }
 
         static Program found() {
@@ -906,9 +787,9 @@ public final class Judge {
 
         Judgement judged(Path recording) {
             Answer answer = answer("judge", recording.toString());
-            Matcher ok = Judgement.OK.matcher(answer.said);
-            if (answer.status == 0 && ok.matches()) return new Judgement(null, Long.parseLong(ok.group(1)));
-            if (answer.status == 1 && answer.said.startsWith("not linearizable")) return new Judgement(answer.said, 0);
+            Matcher ok = OVERLAPPED.matcher(answer.said);
+            if (answer.status == 0 && ok.lookingAt()) return new Judgement(null, Long.parseLong(ok.group(1)));
+            if (answer.status == 1 && answer.said.startsWith("not linearizable")) return new Judgement(new Refusal(answer.said), 0);
             String first = answer.said.isEmpty() ? "nothing" : answer.said.lines().findFirst().get();
             throw new NoVerdict(NO_VERDICT.formatted(name, first));
         }

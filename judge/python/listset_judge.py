@@ -39,7 +39,7 @@ NO, YES, UNKNOWN = range(3)
 FIRST_LINE = "listset-calls 1\n"
 OVERLAPPED = re.compile("ok [0-9]+ calls\n([0-9]+) of them")
 OF_KEY = re.compile("of key ([0-9]+) ")
-CALL = re.compile("call ([0-9]+) ([a-z]+) ([0-9]+) ([0-9]+) ([0-9]+|-) ([a-z]+|-)", re.M)
+CALL = re.compile("^call [0-9]+ ([a-z]+) ([0-9]+) [0-9]+ [0-9-]+ ([a-z]+|-)$", re.M)  # its word, key and reply
 Call = collections.namedtuple("Call", "begin end thread call key reply")
 # A run: the threads, the fresh sets one after another, the calls of each thread on each, the keys, what their numbers are multiples of
 Shape = collections.namedtuple("Shape", "name threads sets calls keys times")
@@ -84,9 +84,6 @@ NOT_THERE = "not there"
 KEY_IS = "key %s of the recording is %s"
 IN_SET = ", in the fresh set %s of the run"
 NO_FOLDER = "no file can be written in %s: name another folder by record"
-NO_MEMORY = "there is no memory for the calls of a run"
-NO_PROCESS = "no process could be started for a run: %s"
-NOT_AGAIN = "the test did not come to this judge again in a process of its own: set own_process to false"
 NO_JUDGE = "%s cannot be run: build listset, and put it in PATH or name it by LISTSET (node runs a listset.js)"
 NO_VERDICT = "%s gave no verdict, but said: %s. Take a newer listset"
 # end of what is made
@@ -134,21 +131,8 @@ class NoVerdict(Exception):
     """Nothing is known of the set: an option is out of range, no set could be made, it has not the three calls, or there is no judge."""
 
 
-@dataclasses.dataclass(frozen=True)
-class Options:
-    threads: int | None
-    calls: int | None
-    keys: int | None
-    key: Callable[[int], Any] | None
-    pauses: int
-    runs: int
-    seed: int
-    seconds: int
-    at_least: int
-    shares: tuple[int, int, int]
-    own_process: bool
-    opens_with_keys: bool
-    record: str | os.PathLike | None
+class Options(collections.namedtuple("Options", "threads calls keys key pauses runs seed seconds at_least shares own_process opens_with_keys record")):
+    """What `judge` is given."""
 
     def check(self) -> None:
         first = [1 if it is None else it for it in (self.threads, self.calls, self.keys)]
@@ -238,107 +222,98 @@ Outcome = collections.namedtuple("Outcome", "seed calls overlapped refused faile
 class Tester:
     """Judges one run after another of the sets that `make` makes."""
 
-    def __init__(self, make, how):
+    def __init__(self, make: Callable[[], Any], how: Options):
         self.make, self.how, self.by = make, how, Judge()
 
     def judged_run(self, seed: int, shape: Shape) -> Outcome:
-        is_own = self.how.own_process and hasattr(os, "fork") and threading.active_count() == 1
         self.how.check_keys(shape)
-        with Recording(seed, self.how.record) as recording:
-            run = Run(self.make, self.how, shape, seed, recording.file)
-            trouble, under_way = run.ended(run.in_child() if is_own else run.in_this())
-            overlapped, refused = self.by.judged(recording.file)
-            recording.is_kept |= bool(trouble or refused)
-        said = explained(refused, recording.file) + run.key_line(refused) if refused else ""
-        failed = NotLinearizable(seed, shape.name, said, recording.file, self.by) if refused else None
+        file, is_kept = recording_of(seed, self.how.record), self.how.record is not None
+        try:
+            trouble, under_way = Run(self.make, self.how, shape, seed, file).ended()
+            overlapped, refused = self.by.judged(file)
+            is_kept = bool(is_kept or trouble or refused)
+        finally:
+            if not is_kept:
+                file.unlink()
+        said = explained(refused, file) + self.key_line(refused, shape) if refused else ""
+        failed = NotLinearizable(seed, shape.name, said, file, self.by) if refused else None
         if trouble:
             said = UNDER_WAY % (trouble, under_way, said or EXPLAINED)
-            refused, failed = "", CutShort(seed, shape.name, said, recording.file, self.by)
+            refused, failed = "", CutShort(seed, shape.name, said, file, self.by)
         return Outcome(seed, shape.threads * shape.sets * shape.calls, overlapped, refused, failed)
+
+    def key_line(self, refused: str, shape: Shape) -> str:
+        """Which key of which set it is that the judge names, if its number does not say so."""
+        number = key_in(refused)
+        one, at = divmod(int(number or 0), shape.keys)
+        key = repr(self.how.key_of(at, shape))
+        if not number or shape.sets == 1 and key == number:
+            return ""
+        return "\n" + KEY_IS % (number, key) + (IN_SET % (one + 1) if shape.sets > 1 else "")
 
     def smallest(self, found: Outcome) -> Outcome:
         """Of the refusal and of further runs, the one that has the fewest calls, and two at least."""
-        since = time.monotonic()
+        until = time.monotonic() + PATIENCE
         for seed in range(found.seed + len(PRESETS), found.seed + (FURTHER + 1) * len(PRESETS), len(PRESETS)):
-            if rank(found) <= READABLE // 2 or time.monotonic() - since > PATIENCE:
+            if rank(found.refused) <= READABLE // 2 or time.monotonic() > until:
                 break
             other = self.judged_run(seed, self.how.shape_of(seed))
-            if other.refused and rank(other) < rank(found):
+            if other.refused and rank(other.refused) < rank(found.refused):
                 found, other = other, found
             if other.failed and not self.how.record:
                 other.failed.file.unlink()
         return found
 
 
+def recording_of(seed: int, record: str | os.PathLike | None) -> pathlib.Path:
+    """The file, empty, into which a run is written as it grows."""
+    folder = pathlib.Path(record or tempfile.gettempdir())
+    try:
+        folder.mkdir(parents=True, exist_ok=True)
+        if record is None:
+            number, name = tempfile.mkstemp(".calls", f"listset-seed-{seed}-", folder)
+            os.close(number)
+            return pathlib.Path(name)
+        file = folder / f"seed-{seed}.calls"
+        file.write_text("")
+        return file
+    except OSError:
+        raise NoVerdict(NO_FOLDER % folder) from None
+
+
+# ---- a refusal, as it is told
+
+
+def key_in(refused: str) -> str:
+    """The number of the key of which the judge speaks."""
+    found = OF_KEY.search(refused)
+    return found[1] if found else ""
+
+
 def calls_in(refused: str) -> int:
     return len(CALL.findall(refused)) + 1000 * (" belong to these" in refused)
 
 
-def rank(found: Outcome) -> int:
-    return calls_in(found.refused) if calls_in(found.refused) > 1 else 999
+def rank(refused: str) -> int:
+    """The number of its calls; a refusal of one call alone comes last."""
+    return calls_in(refused) if calls_in(refused) > 1 else 999
 
 
 def explained(refused: str, file: pathlib.Path) -> str:
-    """What the judge says, with a picture; or, in place of many calls, what their count shows."""
-    counted = count_of(file, OF_KEY.search(refused)) if calls_in(refused) > READABLE else ""
-    if counted:
-        return "\n".join([*refused.split("\n")[:2], counted])
-    calls = CALL.findall(refused)
-    return "\n".join([refused, *picture_of(calls)]) if len(calls) > 1 else refused
+    """What the judge says; or, in place of many calls, what their count shows."""
+    counted = count_of(file, key_in(refused)) if calls_in(refused) > READABLE else ""
+    return "\n".join([*refused.split("\n")[:2], counted]) if counted else refused
 
 
-def count_of(file: pathlib.Path, key: re.Match | None) -> str:
+def count_of(file: pathlib.Path, key: str) -> str:
     """In words, that the calls of a key that answered true do not fit to how it was; else nothing."""
-    lines = file.read_text().split("\n")
-    calls = [it for it in CALL.findall("\n".join(lines)) if key and it[2] == key[1]]
-    if not calls or lines[-2] == "cut" or any(it[4] == "-" for it in calls):
+    text = file.read_text()
+    count = collections.Counter((word, reply) for word, its_key, reply in CALL.findall(text) if its_key == key)
+    adds, removes = count[ADD, "true"], count[REMOVE, "true"]
+    was, left = (f"\n{word} {key}\n" in text for word in ("opening", "key"))
+    if text.endswith("\ncut\n") or any(reply == "-" for _, reply in count) or was + adds == left + removes:
         return ""
-    adds, removes = (sum(it[1] == word and it[5] == "true" for it in calls) for word in (ADD, REMOVE))
-    was, left = (f"{word} {key[1]}" in lines for word in ("opening", "key"))
-    words = (adds, removes, key[1], THERE if was else NOT_THERE, THERE if left else NOT_THERE)
-    return "" if was + adds == left + removes else COUNTED % words
-
-
-def picture_of(calls: list) -> list[str]:
-    """The calls as bars, one below another, from their begins to their ends."""
-    last = 1 + max(int(it) for call in calls for it in call[3:5] if it != "-")
-    bars = [(int(begin), last if end == "-" else int(end), f"[{word} {key}", "" if end == "-" else f"{reply}]", f"thread {thread}")
-            for thread, word, key, begin, end, reply in calls]
-    places, place = {}, 0
-    for moment in sorted({it for bar in bars for it in bar[:2]}):
-        for begin, end, head, tail, _ in bars:
-            if end == moment:
-                place = max(place, places[begin] + len(head) + len(tail))
-        places[moment] = place
-        place += 1
-    wide = max(len(it[4]) for it in bars) + 2
-    return [f"{who:{wide}}{' ' * places[begin]}{head}{'-' * (places[end] - places[begin] - len(head) - len(tail) + 1)}{tail or '..'}"
-            for begin, end, head, tail, who in bars]
-
-
-class Recording:
-    """The file into which a run is written as it grows."""
-
-    def __init__(self, seed, record):
-        self.is_kept, folder = record is not None, pathlib.Path(record or tempfile.gettempdir())
-        try:
-            folder.mkdir(parents=True, exist_ok=True)
-            if self.is_kept:
-                self.file = folder / f"seed-{seed}.calls"
-                self.file.write_text("")
-            else:
-                number, name = tempfile.mkstemp(".calls", f"listset-seed-{seed}-", folder)
-                os.close(number)
-                self.file = pathlib.Path(name)
-        except OSError:
-            raise NoVerdict(NO_FOLDER % folder) from None
-
-    def __enter__(self):
-        return self
-
-    def __exit__(self, *_):
-        if not self.is_kept:
-            self.file.unlink()
+    return COUNTED % (adds, removes, key, THERE if was else NOT_THERE, THERE if left else NOT_THERE)
 
 
 # ---- a run, recorded
@@ -349,23 +324,20 @@ class Run:
     part into the file."""
 
     SLOT, COUNT = struct.Struct("=IIIIBB"), struct.Struct("=Q")  # of a call: begin, end or 0, thread, key, word, reply; how far a thread is
-    WHY = 240  # the bytes of what was raised
+    AT = 240  # where it is noted how far the run is, behind what was raised
 
     def __init__(self, make, how, shape, seed, file):
         self.make, self.how, self.shape, self.seed, self.file = make, how, shape, seed, file
         self.tickets, self.there = itertools.count(1), threading.Barrier(shape.threads + 1)
         self.most = min(shape.calls, PART // shape.threads)  # of each thread the most calls of a part
         self.parts = -(-shape.calls // self.most)  # of a set
-        # what was raised; whether it goes on; how far each thread is, the looks, and the file; the calls
-        self.at_slots = self.WHY + 1 + (shape.threads + 2) * self.COUNT.size
+        self.rounds = shape.sets * self.parts
+        # what was raised; how far the run is, each thread, the looks, and the file; the calls
+        self.at_slots = self.AT + 1 + (shape.threads + 2) * self.COUNT.size
         self.slots = mmap.mmap(-1, self.at_slots + shape.threads * self.most * self.SLOT.size)
 
-    @property
-    def rounds(self):
-        return self.shape.sets * self.parts
-
     def count(self, at, number):
-        self.COUNT.pack_into(self.slots, self.WHY + 1 + at * self.COUNT.size, number)
+        self.COUNT.pack_into(self.slots, self.AT + 1 + at * self.COUNT.size, number)
 
     @property
     def written(self):
@@ -375,20 +347,86 @@ class Run:
     def fail(self, said, at=GOING):
         """Writes down what was raised; the first stays."""
         if not self.slots[0]:
-            said = said.encode()[: self.WHY]
+            said = said.encode()[: self.AT]
             self.slots[: len(said)] = said
-            self.at = at
+            self.slots[self.AT] = at
 
-    @property
-    def at(self):
-        return self.slots[self.WHY]
+    # ---- from outside
 
-    @at.setter
-    def at(self, it):
-        self.slots[self.WHY] = it
+    def ended(self):
+        """Has the run made; gives how it was cut short, and the calls under way, if it was: then its last calls are written here."""
+        is_own = self.how.own_process and hasattr(os, "fork") and threading.active_count() == 1
+        trouble = self.made_in_child() if is_own else self.made_here()
+        why = self.slots[: self.AT].rstrip(b"\0").decode(errors="replace")
+        if self.slots[self.AT] == UNMADE:
+            raise NoVerdict(why)
+        rows, trouble = self.rows(), why or trouble
+        if not trouble:
+            return "", ""
+        if not rows and not why and self.written <= len(FIRST_LINE):
+            raise NoVerdict(NOT_MADE % trouble)
+        os.truncate(self.file, self.written)
+        with open(self.file, "a") as file:
+            file.write("".join(map(line_of, rows)) + "cut\n")
+        return trouble, "".join(line_of(it) for it in rows if not it.end and it.reply != UNKNOWN)
 
-    def made_and_called(self):
-        """Makes sets and calls them, to the end."""
+    def made_in_child(self):
+        """Has it made in a process of its own; gives how it was cut short, if it was."""
+        child, status = os.fork(), []
+        if child == 0:
+            try:
+                end_with_parent()
+                self.make_all()
+            finally:
+                os._exit(0)
+
+        def has_ended():
+            pid, found = os.waitpid(child, os.WNOHANG)
+            return status.append(found) or True if pid else False
+
+        try:
+            if not self.comes_to_end(has_ended):
+                return HUNG % self.how.seconds
+        finally:
+            if not status:
+                os.kill(child, signal.SIGKILL)
+                os.waitpid(child, 0)
+        if os.WIFSIGNALED(status[0]):
+            return CRASHED % signal.Signals(os.WTERMSIG(status[0])).name
+        ended = os.WEXITSTATUS(status[0])  # (not 0 if the set ended its process while it was deleted)
+        return ENDED_SO % ended if ended or self.slots[self.AT] == GOING and not self.slots[0] else ""
+
+    def made_here(self):
+        """The same in threads of this process, which stay if they hang."""
+        leader = threading.Thread(target=self.make_all, daemon=True)
+        leader.start()
+        try:
+            return "" if self.comes_to_end(lambda: not leader.is_alive()) else HUNG % self.how.seconds
+        finally:
+            self.there.abort()
+
+    def comes_to_end(self, is_done):
+        """Waits until it is done; False if no call begins or ends for too long before that."""
+        seen, since, wait = None, time.monotonic(), 0.0005
+        while not is_done():
+            time.sleep(wait)
+            wait = min(2 * wait, 0.02)
+            if (now := self.slots[self.AT : self.at_slots]) != seen:
+                seen, since = now, time.monotonic()
+            if time.monotonic() - since > self.how.seconds:
+                return False
+        return True
+
+    def rows(self):
+        """The calls since those in the file, by their begins."""
+        found = self.SLOT.iter_unpack(self.slots[self.at_slots :])
+        return sorted(Call(begin, 0 if reply == UNKNOWN else end, thread, WORDS[word], key, reply)
+                      for begin, end, thread, key, word, reply in found if begin)
+
+    # ---- the thread that makes the sets
+
+    def make_all(self):
+        """Makes sets and has them called, to the end."""
         before = sys.getswitchinterval()
         started = [threading.Thread(target=self.call_in_rounds, args=(i,), daemon=True) for i in range(self.shape.threads)]
         try:
@@ -403,80 +441,7 @@ class Run:
         finally:
             sys.setswitchinterval(before)
         self.set = self.replies_of = None  # (it may go wrong at its end)
-        self.at = self.at or ENDED
-
-    def in_child(self):
-        """Has the run made in a process of its own; gives how it was cut short, if it was."""
-        child, status = os.fork(), []
-        if child == 0:
-            try:
-                end_with_parent()
-                self.made_and_called()
-            finally:
-                os._exit(0)
-
-        def has_ended():
-            pid, found = os.waitpid(child, os.WNOHANG)
-            return status.append(found) or True if pid else False
-
-        try:
-            return self.hung(has_ended) or self.crash(status)
-        finally:
-            if not status:
-                os.kill(child, signal.SIGKILL)
-                os.waitpid(child, 0)
-
-    def in_this(self):
-        """The same in this process, where threads that hang stay."""
-        caller = threading.Thread(target=self.made_and_called, daemon=True)
-        caller.start()
-        try:
-            return self.hung(lambda: not caller.is_alive())
-        finally:
-            self.there.abort()
-
-    def hung(self, has_ended):
-        return "" if self.comes_to_end(has_ended) else HUNG % self.how.seconds
-
-    def ended(self, trouble):
-        """How the run was cut short, and the calls under way, if it was: then its last calls are written here."""
-        why = self.slots[: self.WHY].rstrip(b"\0").decode(errors="replace")
-        if self.at == UNMADE:
-            raise NoVerdict(why)
-        rows, trouble = self.rows(), why or trouble
-        if not trouble:
-            return "", ""
-        if not rows and not why and self.written <= len(FIRST_LINE):
-            raise NoVerdict(NOT_MADE % trouble)
-        os.truncate(self.file, self.written)
-        with open(self.file, "a") as file:
-            file.write("".join(map(line_of, rows)) + "cut\n")
-        return trouble, "".join(line_of(it) for it in rows if not it.end and it.reply != UNKNOWN)
-
-    def crash(self, status):
-        """How the process of the run ended, if it was too soon or went wrong."""
-        if not status:
-            return ""
-        if os.WIFSIGNALED(status[0]):
-            return CRASHED % signal.Signals(os.WTERMSIG(status[0])).name
-        ended = os.WEXITSTATUS(status[0])  # (not 0 if the set ended its process while it was deleted)
-        return ENDED_SO % ended if ended or self.at == GOING and not self.slots[0] else ""
-
-    def comes_to_end(self, is_done):
-        """Waits until it is done; False if no call begins or ends for too long before that."""
-        seen, since, wait = self.moved(), time.monotonic(), 0.0005
-        while not is_done():
-            time.sleep(wait)
-            wait = min(2 * wait, 0.02)
-            if (now := self.moved()) != seen:
-                seen, since = now, time.monotonic()
-            if time.monotonic() - since > self.how.seconds:
-                return False
-        return True
-
-    def moved(self):
-        """What changes as long as the run goes on."""
-        return self.slots[self.WHY : self.at_slots]
+        self.slots[self.AT] = self.slots[self.AT] or ENDED
 
     def lead(self):
         """Makes each set and has the threads call it; writes each part once it is made."""
@@ -531,6 +496,8 @@ class Run:
             self.count(self.shape.threads, first + number)
         return lines
 
+    # ---- the threads that call them
+
     def call_in_rounds(self, thread):
         """The calls of one thread."""
         draw, number = random.Random(self.seed * 64 + thread), thread
@@ -568,23 +535,6 @@ class Run:
             if self.how.pauses:
                 sys.settrace(before)
         return number
-
-    def rows(self):
-        """The calls since those in the file, by their begins."""
-        rows = []
-        for at in range(self.shape.threads * self.most):
-            begin, end, thread, key, word, reply = self.SLOT.unpack_from(self.slots, self.at_slots + at * self.SLOT.size)
-            if begin:
-                rows.append(Call(begin, 0 if reply == UNKNOWN else end, thread, WORDS[word], key, reply))
-        return sorted(rows)
-
-    def key_line(self, refused):
-        """Which key of which set it is that the judge names, if its number does not say so."""
-        number = OF_KEY.search(refused)
-        one, at = divmod(int(number[1]) if number else 0, self.shape.keys)
-        if not number or one == 0 and self.shape.sets == 1 and repr(self.how.key_of(at, self.shape)) == number[1]:
-            return ""
-        return "\n" + KEY_IS % (number[1], repr(self.how.key_of(at, self.shape))) + (IN_SET % (one + 1) if self.shape.sets > 1 else "")
 
 
 def end_with_parent():
@@ -628,16 +578,19 @@ class Judge:
 
             self.name, self.answer, version = "liblistset", listset.judge_file, listset.version()
         except (ImportError, AttributeError):
-            self.name, words, version = program()
+            self.name = os.environ.get("LISTSET") or "listset"
+            words = ["node", self.name] if self.name.endswith(".js") else [self.name]
             self.answer = lambda file: said([*words, "judge", file], subprocess.PIPE)
+            version, status = said([*words, "--version", "--long"])  # (what it says of a judge that it builds is for the user's eyes)
+            if status == 127:
+                raise NoVerdict(NO_JUDGE % self.name)
         self.proof = next((it for it in version.splitlines() if it.startswith("proof ")), "proof unknown")
 
     def __str__(self):
         return f"{self.name}, {self.proof}"
 
-    def judged(self, file):
-        """How many calls of a recording overlapped a change of their key, and nothing; or 0, and what the judge says if no order explains
-        it."""
+    def judged(self, file: pathlib.Path) -> tuple[int, str]:
+        """How many calls of a recording overlapped a change of their key; and what the judge says if no order explains it."""
         text, status = self.answer(file)
         met = OVERLAPPED.match(text)
         if status == 0 and met:
@@ -647,20 +600,10 @@ class Judge:
         raise NoVerdict(NO_VERDICT % (self.name, text.partition("\n")[0] or "nothing"))
 
 
-def said(words, errors=None):
-    """What a command says, and its status."""
-    done = subprocess.run(words, stdin=subprocess.DEVNULL, stdout=subprocess.PIPE, stderr=errors)
-    return (done.stdout or done.stderr or b"").decode(errors="replace"), done.returncode
-
-
-def program():
-    """The name of the program, the words that run it, and what it says of its version."""
-    name = os.environ.get("LISTSET") or "listset"
-    words = ["node", name] if name.endswith(".js") else [name]
+def said(words: list, errors: int | None = None) -> tuple[str, int]:
+    """What a command says, and its status; 127 if it cannot be run."""
     try:
-        version, status = said([*words, "--version", "--long"])  # (what it says of a judge that it builds is for the user's eyes)
+        done = subprocess.run(words, stdin=subprocess.DEVNULL, stdout=subprocess.PIPE, stderr=errors)
     except OSError:
-        status = 127
-    if status != 127:
-        return name, words, version
-    raise NoVerdict(NO_JUDGE % name)
+        return "", 127
+    return (done.stdout or done.stderr or b"").decode(errors="replace"), done.returncode

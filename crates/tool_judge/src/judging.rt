@@ -27,7 +27,7 @@ fn answer_to(alloc: Global, said: RecordingAnswer) -> Result<Answer, AllocError>
             status: 0,
         }),
         Verdict::NotLinearizable(refusal, window) => Ok(Answer {
-            text: refused_text(alloc, refusal, window)?,
+            text: refused_text(alloc, refusal, window, true)?,
             status: 1,
         }),
     }
@@ -49,7 +49,7 @@ fn answer_of(alloc: Global, reader: RecordingReader) -> Result<Answer, Trouble>
 ///
 /// Below `ok N calls` it says how many of the calls overlap a change of their key, what to do if fewer than 5 of 100 do, and whether the
 /// recording was cut off. Below `not linearizable` it says of which key, up to which moment the calls have no order, and, if this is known,
-/// how the key was at an earlier moment, and a few calls that have no order from there.
+/// how the key was at an earlier moment, and a few calls that have no order from there; two to six of them are drawn too, as bars.
 ///
 /// # Errors
 ///

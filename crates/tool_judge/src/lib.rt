@@ -2,6 +2,7 @@
 //! a refused report.
 #![tactic(auto)]
 
+mod bars;
 mod judging;
 mod showing;
 mod texts;

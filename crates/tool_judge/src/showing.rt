@@ -40,7 +40,7 @@ pub fn claim_on(alloc: Global, picture: &Picture) -> Result<Claim, AllocError> {
 fn claim_text(alloc: Global, picture: &Picture) -> Result<Vec<u8>, AllocError> {
     match claim_on(alloc, picture)? {
         Claim::NotIncreasing => Vec::from_slice(alloc, NOT_INCREASING),
-        Claim::NotLinearizable(refusal, window) => refused_text(alloc, refusal, window),
+        Claim::NotLinearizable(refusal, window) => refused_text(alloc, refusal, window, false),
         Claim::Explained => Vec::from_slice(alloc, EXPLAINED),
         Claim::Unknown => Vec::from_slice(alloc, UNKNOWN),
     }

@@ -82,17 +82,19 @@ fn refused_lines(alloc: Global, refusal: Refusal) -> Result<Vec<u8>, AllocError>
 }
 
 /// Returns the lines about calls that no order explains, as `judge_bytes` answers them: `not linearizable`, of which key and up to which
-/// moment, and below that the few calls of the window that show it, if there is one. Allocates; `AllocError` if that fails.
+/// moment, and below that the few calls of the window that show it, if there is one, with or without their bars. Allocates; `AllocError` if
+/// that fails.
 pub(crate) fn refused_text(
     alloc: Global,
     refusal: Refusal,
     window: Option<Window>,
+    bars: bool,
 ) -> Result<Vec<u8>, AllocError>
     ensures { IfOk result (λ text. Begins (refused_lines refusal) text.items) }
 {
     let mut text = refused_lines(alloc, refusal)?;
     let shown = match window {
-        Some(window) => window_text(alloc, &window)?,
+        Some(window) => window_text(alloc, &window, bars)?,
         None => Vec::new(alloc),
     };
     text.extend_from_slice(&shown)?;

@@ -1,3 +1,4 @@
+use crate::bars::put_bars;
 use lset_judge::{Hidden, StreamCall, Window};
 use lset_text::{call_word, reply_word};
 use lset_words::Presence;
@@ -111,11 +112,18 @@ fn put_hidden(out: &mut String, hidden: Option<Hidden>) -> Result<(), AllocError
     Ok(())
 }
 
-/// The lines about the few calls that show why no order explains a recording.
-pub(crate) fn window_text(alloc: Global, window: &Window) -> Result<Vec<u8>, AllocError> {
+/// The lines about the few calls that show why no order explains a recording, and their bars.
+pub(crate) fn window_text(
+    alloc: Global,
+    window: &Window,
+    bars: bool,
+) -> Result<Vec<u8>, AllocError> {
     let mut text = String::new(alloc);
     put_state(&mut text, window)?;
     put_calls(&mut text, window)?;
     put_hidden(&mut text, window.hidden)?;
+    if bars {
+        put_bars(alloc, &mut text, window)?;
+    }
     Ok(text.into_bytes())
 }

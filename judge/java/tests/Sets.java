@@ -14,6 +14,7 @@ final class Sets {
 
     /** Right, but for what the variable SET says. */
     static final class Named extends ConcurrentSkipListSet<Integer> {
+        private static final long serialVersionUID = 1;
         private final String is = System.getenv("SET");
         private final AtomicInteger calls = new AtomicInteger();
         private final Map<Object, Set<Integer>> parts = new ConcurrentHashMap<>();
