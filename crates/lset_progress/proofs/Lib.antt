@@ -4,7 +4,7 @@ mod Paths
 mod Decided
 mod Alone
 mod Holders
-mod Totals
+mod StepTotals
 mod Windows
 mod HeadPlain
 mod Standing

@@ -20,7 +20,7 @@ use Rattle.lset_progress.specs.DeadlockFreedom.{IsLivelockFree, is_lock_word, un
 use Rattle.lset_progress.proofs.Holders.{one_or_more}
 use Rattle.lset_progress.proofs.ProgressWithLocks.{Shows, IsFree, Keeps, late_or_keeps, own_step, row}
 use Rattle.lset_progress.proofs.RowsWithLocks.{Shape, LateBy, Timed, RowBy, timed_same, timed_more, no_time}
-use Rattle.lset_progress.proofs.Totals.{total, total_less, total_all, total_at, total_step, one_price, put, put_this, put_that}
+use Rattle.lset_progress.proofs.StepTotals.{total, total_less, total_all, total_at, total_step, one_price, put, put_this, put_that}
 use Rattle.lset_progress.proofs.Windows.{Then, some_ends}
 
 is_lock_test : (x : ℕ) → IsLockWord x → is_lock_word x ≡ true

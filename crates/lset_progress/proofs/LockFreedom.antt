@@ -29,7 +29,7 @@ use Rattle.lset_progress.proofs.LockFreeSteps.{step_is, same_call, keys_on}
 use Rattle.lset_progress.proofs.LockFreeSteps.Stepped.{still, marks, unlinks}
 use Rattle.lset_progress.proofs.Rest.{SameKeys}
 use Rattle.lset_progress.proofs.RowsWithLocks.{no_time, timed_more}
-use Rattle.lset_progress.proofs.Totals.{total, total_less, total_all, total_at, total_step, one_price, put, put_this, put_that}
+use Rattle.lset_progress.proofs.StepTotals.{total, total_less, total_all, total_at, total_step, one_price, put, put_this, put_that}
 use Rattle.lset_progress.proofs.Windows.{Then, some_ends, counted_or_not}
 
 -- WHAT A THREAD HAS LEFT: a call that counts its walk, and one more where others have disturbed it; and whoever is to begin such
