@@ -101,7 +101,7 @@ struct range {
 };
 
 // made of words.json by judge/make_words: `longest` in looks at the counter, `part` in calls, `patience` in seconds
-constexpr shape PRESETS[] = {{"few keys", 4, 1, 2500, 4, 1}, {"fresh sets", 4, 40, 10, 4, 1}, {"multiples of 64", 4, 1, 2500, 8, 64}, {"one key", 3, 1, 2500, 1, 1}, {"sets that grow", 4, 20, 125, 64, 1}, {"many keys", 4, 1, 2500, 1000, 1}, {"multiples of 1,000", 8, 1, 1250, 8, 1000}};
+constexpr shape PRESETS[] = {{"few keys", 4, 1, 5000, 4, 1}, {"fresh sets", 4, 40, 10, 4, 1}, {"multiples of 64", 4, 1, 5000, 8, 64}, {"one key", 3, 1, 5000, 1, 1}, {"sets that grow", 4, 20, 125, 64, 1}, {"many keys", 4, 1, 2500, 1000, 1}, {"multiples of 1,000", 8, 1, 2500, 8, 1000}};
 constexpr range RANGES[] = {{"threads", 1, 64}, {"threads times calls", 1, 1000000000}, {"keys", 1, 1048576}, {"pauses", 0, 100}, {"runs", 1, 1000000}, {"seconds", 1, 3600}, {"at_least", 0, 100}, {"the sum of shares", 1, 1000000}};
 constexpr unsigned PART = 20000, LONGEST = 100, HOT = 4, ENOUGH = 5, HARDER = 2, FURTHER = 20, PATIENCE = 3, READABLE = 6, MEET = 250, AWAKE = 300000;
 constexpr const char *OK = "ok: %s calls, of which %s overlapped a change of their key";
@@ -233,18 +233,17 @@ struct area {
         at = as;
     }
 
-    // Waits, first awake if each thread may have a processor, so that all go on at once; false if the run stops.
-    template <class Done> bool waits(Done is_done) const {
-        const unsigned awake = of.threads <= std::thread::hardware_concurrency() ? AWAKE : LONGEST;
+    // Waits, for so many looks awake; false if the run stops.
+    template <class Done> bool waits(Done is_done, unsigned awake = LONGEST) const {
         for (unsigned waited = 0; !is_done() && !is_stopping; waited++)
             if (waited >= awake) std::this_thread::sleep_for(std::chrono::microseconds(20));
         return !is_stopping;
     }
 
-    // Waits until all threads are here.
+    // Waits until all threads are here, awake if each may have a processor, so that all go on at once.
     void meet() {
         const unsigned all = there++ / of.threads * of.threads + of.threads;
-        waits([&] { return there >= all; });
+        waits([&] { return there >= all; }, of.threads <= std::thread::hardware_concurrency() ? AWAKE : LONGEST);
     }
 };
 

@@ -10,6 +10,7 @@ import (
 	"os"
 	"os/exec"
 	"regexp"
+	"runtime"
 	"strings"
 	"sync/atomic"
 	"syscall"
@@ -133,6 +134,9 @@ func (c *child) serve() {
 	atomic.StoreUint32(&c.isHere, 1)
 	for ; ; time.Sleep(100 * time.Microsecond) {
 		if atomic.LoadUint32(&c.at) == going {
+			if most := c.threads + 1; runtime.GOMAXPROCS(0) < most {
+				runtime.GOMAXPROCS(most) // (so that none of them waits until another one stops)
+			}
 			c.callAll()
 		}
 	}

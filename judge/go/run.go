@@ -175,12 +175,8 @@ func (a *area) fail(as uint32, words string) {
 	}
 }
 
-// waits waits, first awake if each goroutine may have a processor, so that all go on at once; it is false if the run stops.
-func (a *area) waits(isDone func() bool) bool {
-	awake := manyLongest
-	if a.threads <= runtime.GOMAXPROCS(0) {
-		awake = manyAwake
-	}
+// waits waits, for so many looks awake; it is false if the run stops.
+func (a *area) waits(awake int, isDone func() bool) bool {
 	for looks := 0; !isDone() && atomic.LoadUint32(&a.isStopping) == 0; looks++ {
 		if looks >= awake {
 			time.Sleep(20 * time.Microsecond)
@@ -189,11 +185,14 @@ func (a *area) waits(isDone func() bool) bool {
 	return atomic.LoadUint32(&a.isStopping) == 0
 }
 
-// meet waits until all goroutines are here.
+// meet waits until all goroutines are here, awake if each may have a processor, so that all go on at once.
 func (a *area) meet() bool {
-	count := uint32(a.threads)
+	awake, count := manyLongest, uint32(a.threads)
+	if a.threads <= runtime.NumCPU() {
+		awake = manyAwake
+	}
 	all := (atomic.AddUint32(&a.there, 1)-1)/count*count + count
-	return a.waits(func() bool { return atomic.LoadUint32(&a.there) >= all })
+	return a.waits(awake, func() bool { return atomic.LoadUint32(&a.there) >= all })
 }
 
 // stage is where the goroutines of a run find the set that they call.
@@ -244,7 +243,7 @@ func (a *area) lead(on *stage) {
 			}
 		}
 		atomic.StoreUint32(&a.begun, uint32(round+1))
-		if !a.waits(func() bool { return atomic.LoadUint32(&a.done) == uint32((round+1)*a.threads) }) {
+		if !a.waits(manyLongest, func() bool { return atomic.LoadUint32(&a.done) == uint32((round+1)*a.threads) }) {
 			return
 		}
 		if (round+1)%a.parts() == 0 {
@@ -289,7 +288,7 @@ func (a *area) linesOfKeys(word string, set Set, round int) (lines string) {
 func (a *area) callInRounds(on *stage, thread int) {
 	draw, number, rows := rand.New(rand.NewSource(a.seed*64+int64(thread))), uint32(thread), a.rows()
 	for round := 0; round < a.rounds(); round++ {
-		if !a.waits(func() bool { return atomic.LoadUint32(&a.begun) > uint32(round) }) {
+		if !a.waits(manyLongest, func() bool { return atomic.LoadUint32(&a.begun) > uint32(round) }) {
 			return
 		}
 		mine := a.slots[thread*rows : (thread+1)*rows]

@@ -65,7 +65,7 @@ public final class Judge {
     private record Limits(String name, long least, long most) { }
 
     // made of words.json by judge/make_words: PART and MEET in calls, PATIENCE in seconds
-    private static final Shape[] PRESETS = {new Shape("few keys", 4, 1, 2500, 4, 1), new Shape("fresh sets", 4, 40, 10, 4, 1), new Shape("multiples of 64", 4, 1, 2500, 8, 64), new Shape("one key", 3, 1, 2500, 1, 1), new Shape("sets that grow", 4, 20, 125, 64, 1), new Shape("many keys", 4, 1, 2500, 1000, 1), new Shape("multiples of 1,000", 8, 1, 1250, 8, 1000)};
+    private static final Shape[] PRESETS = {new Shape("few keys", 4, 1, 5000, 4, 1), new Shape("fresh sets", 4, 40, 10, 4, 1), new Shape("multiples of 64", 4, 1, 5000, 8, 64), new Shape("one key", 3, 1, 5000, 1, 1), new Shape("sets that grow", 4, 20, 125, 64, 1), new Shape("many keys", 4, 1, 2500, 1000, 1), new Shape("multiples of 1,000", 8, 1, 2500, 8, 1000)};
     private static final Limits[] RANGES = {new Limits("threads", 1, 64), new Limits("threads times calls", 1, 1000000000), new Limits("keys", 1, 1048576), new Limits("pauses", 0, 100), new Limits("runs", 1, 1000000), new Limits("seconds", 1, 3600), new Limits("at_least", 0, 100), new Limits("the sum of shares", 1, 1000000)};
     private static final int PART = 20000, LONGEST = 100, HOT = 4, ENOUGH = 5, HARDER = 2, FURTHER = 20, PATIENCE = 3, READABLE = 6, MEET = 250, AWAKE = 300000;
     private static final String OK = "ok: %s calls, of which %s overlapped a change of their key";
@@ -481,19 +481,19 @@ public final class Judge {
             }
         }
 
-        /** Waits, first awake if each thread may have a processor, so that all go on at once; false if the run stops. */
-        private boolean waits(BooleanSupplier isDone) {
-            int awake = of.threads <= Runtime.getRuntime().availableProcessors() ? AWAKE : LONGEST;
+        /** Waits, for so many looks awake; false if the run stops. */
+        private boolean waits(int awake, BooleanSupplier isDone) {
             for (int looks = 0; !isDone.getAsBoolean() && area.get(Area.STOPPING) == 0; looks++) {
                 if (looks >= awake) LockSupport.parkNanos(20_000);
             }
             return area.get(Area.STOPPING) == 0;
         }
 
-        /** Waits until all threads are here. */
+        /** Waits until all threads are here, awake if each may have a processor, so that all go on at once. */
         private boolean meets() {
+            int awake = of.threads <= Runtime.getRuntime().availableProcessors() ? AWAKE : LONGEST;
             int all = (area.next(Area.THERE) - 1) / of.threads * of.threads + of.threads;
-            return waits(() -> area.get(Area.THERE) >= all);
+            return waits(awake, () -> area.get(Area.THERE) >= all);
         }
 
         /** Makes each set and has the threads call it; writes each part once it is made. */
@@ -508,7 +508,7 @@ public final class Judge {
                     if (area.how.opensWithKeys) area.write(linesOfKeys("opening ", round));
                 }
                 area.set(Area.BEGUN, round + 1);
-                if (!waits(() -> area.get(Area.DONE) == (round + 1) * of.threads)) return;
+                if (!waits(LONGEST, () -> area.get(Area.DONE) == (round + 1) * of.threads)) return;
                 if ((round + 1) % of.parts() == 0) left.append(linesOfKeys("key ", round));
                 area.write(area.lines());
             }
@@ -531,7 +531,7 @@ public final class Judge {
             int number = thread;
             for (int i = 0; i < of.rounds(); i++) {
                 int round = i, count = Math.min(of.rows(), of.calls - round % of.parts() * of.rows());
-                if (!waits(() -> area.get(Area.BEGUN) > round)) return;
+                if (!waits(LONGEST, () -> area.get(Area.BEGUN) > round)) return;
                 S its = set.get();
                 for (int done = 0; done < count; done++) {
                     if (done % MEET == 0 && !meets()) return;

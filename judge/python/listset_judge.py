@@ -46,13 +46,13 @@ Shape = collections.namedtuple("Shape", "name threads sets calls keys times")
 
 # made of words.json by judge/make_words: PART and MEET in calls, PATIENCE in seconds
 PRESETS = (
-    Shape("few keys", 4, 1, 2500, 4, 1),
+    Shape("few keys", 4, 1, 5000, 4, 1),
     Shape("fresh sets", 4, 40, 10, 4, 1),
-    Shape("multiples of 64", 4, 1, 2500, 8, 64),
-    Shape("one key", 3, 1, 2500, 1, 1),
+    Shape("multiples of 64", 4, 1, 5000, 8, 64),
+    Shape("one key", 3, 1, 5000, 1, 1),
     Shape("sets that grow", 4, 20, 125, 64, 1),
     Shape("many keys", 4, 1, 2500, 1000, 1),
-    Shape("multiples of 1,000", 8, 1, 1250, 8, 1000),
+    Shape("multiples of 1,000", 8, 1, 2500, 8, 1000),
 )
 RANGES = (
     ("threads", 1, 64),
@@ -64,7 +64,7 @@ RANGES = (
     ("at_least", 0, 100),
     ("the sum of shares", 1, 1000000),
 )
-PART, LONGEST, HOT, ENOUGH, HARDER, FURTHER, PATIENCE, READABLE, MEET, AWAKE, SLOW = 20000, 100, 4, 5, 2, 20, 3, 6, 250, 300000, 5
+PART, LONGEST, HOT, ENOUGH, HARDER, FURTHER, PATIENCE, READABLE, MEET, AWAKE, SLOW = 20000, 100, 4, 5, 2, 20, 3, 6, 250, 300000, 10
 OK = "ok: %s calls, of which %s overlapped a change of their key"
 FEW = "that is few: take more threads, fewer keys or a machine that does less"
 TOO_FEW = "%s of %s calls overlapped a change of their key, and at_least asks for %s of 100: take more threads, fewer keys or a machine that does less"
@@ -146,7 +146,7 @@ class Options(collections.namedtuple("Options", "threads calls keys key pauses r
     def shape_of(self, seed: int) -> Shape:
         """The preset of a seed, with what these options say."""
         it = PRESETS[(seed - 1) % len(PRESETS)]
-        it = it._replace(calls=it.calls if it.sets > 1 else it.calls // SLOW, threads=self.threads or it.threads)
+        it = it._replace(calls=it.calls // SLOW if it.sets == 1 and it.keys <= 2 * HOT else it.calls, threads=self.threads or it.threads)
         if self.keys or self.key:
             it = it._replace(keys=self.keys or it.keys, times=1)
         if self.calls or self.opens_with_keys:
@@ -180,7 +180,7 @@ def judge(make: Callable[[], Any], *, threads: int | None = None, calls: int | N
     calls -- of each thread: 1 or more, and 1,000,000,000 at most of all threads, which rest after each 20,000 until these are written
     keys -- calls are on the keys of the numbers below this: 1 to 1,048,576; half of them on the first four
     key -- gives the key of a number, each another one
-    pauses -- before how many of 100 lines of the set a thread lets others go on: 0 to 100
+    pauses -- before how many of 100 lines of the set, and in one of ten calls of its steps, a thread lets others go on: 0 to 100
     runs -- sets that are called, or rows of fresh sets: 1 to 1,000,000
     seed -- what calls, keys and pauses of the first run are drawn from; the next run has the next seed
     seconds -- a run in which no call begins or ends for so long is ended: 1 to 3,600
@@ -547,13 +547,14 @@ def line_of(it):
 
 
 def pausing(pauses, draw, before):
-    """A trace function that lets other threads go on, before so many of 100 lines of all code but this file's; the one before goes on."""
+    """A trace function that lets other threads go on, before so many of 100 lines of all code but this file's, and of its steps in one of
+    ten calls; the one before goes on."""
 
     def of_frame(inner):
         def at_line(frame, event, arg):
             nonlocal inner
             inner = inner and inner(frame, event, arg)
-            if event == "line" and draw.random() * 100 < pauses:
+            if event in ("line", "opcode") and draw.random() * 100 < pauses:
                 time.sleep(0)
             return at_line
 
@@ -561,6 +562,7 @@ def pausing(pauses, draw, before):
 
     def at_call(frame, event, arg):
         inner = before and before(frame, event, arg)
+        frame.f_trace_opcodes = not before and draw.random() < 0.1
         return inner if frame.f_code.co_filename == __file__ else of_frame(inner)
 
     return at_call

@@ -5,7 +5,7 @@ use std::io::{self, Seek, SeekFrom, Write};
 use std::panic::{catch_unwind, AssertUnwindSafe};
 use std::path::Path;
 use std::sync::atomic::AtomicU32;
-use std::sync::atomic::Ordering::{Relaxed, SeqCst};
+use std::sync::atomic::Ordering::{Relaxed, Release, SeqCst};
 use std::time::{Duration, Instant};
 
 use crate::memory::Memory;
@@ -243,10 +243,8 @@ impl Area {
         }
     }
 
-    /// Waits, first awake if each thread may have a processor, so that all go on at once; false if the run stops.
-    fn waits(&self, is_done: impl Fn() -> bool) -> bool {
-        let processors = std::thread::available_parallelism().map_or(1, |it| it.get());
-        let awake = if self.get(At::Threads) as usize <= processors { AWAKE } else { LONGEST };
+    /// Waits, for so many looks awake; false if the run stops.
+    fn waits(&self, awake: u32, is_done: impl Fn() -> bool) -> bool {
         for looks in 0_u32.. {
             if is_done() || self.get(At::IsStopping) == 1 {
                 break;
@@ -290,7 +288,7 @@ impl<S: Sync> Play<'_, S> {
         let mut left = String::new();
         for round in self.one * self.of.parts() + 1..=(self.one + 1) * self.of.parts() {
             area.set(At::Begun, round);
-            if !area.waits(|| area.get(At::Done) == round * self.of.threads) {
+            if !area.waits(LONGEST, || area.get(At::Done) == round * self.of.threads) {
                 break;
             }
             if round == (self.one + 1) * self.of.parts() {
@@ -316,7 +314,7 @@ impl<S: Sync> Play<'_, S> {
         let mut draws = Draws((u64::from(area.get(At::Seed)) << 20) + u64::from(self.one << 6) + u64::from(thread));
         let mut number = self.one * of.threads + thread;
         for part in 0..of.parts() {
-            if !area.waits(|| area.get(At::Begun) > self.one * of.parts() + part) {
+            if !area.waits(LONGEST, || area.get(At::Begun) > self.one * of.parts() + part) {
                 return;
             }
             for row in 0..rows.min(of.calls - part * rows) {
@@ -329,10 +327,12 @@ impl<S: Sync> Play<'_, S> {
         }
     }
 
-    /// Waits until all threads are here.
+    /// Waits until all threads are here, awake if each may have a processor, so that all go on at once.
     fn meet(&self) -> bool {
+        let processors = std::thread::available_parallelism().map_or(1, |it| it.get());
+        let awake = if self.of.threads as usize <= processors { AWAKE } else { LONGEST };
         let all = (self.area.next(At::There) - 1) / self.of.threads * self.of.threads + self.of.threads;
-        self.area.waits(|| self.area.get(At::There) >= all)
+        self.area.waits(awake, || self.area.get(At::There) >= all)
     }
 
     /// A call, which its thread writes down at its begin, and again at its end. The thread goes on under a new number after an outcome
@@ -348,12 +348,12 @@ impl<S: Sync> Play<'_, S> {
         let is_hot = keys > 2 * HOT && draws.below(2) == 0;
         let key = draws.below(if is_hot { HOT } else { keys });
         let pause = if draws.below(100) < area.options.pauses { draws.below(LONGEST) } else { 0 };
-        [*number, word, self.one * keys + key].into_iter().zip(&slot[2..]).for_each(|(it, to)| to.store(it, SeqCst));
+        [*number, word, self.one * keys + key].into_iter().zip(&slot[2..]).for_each(|(it, to)| to.store(it, Relaxed));
         (0..pause).for_each(|_| _ = area.get(At::Tickets));
-        slot[1].store(area.next(At::Tickets), SeqCst);
+        slot[1].store(area.next(At::Tickets), Release);
         let reply = (self.reply)(self.set, word as u8, key * self.of.times).map_or(UNKNOWN, u32::from);
-        slot[5].store(reply, SeqCst);
-        slot[0].store(area.next(At::Tickets), SeqCst);
+        slot[5].store(reply, Relaxed);
+        slot[0].store(area.next(At::Tickets), Release);
         if reply == UNKNOWN {
             *number = area.at(At::Numbers).fetch_add(1, SeqCst);
         }

@@ -3,13 +3,13 @@ use crate::{Range, Shape};
 
 // made of words.json by judge/make_words
 pub const PRESETS: [Shape; 7] = [
-    Shape { name: "few keys", threads: 4, sets: 1, calls: 2500, keys: 4, times: 1 },
+    Shape { name: "few keys", threads: 4, sets: 1, calls: 5000, keys: 4, times: 1 },
     Shape { name: "fresh sets", threads: 4, sets: 40, calls: 10, keys: 4, times: 1 },
-    Shape { name: "multiples of 64", threads: 4, sets: 1, calls: 2500, keys: 8, times: 64 },
-    Shape { name: "one key", threads: 3, sets: 1, calls: 2500, keys: 1, times: 1 },
+    Shape { name: "multiples of 64", threads: 4, sets: 1, calls: 5000, keys: 8, times: 64 },
+    Shape { name: "one key", threads: 3, sets: 1, calls: 5000, keys: 1, times: 1 },
     Shape { name: "sets that grow", threads: 4, sets: 20, calls: 125, keys: 64, times: 1 },
     Shape { name: "many keys", threads: 4, sets: 1, calls: 2500, keys: 1000, times: 1 },
-    Shape { name: "multiples of 1,000", threads: 8, sets: 1, calls: 1250, keys: 8, times: 1000 },
+    Shape { name: "multiples of 1,000", threads: 8, sets: 1, calls: 2500, keys: 8, times: 1000 },
 ];
 pub const RANGES: [Range; 8] = [
     Range { name: "threads", least: 1, most: 64 },
