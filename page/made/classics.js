@@ -2,146 +2,222 @@
 // wrong without it, and which lists of its kind lack that check; and the kind of each list that lacks one.
 
 export const CLASSICS = {
-  "failed-tries": {
-    "question": "Two threads add one key at the same time. Which of them adds it?",
-    "turnsOn": "The one that takes the lock. A failed attempt is a step too, and leaves the thread at its row. Thread 1 stays at row 1 until the lock is released, and then finds the key.",
-    "without": "Both walk over one old link, and the second write loses the node of the first (lock).",
-    "turns": [4, 15],
-    "lacks": ["lock"]
-  },
-  "full": {
-    "question": "A thread with one slot adds 5, removes it and adds 7. Is there a slot for 7?",
-    "turnsOn": "No: each slot is used once, so no thread ever reaches a node that holds another key than before. full changes nothing, and is correct from the begin of its call.",
-    "without": "A slot that is used again changes the key of a node at which other threads may be (new-slot).",
-    "turns": [14, 19],
-    "lacks": []
-  },
-  "hand-over-hand": {
-    "question": "Thread 0 has locked the head and 9, to add 5 between them. Thread 1 wants to remove 9. How far does it get?",
-    "turnsOn": "Not even to the head, until thread 0 releases the head's lock. Then it goes hand over hand: it releases the head's lock only when it holds that of 5.",
-    "without": "A walk that holds no lock can be at an unlinked node, and lose the key that it adds behind that node (hand-over-hand). So can a walk beside a remove that locks only pred (second-lock).",
-    "turns": [17, 28],
-    "lacks": ["hand-over-hand", "second-lock"]
-  },
-  "same-gap": {
-    "question": "Both threads have walked without locks to the gap between head and tail. Thread 1 adds its key first. What does thread 0 do once it has its two locks?",
-    "turnsOn": "It looks at pred again: the head leads to the node of 7 now. So it releases its locks and walks again.",
-    "without": "A validation that only finds pred, and does not look where it leads, links 5 to the tail, and 7 is lost.",
-    "turns": [12, 17],
-    "lacks": []
-  },
-  "stale-pred": {
-    "question": "Thread 0 has found pred = 3 and curr = tail. Thread 1 removes 3, whose node still leads to the tail. May thread 0 write?",
-    "turnsOn": "No: an unlinked node keeps its link. Thread 0 walks once more from the head, and gets past the key of pred without reaching pred.",
-    "without": "5 is added behind an unlinked node (second-walk). A walk that looks for the key of pred, and not for the node, may find another node with that key (same-node).",
-    "turns": [24, 30],
-    "lacks": ["second-walk", "same-node"]
-  },
-  "marked-in-chain": {
-    "question": "Thread 1 has marked the node of 5 and has not unlinked it yet. Thread 0 walks to that node. What does its contains(5) answer?",
-    "turnsOn": "false: the mark removes the key from the set. That the node is still in the chain does not matter. contains reads its link, sees the mark, and takes no lock for it.",
-    "without": "true is correct at none of its moments (mark-in-contains). But the remove is still pending, and an order with the contains before it explains both. No history of that broken list is known that no order explains.",
-    "turns": [20, 24],
-    "lacks": ["mark-in-contains"]
-  },
-  "marked-pred": {
-    "question": "As in stale-pred, but this list has no second walk. What warns thread 0?",
-    "turnsOn": "The mark in the link of pred, which a remove sets before it unlinks the node. One load does the work of OptimisticList's second walk.",
-    "without": "5 is added behind the node of 3, which is unlinked (marks-in-validation).",
-    "turns": [25, 31],
-    "lacks": ["marks-in-validation"]
-  },
-  "read-in-anothers-step": {
-    "question": "Just after each of thread 0's own events, 5 is in the set. Its contains(5) answers false. Is that right?",
-    "turnsOn": "Yes: between two of its events thread 1 removed 5, and added it again in another node. The call takes effect at event 23, a step of thread 1.",
-    "without": "A proof that looks for the linearization point among the call's own steps finds none, though the list is correct. check refuses the order that puts the contains last.",
-    "turns": [23, 36, 39],
-    "lacks": []
-  },
-  "ceiling-in-anothers-step": {
-    "question": "Just after each of thread 0's own events, the smallest key from 6 on is 7, or there is none. Its ceiling(6) answers 9. Is that right?",
-    "turnsOn": "Yes: it was 9 from event 15 until event 38, and all events between are steps of thread 1. The walk was at the node of 5 when that was unlinked, and its link still leads to 9.",
-    "without": "A ceiling that started again at each mark would answer 7 here, which is no better, and removes of smaller keys could send it back.",
-    "turns": [15, 38, 43],
-    "lacks": []
-  },
-  "opens-with-keys": {
-    "question": "Two keys are there at the start, one is removed, one is added. Why does the last add answer full?",
-    "turnsOn": "The thread's one slot is n2. The opening keys have nodes of their own and count as nobody's adds, and a remove frees no slot.",
-    "without": "A set that counts opening keys as adds answers full to the add of 7; one that uses slots again adds 8. check refuses either reply.",
-    "turns": [25, 36],
-    "lacks": []
-  },
-  "two-removers": {
-    "question": "Two threads have found the node of 5, unmarked, and want to remove it. Which of them does?",
-    "turnsOn": "The one whose exchange sets the mark. The exchange of the other compares link and mark together, and fails. That thread walks again and answers false.",
-    "without": "A remove that marks a marked node answers true too, and 5 is removed twice (mark-in-remove).",
-    "turns": [18, 20],
-    "lacks": ["mark-in-remove"]
-  },
-  "snip": {
-    "question": "Thread 0 has marked the node of 5 and stops there. Thread 1 wants to add 7 behind it. Does it have to wait?",
-    "turnsOn": "No: thread 1 unlinks the marked node itself. The exchange of thread 0 fails then, and thread 0 still answers true, since it has set the mark.",
-    "without": "An add that ignores the mark links 7 behind the node of 5, and 7 is unlinked with it (mark-in-add). Without marks no add could know (mark).",
-    "turns": [17, 23],
-    "lacks": ["mark-in-add", "mark"]
-  },
-  "tries-again": {
-    "question": "Both threads are at the gap between head and tail, each with a node ready. Thread 1 is first. What happens to thread 0's node?",
-    "turnsOn": "The exchange of thread 0 expects the tail, sees the node of 7, and fails. Thread 0 walks again and writes the same slot anew: no other thread has seen it, so it is not used up.",
-    "without": "With a store in place of the exchange, the head would lead to 5, and 7 would be lost.",
-    "turns": [14, 20],
-    "lacks": []
-  },
-  "left-in-chain": {
-    "question": "Thread 1's remove of 5 has answered. Which nodes are in the chain, and what does a contains(5) answer that begins only then?",
-    "turnsOn": "The node of 5 is still there, marked: the head led to 3 when the remover tried to unlink it. The next add or remove that walks there unlinks it. contains sees the mark: false.",
-    "without": "It answers true (mark-at-key). The remove had ended before, and nobody adds 5 again, so no order explains these calls.",
-    "turns": [21, 27],
-    "lacks": ["mark-at-key"]
-  },
-  "ceiling-meets-mark": {
-    "question": "Thread 0's ceiling(3) has come to the node of 5. Before it looks at the mark, thread 1 removes 5. What does it answer, and when is that correct?",
-    "turnsOn": "The mark is looked at last (row 25). The call finds one, starts again at the head, and comes to the tail: nothing, which is correct from the mark on.",
-    "without": "Here 5 would be right too, since the remove began after the ceiling. In the next example it would not.",
-    "turns": [18, 20],
-    "lacks": []
-  },
-  "ceiling-left-in-chain": {
-    "question": "The remove of 5 has ended, and its node is still in the chain. What may a ceiling(4) answer, and how often may it walk?",
-    "turnsOn": "Not 5: the mark sends it back to the head, each time it comes to that node. Thread 1's walk unlinks the node; the second walk of the ceiling answers 7, which was added after the call had begun.",
-    "without": "It answers 5, which nobody adds again, so no order explains these calls. LazyList's ceiling needs the same look at the mark (mark-in-ceiling).",
-    "turns": [27, 33, 43],
-    "lacks": []
-  },
-  "behind-the-walk": {
-    "question": "Thread 0 has read the link of the head, which leads to 9. Thread 1 adds 5 in between. May the ceiling(3) of thread 0 answer 9?",
-    "turnsOn": "Yes: at the moment of that read there was no key between. The call takes effect at its begin, so before the add, although the add ended first.",
-    "without": "No broken list lacks this. Each node of the walk was in the chain, with the link that was read, at some moment of the call. Along other links the walk could miss a key that was always there.",
-    "turns": [9, 16],
-    "lacks": []
-  },
-  "nothing-in-anothers-step": {
-    "question": "Just after each of thread 0's own events, 7 is in the set. Its ceiling(6) answers that there is no key. Is that right?",
-    "turnsOn": "Yes: between two of its events thread 1 removed 7 and then 5, and added 7 again. The link of the node of 5 led to the tail when the node was marked, and no exchange changes a marked link.",
-    "without": "No broken list lacks this either: the link beside the mark was in the chain during the call.",
-    "turns": [11, 28],
-    "lacks": []
-  }
+ "failed-tries": {
+  "question": "Two threads add one key at the same time. Which of them adds it?",
+  "turnsOn": "The one that takes the lock. A failed attempt is a step too, and leaves the thread at its row. Thread 1 stays at row 1 until the lock is released, and then finds the key.",
+  "without": "Both walk over one old link, and the second write loses the node of the first (lock).",
+  "turns": [
+   4,
+   15
+  ],
+  "lacks": [
+   "lock"
+  ]
+ },
+ "full": {
+  "question": "A thread with one slot adds 5, removes it and adds 7. Is there a slot for 7?",
+  "turnsOn": "No: each slot is used once, so no thread ever reaches a node that holds another key than before. full changes nothing, and is correct from the begin of its call.",
+  "without": "A slot that is used again changes the key of a node at which other threads may be (new-slot).",
+  "turns": [
+   14,
+   19
+  ],
+  "lacks": []
+ },
+ "hand-over-hand": {
+  "question": "Thread 0 has locked the head and 9, to add 5 between them. Thread 1 wants to remove 9. How far does it get?",
+  "turnsOn": "Not even to the head, until thread 0 releases the head's lock. Then it goes hand over hand: it releases the head's lock only when it holds that of 5.",
+  "without": "A walk that holds no lock can be at an unlinked node, and lose the key that it adds behind that node (hand-over-hand). So can a walk beside a remove that locks only pred (second-lock).",
+  "turns": [
+   17,
+   28
+  ],
+  "lacks": [
+   "hand-over-hand",
+   "second-lock"
+  ]
+ },
+ "same-gap": {
+  "question": "Both threads have walked without locks to the gap between head and tail. Thread 1 adds its key first. What does thread 0 do once it has its two locks?",
+  "turnsOn": "It looks at pred again: the head leads to the node of 7 now. So it releases its locks and walks again.",
+  "without": "A validation that only finds pred, and does not look where it leads, links 5 to the tail, and 7 is lost.",
+  "turns": [
+   12,
+   17
+  ],
+  "lacks": []
+ },
+ "stale-pred": {
+  "question": "Thread 0 has found pred = 3 and curr = tail. Thread 1 removes 3, whose node still leads to the tail. May thread 0 write?",
+  "turnsOn": "No: an unlinked node keeps its link. Thread 0 walks once more from the head, and gets past the key of pred without reaching pred.",
+  "without": "5 is added behind an unlinked node (second-walk). A walk that looks for the key of pred, and not for the node, may find another node with that key (same-node).",
+  "turns": [
+   24,
+   30
+  ],
+  "lacks": [
+   "second-walk",
+   "same-node"
+  ]
+ },
+ "marked-in-chain": {
+  "question": "Thread 1 has marked the node of 5 and has not unlinked it yet. Thread 0 walks to that node. What does its contains(5) answer?",
+  "turnsOn": "false: the mark removes the key from the set. That the node is still in the chain does not matter. contains reads its link, sees the mark, and takes no lock for it.",
+  "without": "true is correct at none of its moments (mark-in-contains). But the remove is still pending, and an order with the contains before it explains both. No history of that broken list is known that no order explains.",
+  "turns": [
+   20,
+   24
+  ],
+  "lacks": [
+   "mark-in-contains"
+  ]
+ },
+ "marked-pred": {
+  "question": "As in stale-pred, but this list has no second walk. What warns thread 0?",
+  "turnsOn": "The mark in the link of pred, which a remove sets before it unlinks the node. One load does the work of OptimisticList's second walk.",
+  "without": "5 is added behind the node of 3, which is unlinked (marks-in-validation).",
+  "turns": [
+   25,
+   31
+  ],
+  "lacks": [
+   "marks-in-validation"
+  ]
+ },
+ "read-in-anothers-step": {
+  "question": "Just after each of thread 0's own events, 5 is in the set. Its contains(5) answers false. Is that right?",
+  "turnsOn": "Yes: between two of its events thread 1 removed 5, and added it again in another node. The call takes effect at event 23, a step of thread 1.",
+  "without": "A proof that looks for the linearization point among the call's own steps finds none, though the list is correct. check refuses the order that puts the contains last.",
+  "turns": [
+   23,
+   36,
+   39
+  ],
+  "lacks": []
+ },
+ "ceiling-in-anothers-step": {
+  "question": "Just after each of thread 0's own events, the smallest key from 6 on is 7, or there is none. Its ceiling(6) answers 9. Is that right?",
+  "turnsOn": "Yes: it was 9 from event 15 until event 38, and all events between are steps of thread 1. The walk was at the node of 5 when that was unlinked, and its link still leads to 9.",
+  "without": "A ceiling that started again at each mark would answer 7 here, which is no better, and removes of smaller keys could send it back.",
+  "turns": [
+   15,
+   38,
+   43
+  ],
+  "lacks": []
+ },
+ "opens-with-keys": {
+  "question": "Two keys are there at the start, one is removed, one is added. Why does the last add answer full?",
+  "turnsOn": "The thread's one slot is n2. The opening keys have nodes of their own and count as nobody's adds, and a remove frees no slot.",
+  "without": "A set that counts opening keys as adds answers full to the add of 7; one that uses slots again adds 8. check refuses either reply.",
+  "turns": [
+   25,
+   36
+  ],
+  "lacks": []
+ },
+ "two-removers": {
+  "question": "Two threads have found the node of 5, unmarked, and want to remove it. Which of them does?",
+  "turnsOn": "The one whose exchange sets the mark. The exchange of the other compares link and mark together, and fails. That thread walks again and answers false.",
+  "without": "A remove that marks a marked node answers true too, and 5 is removed twice (mark-in-remove).",
+  "turns": [
+   18,
+   20
+  ],
+  "lacks": [
+   "mark-in-remove"
+  ]
+ },
+ "snip": {
+  "question": "Thread 0 has marked the node of 5 and stops there. Thread 1 wants to add 7 behind it. Does it have to wait?",
+  "turnsOn": "No: thread 1 unlinks the marked node itself. The exchange of thread 0 fails then, and thread 0 still answers true, since it has set the mark.",
+  "without": "An add that ignores the mark links 7 behind the node of 5, and 7 is unlinked with it (mark-in-add). Without marks no add could know (mark).",
+  "turns": [
+   17,
+   23
+  ],
+  "lacks": [
+   "mark-in-add",
+   "mark"
+  ]
+ },
+ "tries-again": {
+  "question": "Both threads are at the gap between head and tail, each with a node ready. Thread 1 is first. What happens to thread 0's node?",
+  "turnsOn": "The exchange of thread 0 expects the tail, sees the node of 7, and fails. Thread 0 walks again and writes the same slot anew: no other thread has seen it, so it is not used up.",
+  "without": "With a store in place of the exchange, the head would lead to 5, and 7 would be lost.",
+  "turns": [
+   14,
+   20
+  ],
+  "lacks": []
+ },
+ "left-in-chain": {
+  "question": "Thread 1's remove of 5 has answered. Which nodes are in the chain, and what does a contains(5) answer that begins only then?",
+  "turnsOn": "The node of 5 is still there, marked: the head led to 3 when the remover tried to unlink it. The next add or remove that walks there unlinks it. contains sees the mark: false.",
+  "without": "It answers true (mark-at-key). The remove had ended before, and nobody adds 5 again, so no order explains these calls.",
+  "turns": [
+   21,
+   27
+  ],
+  "lacks": [
+   "mark-at-key"
+  ]
+ },
+ "ceiling-meets-mark": {
+  "question": "Thread 0's ceiling(3) has come to the node of 5. Before it looks at the mark, thread 1 removes 5. What does it answer, and when is that correct?",
+  "turnsOn": "The mark is looked at last (row 25). The call finds one, starts again at the head, and comes to the tail: nothing, which is correct from the mark on.",
+  "without": "Here 5 would be right too, since the remove began after the ceiling. In the next example it would not.",
+  "turns": [
+   18,
+   20
+  ],
+  "lacks": []
+ },
+ "ceiling-left-in-chain": {
+  "question": "The remove of 5 has ended, and its node is still in the chain. What may a ceiling(4) answer, and how often may it walk?",
+  "turnsOn": "Not 5: the mark sends it back to the head, each time it comes to that node. Thread 1's walk unlinks the node; the second walk of the ceiling answers 7, which was added after the call had begun.",
+  "without": "It answers 5, which nobody adds again, so no order explains these calls. LazyList's ceiling needs the same look at the mark (mark-in-ceiling).",
+  "turns": [
+   27,
+   33,
+   43
+  ],
+  "lacks": []
+ },
+ "behind-the-walk": {
+  "question": "Thread 0 has read the link of the head, which leads to 9. Thread 1 adds 5 in between. May the ceiling(3) of thread 0 answer 9?",
+  "turnsOn": "Yes: at the moment of that read there was no key between. The call takes effect at its begin, so before the add, although the add ended first.",
+  "without": "No broken list lacks this. Each node of the walk was in the chain, with the link that was read, at some moment of the call. Along other links the walk could miss a key that was always there.",
+  "turns": [
+   9,
+   16
+  ],
+  "lacks": []
+ },
+ "nothing-in-anothers-step": {
+  "question": "Just after each of thread 0's own events, 7 is in the set. Its ceiling(6) answers that there is no key. Is that right?",
+  "turnsOn": "Yes: between two of its events thread 1 removed 7 and then 5, and added 7 again. The link of the node of 5 led to the tail when the node was marked, and no exchange changes a marked link.",
+  "without": "No broken list lacks this either: the link beside the mark was in the chain during the call.",
+  "turns": [
+   11,
+   28
+  ],
+  "lacks": []
+ }
 };
 
 export const LACKING = {
-  "lock": "coarse",
-  "second-lock": "fine",
-  "hand-over-hand": "fine",
-  "second-walk": "optimistic",
-  "same-node": "optimistic",
-  "marks-in-validation": "lazy",
-  "mark-in-contains": "lazy",
-  "mark-in-ceiling": "lazy",
-  "mark": "lock-free",
-  "mark-in-add": "lock-free",
-  "mark-in-remove": "lock-free",
-  "mark-at-key": "lock-free",
-  "new-slot": "lock-free"
+ "lock": "coarse",
+ "second-lock": "fine",
+ "hand-over-hand": "fine",
+ "second-walk": "optimistic",
+ "same-node": "optimistic",
+ "marks-in-validation": "lazy",
+ "mark-in-contains": "lazy",
+ "mark-in-ceiling": "lazy",
+ "mark": "lock-free",
+ "mark-in-add": "lock-free",
+ "mark-in-remove": "lock-free",
+ "mark-at-key": "lock-free",
+ "new-slot": "lock-free"
 };

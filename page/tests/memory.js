@@ -1,5 +1,5 @@
 // node page/tests/memory.js: the heap of the module (wasm/heap.c) until memory is refused. Blocks stand apart and within the memory,
-// which ends 16 MiB below 4 GiB (lower_wasm.py); what is refused leaves the heap as it was.
+// which ends 16 MiB below 4 GiB (page/build); what is refused leaves the heap as it was.
 "use strict";
 
 const fs = require("fs");

@@ -1,8 +1,9 @@
 """What docs/CLASSIC.md says, as made/classics.js: of each example its question, the answer, the events that decide it, what goes wrong
 without it, and which lists of its kind lack that check; and the kind of each list that lacks one."""
+import json
 import re
 
-from make_rows_js import in_lines, plain
+from make_rows_js import plain
 
 LACKING = re.compile(r"^- `([a-z-]+)` \(([a-z-]+)\): ", re.M)  # a broken list: its name and its kind
 PARAGRAPHS = {"question": "Question.", "turns_on": "Answer.", "without": "Without it."}
@@ -35,4 +36,4 @@ def classics_text(page):
                           "turns": turns_of(section), "lacks": lacks}
     return ("// What docs/CLASSIC.md says, by page/build: of each example its question, the answer, the events that decide it, what goes\n"
             "// wrong without it, and which lists of its kind lack that check; and the kind of each list that lacks one.\n"
-            f"\nexport const CLASSICS = {in_lines(classics)};\n\nexport const LACKING = {in_lines(lacking)};\n")
+            f"\nexport const CLASSICS = {json.dumps(classics, ensure_ascii=False, indent=1)};\n\nexport const LACKING = {json.dumps(lacking, indent=1)};\n")

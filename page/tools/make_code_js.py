@@ -1,14 +1,30 @@
 """The plain loops of the proved crates as made/code.js: the functions that make the steps of calls, as they stand in the source, with
-the rows of its list's table that each line makes (docs/make/loops_and_rows.py), so that the page shows each thread at its line."""
+the rows of its list's table that each line makes, by the comments ('// row 3', '// rows 5, 6, 7') at these lines, so that the page shows each
+thread at its line. The rows of a ceiling of the lists that mark are left to the interpreter."""
+
 import json
 import re
 
-import loops_and_rows
 import rattle_sources
+from lists import TOP, lists
 
+READS = "lset_loops/src/reads.rt"
+LOOPS = {it.word: [f"lset_loops/src/{it.table}.rt", *[READS] * it.has_reads()] for it in lists()}
+LISTS = {word: files if (TOP / "crates" / files[0]).is_file() else [] for word, files in LOOPS.items()}  # (of others the interpreter makes the calls)
+BEGINS = ("begin_at_head", "begin_locked")  # the first step of a call
+STEP = re.compile(r"\bcaller\.(\w+)(?:::<N>)?\(place")
 HEAD = """// The proved loops of the lists as they stand in crates/, with the rows of its list's table that each line makes, by page/build: for
 // show alone.
 """
+
+
+def lines_of(lines):
+    """Each line that names rows: its number, its step, the rows."""
+    for number, line in enumerate(lines, 1):
+        code, _, said = line.partition(" // row")
+        if said:
+            step = STEP.search(code)
+            yield number, step and step[1], [int(it) for it in re.findall(r"\d+", said)]
 
 
 def is_last(lines, number):
@@ -27,15 +43,15 @@ def steps_of(found, lines):
     for number, step, made in found:
         told = {"line": number, "rows": made}
         if any(rows.count(row) > 1 for row in made):
-            told |= {"begins": step in loops_and_rows.BEGINS, "answers": step not in loops_and_rows.BEGINS and is_last(lines, number)}
+            told |= {"begins": step in BEGINS, "answers": step not in BEGINS and is_last(lines, number)}
         yield told
 
 
 def code_of(file):
     """The functions of a file that have steps: each with its lines, its steps, and what it calls of the others at which line."""
-    source = rattle_sources.Source(loops_and_rows.text_of(file))
+    source = rattle_sources.Source((TOP / "crates" / file).read_text(encoding="utf-8"))
     lines = source.lines
-    steps = [*steps_of([*loops_and_rows.lines_of(file)], lines)]
+    steps = [*steps_of([*lines_of(lines)], lines)]
     made = {}
     for it in source.functions:
         own = [step for step in steps if it.top <= step["line"] <= it.last]
@@ -57,7 +73,7 @@ def function_text(code):
 
 def code_text():
     """The text of made/code.js."""
-    files = dict.fromkeys(file for some in loops_and_rows.LISTS.values() for file in some)
+    files = dict.fromkeys(file for some in LISTS.values() for file in some)
     functions = [f'  "crates/{file}": [\n{"".join(map(function_text, code_of(file)))}  ],\n' for file in files]
-    lists = [f'  "{name.replace("_", "-")}": {json.dumps([f"crates/{file}" for file in some])},\n' for name, some in loops_and_rows.LISTS.items()]
+    lists = [f'  "{name}": {json.dumps([f"crates/{file}" for file in some])},\n' for name, some in LISTS.items()]
     return f"{HEAD}\nexport const CODE = {{\n{''.join(functions)}}};\n\nexport const CODE_OF = {{\n{''.join(lists)}}};\n"

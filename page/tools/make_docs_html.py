@@ -2,25 +2,25 @@
 event, each row of a table to an event of an example that makes it (traces.js), where one does, and each broken list into the schedule
 that breaks it (examples/schedules/lacks).
 
-Of Markdown they have what those pages use: headings, each with an anchor, paragraphs, lists, tables, blocks of code, and in a line code,
-bold, italic, links. What is for the terminal is left out: of a block of code the lines that begin with `$`, and all that stands between
-the comments `<!-- terminal -->` and `<!-- end -->`."""
+Python-Markdown makes HTML of them; what is changed here is its output. What is for the terminal is left out: of a block of code the lines
+that begin with `$`, and all that stands between the comments `<!-- terminal -->` and `<!-- end -->`."""
+
 import html
 import os
 import re
 
+import markdown
 from lists import lists
 
 PAGES = {"HOW-IT-WORKS.md": "how-it-works.html", "CLASSIC.md": "classic.html", "TABLES.md": "tables.html"}
 NAMES = {"HOW-IT-WORKS.md": "How it works", "CLASSIC.md": "The examples", "TABLES.md": "The step tables"}
 KINDS = {it.type: it.word for it in lists()}
-SPAN = re.compile(r"(`[^`]+`)|\[([^\]]+)\]\(([^)\s]+)\)|\*\*(.+?)\*\*|(?<![\w*])\*([^*]+)\*(?![\w*])")
 PICTURE = re.compile(r"[a-z-]+ list, \d+ threads?, quota \d+: \d+ calls? in (\d+) events?$")
 TRACE_LINE = re.compile(r"event \d+ line \d+ thread (\d+) (begin )?.*? pc (\d+)(?: |$)")
-FILE = re.compile(r"`examples/schedules/([a-z-]+)\.schedule`")
-LACKING = re.compile(r"`([a-z-]+)` \([a-z-]+\): ")  # how an item of CLASSIC.md begins that is of a broken list
-TERMINAL = re.compile(r"^<!-- terminal -->$.*?^<!-- end -->$", re.M | re.S)
-NUMBER = re.compile(r"\d+")
+FILE = re.compile(r"<code>examples/schedules/([a-z-]+)\.schedule</code>")
+LACKING = re.compile(r"<li>(<code>([a-z-]+)</code>)(?= \([a-z-]+\): )")  # how an item of CLASSIC.md begins that is of a broken list
+LEFT_OUT = re.compile(r"^<!-- terminal -->$.*?^<!-- end -->$|^<!--.*?-->\n|^    \$ [^\n]*\n", re.M | re.S)
+PART = re.compile(r"<h\d.*?</h\d>|<p>.*?</p>|<pre>.*?</pre>|<table>.*?</table>", re.S)
 PAGE = """<!doctype html>
 <html lang="en">
 <!-- docs/{source}, by page/build -->
@@ -39,7 +39,8 @@ PAGE = """<!doctype html>
 {header}
 <main>
 <nav>{nav} <small>A number that is a link opens a run at that event.</small></nav>
-{body}</main>
+{body}
+</main>
 </body>
 </html>
 """
@@ -68,111 +69,73 @@ class Runs:
 
     def link(self, name, event, said):
         """A link into an example's run, where it has so many events."""
-        if event > len(self.events[name]):
+        if event > len(self.events.get(name, [])):
             return said
         return f'<a href="index.html#example={name}&amp;event={event}">{said}</a>'
 
     def numbers(self, name, text):
         """A text whose numbers lead to the events of an example."""
-        return NUMBER.sub(lambda it: self.link(name, int(it[0]), it[0]), html.escape(text, quote=False))
+        return re.sub(r"\d+", lambda it: self.link(name, int(it[0]), it[0]), text)
 
 
 class Document:
     """One page on its way to HTML: the section that it is in, with its example and its lists."""
 
     def __init__(self, runs, broken):
-        self.runs, self.broken, self.example, self.kinds = runs, broken, None, []
-        self.slugs, self.contents, self.lists_told = {}, [], 0
+        self.runs, self.broken, self.example, self.kinds, self.lists_told = runs, broken, None, [], 0
 
-    def spans(self, text, is_linked=True):
-        """A line's text as HTML."""
-        made, at = [], 0
-        for found in SPAN.finditer(text):
-            made += [html.escape(text[at:found.start()], quote=False), self.span(found, is_linked)]
-            at = found.end()
-        return "".join(made) + html.escape(text[at:], quote=False)
+    def body(self, text):
+        """The page's HTML: that of its text, with links."""
+        made = markdown.markdown(text, extensions=["tables", "toc", "sane_lists"], extension_configs={"toc": {"slugify": slug_of}})
+        made = re.sub(r'<a href="([^"]*)">(.*?)</a>', link_of, made)
+        made = FILE.sub(lambda it: self.runs.link(it[1], 0, it[0]) if it[1] in self.runs.events else it[0], made)
+        return LACKING.sub(self.broken_list, PART.sub(self.part, made))
 
-    def span(self, found, is_linked):
-        code, said, target, bold, italic = found.groups()
-        if code:
-            shown = f"<code>{html.escape(code[1:-1], quote=False)}</code>"
-            named = FILE.fullmatch(code)
-            return self.runs.link(named[1], 0, shown) if is_linked and named and named[1] in self.runs.events else shown
-        if target:
-            place, shown = html.escape(place_of(target)), self.spans(f"“{NAMES[said]}”" if said in NAMES else said, is_linked=False)
-            if place.startswith("../"):  # where the page is served alone there is no such file
-                return f'<span title="{place.removeprefix("../")} of the repository">{shown}</span>'
-            return f'<a href="{place}">{shown}</a>'
-        return f"<b>{self.spans(bold, is_linked)}</b>" if bold else f"<i>{self.spans(italic, is_linked)}</i>"
+    def part(self, found):
+        made = found[0]
+        if made.startswith("<pre>"):
+            return self.code(made.removeprefix("<pre><code>").removesuffix("\n</code></pre>").split("\n"))
+        if made.startswith("<table>"):
+            return f'<div class="scrolls">{self.table(made)}</div>'
+        plain = re.sub("<[^>]*>", "", made)
+        if made.startswith("<h"):
+            name = plain.split()[0]
+            self.example, self.kinds = name if name in self.runs.events else None, kinds_in(plain)
+        else:
+            named = re.findall(r"examples/schedules/([a-z-]+)\.schedule", plain)
+            self.example, self.kinds = next((it for it in named if it in self.runs.events), self.example), self.kinds or kinds_in(plain)
+        return made
 
-    def heading(self, lines):
-        signs, said = re.match(r"(#+) (.*)", lines[0]).groups()
-        plain = re.sub(r"[`*]|\]\([^)]*\)|\[", "", said)
-        slug = re.sub(r"[^\w\- ]", "", plain.lower()).replace(" ", "-")
-        again = self.slugs[slug] = self.slugs.get(slug, -1) + 1
-        slug += f"-{again}" * bool(again)
-        self.example = plain.split()[0] if plain.split()[0] in self.runs.events else None
-        self.kinds = kinds_in(plain)
-        if len(signs) == 2:
-            self.contents.append(f'<a href="#{slug}">{self.spans(said, is_linked=False)}</a>')
-        return f'<h{len(signs)} id="{slug}">{self.spans(said)}</h{len(signs)}>\n'
-
-    def prose(self, lines):
-        text = " ".join(lines)
-        if (found := FILE.search(text)) and found[1] in self.runs.events:
-            self.example = found[1]
-        self.kinds = self.kinds or kinds_in(text)
-        return f"<p>{self.spans(text)}</p>\n"
-
-    def items(self, lines):
-        """A list; the lines with which an item goes on are indented."""
-        tag = "ol" if lines[0][0].isdigit() else "ul"
-        items = re.split(r"\n(?=\S)", "\n".join(lines))
-        said = [re.sub(r"^(?:-|\d+\.) ", "", " ".join(map(str.strip, it.splitlines()))) for it in items]
-        return f"<{tag}>\n" + "".join(f"<li>{self.item(it)}</li>\n" for it in said) + f"</{tag}>\n"
-
-    def item(self, text):
-        """An item; of a broken list its name leads into the schedule that breaks it, on that list, which the page knows by its number."""
-        found = LACKING.match(text)
-        if not found or found[1] not in self.broken:
-            return self.spans(text)
-        self.lists_told += 1
-        address = html.escape(f"index.html#{address_of(self.broken[found[1]])}&event=0&lacks={self.lists_told}")
-        return f'<a href="{address}"><code>{found[1]}</code></a>{self.spans(text[found.end(1) + 1:])}'
-
-    def table(self, lines):
-        head, _, *rows = [[cell.strip() for cell in re.split(r"(?<!\\)\|", line.strip().strip("|"))] for line in lines]
-        first = {"Row": self.row, "Events": self.events_of}.get(head[0], self.spans)
-        made = "".join(f"<th>{self.spans(it)}</th>" for it in head)
-        made = f'<div class="scrolls"><table>\n<thead><tr>{made}</tr></thead>\n'
-        for cells in rows:
-            shown = [first(cells[0]), *(self.spans(it.replace("\\|", "|")) for it in cells[1:])]
-            made += "<tr>" + "".join(f"<td>{it}</td>" for it in shown) + "</tr>\n"
-        return f"{made}</table></div>\n"
+    def table(self, made):
+        """A table, of which the first column may have numbers of rows, which lead to an event that makes the row, or of events."""
+        kind = re.search("<th>(.*?)</th>", made)[1]
+        first = {"Row": self.row, "Events": lambda cell: self.runs.numbers(self.example, cell)}.get(kind, str)
+        return re.sub(r"(?<=<tr>\n<td>)(.*?)(?=</td>)", lambda it: first(it[1]), made)
 
     def row(self, cell):
-        """A row's number, which leads to an event that makes it."""
         found = next((self.runs.rows[kind][int(cell)] for kind in self.kinds if int(cell) in self.runs.rows[kind]), None)
         return self.runs.link(*found, cell) if found else cell
 
-    def events_of(self, cell):
-        """Numbers of events, each of which leads into the run of the section's example."""
-        return self.runs.numbers(self.example, cell) if self.example else self.spans(cell)
+    def broken_list(self, found):
+        """The name of a broken list leads into the schedule that breaks it, on that list, which the page knows by its number."""
+        if found[2] not in self.broken:
+            return found[0]
+        self.lists_told += 1
+        address = html.escape(f"index.html#{address_of(self.broken[found[2]])}&event=0&lacks={self.lists_told}")
+        return f'<li><a href="{address}">{found[1]}</a>'
 
     def code(self, lines):
         """A block of code; a picture and a trace of the section's example have links into its run."""
         events = self.runs.events.get(self.example, [])
-        shown = [it[4:] for it in lines if not it.startswith("    $ ")]
-        is_picture = shown and (found := PICTURE.match(shown[0])) and int(found[1]) == len(events)
-        return "<pre>" + "\n".join(self.of_run(line, is_picture, line in events) for line in shown) + "</pre>\n" if shown else ""
+        is_picture = (found := PICTURE.match(lines[0])) and int(found[1]) == len(events)
+        return "<pre>" + "\n".join(self.of_run(line, is_picture, html.unescape(line) in events) for line in lines) + "</pre>"
 
     def of_run(self, line, is_picture, is_event):
         """A line of the picture or of the trace of the section's example, whose moments lead into its run; or any other."""
         if is_picture and line.startswith("moment "):
             return self.runs.numbers(self.example, line)
         found = re.match(r"(event | +\d+ +at )(\d+)\b", line) if is_picture or is_event else None
-        text = html.escape(line[found.end() if found else 0:], quote=False)
-        return found[1] + self.runs.link(self.example, int(found[2]), found[2]) + text if found else text
+        return found[1] + self.runs.link(self.example, int(found[2]), found[2]) + line[found.end():] if found else line
 
 
 def address_of(schedule):
@@ -188,42 +151,39 @@ def address_of(schedule):
     return "&".join([*parts, f"s={','.join(events)}"])
 
 
+def slug_of(heading, _separator):
+    return re.sub(r"[^\w\- ]", "", heading.lower()).replace(" ", "-")
+
+
 def kinds_in(text):
     """The lists that a text names."""
     return [kind for name, kind in KINDS.items() if name in text]
 
 
-def place_of(target):
-    """Where a link of a page in docs/ leads from page/."""
-    if re.match(r"[a-z]+:|#", target):
-        return target
+def link_of(found):
+    """A link of a page in docs/, as it leads from page/."""
+    target, said = found.groups()
+    said = f"“{NAMES[said]}”" if said in NAMES else said
     path, sign, heading = target.partition("#")
-    return (PAGES.get(path) or os.path.relpath(os.path.normpath(f"docs/{path}"), "page")) + sign + heading
-
-
-# The blocks of a page: what makes each, and its text. Only blocks of code have empty lines.
-BLOCKS = [
-    (Document.code, r"(?:    .*\n)(?:\n*    .*\n)*"),
-    (Document.heading, r"#+ .*\n"),
-    (Document.table, r"(?:\|.*\n)+"),
-    (Document.items, r"(?:-|\d+\.) .*\n(?:(?:-|\d+\.|  ) *.*\n)*"),
-    (Document.prose, r"(?:[^\s|#].*\n)+?(?=\s|[|#]|(?:-|\d+\.) |\Z)"),
-]
-BLOCK = re.compile("|".join(f"({form})" for _, form in BLOCKS), re.M)
+    if path and not re.match("[a-z]+:", path):
+        target = (PAGES.get(path) or os.path.relpath(os.path.normpath(f"docs/{path}"), "page")) + sign + heading
+    if target.startswith("../"):  # where the page is served alone there is no such file
+        return f'<span title="{target.removeprefix("../")} of the repository">{said}</span>'
+    return f'<a href="{target}">{said}</a>'
 
 
 def page_of(source, text, document, framed):
     """The HTML of a page."""
-    text = re.sub(r"^<!--.*?-->\n", "", TERMINAL.sub("", text), flags=re.M | re.S)
-    body = [BLOCKS[it.lastindex - 1][0](document, it[0].splitlines()) for it in BLOCK.finditer(text)]
+    body = document.body(LEFT_OUT.sub("", text))
     nav = [f'<a href="{PAGES[it]}">{name}</a>' if it != source else f"<b>{name}</b>" for it, name in NAMES.items()]
     # (the contents stand below what is said of the page, where no table there has them)
-    at = next((n for n, it in enumerate(body) if it.startswith("<h2")), len(body))
-    if sum(it.count('href="#') for it in body[:at]) < len(document.contents) / 2:
-        body.insert(at, f'<nav class="contents">{" · ".join(document.contents)}</nav>\n')
-    title = html.escape(re.search(r"^# (.*)$", text, re.M)[1])
-    about = html.escape(re.sub(r"<[^>]*>|\n", "", next(it for it in body if it.startswith("<p>"))).split(". ")[0])
-    return PAGE.format(source=source, title=title, about=about, nav=" · ".join(nav), body="".join(body), **framed)
+    contents = [f'<a href="#{slug}">{re.sub("</?a[^>]*>", "", said)}</a>' for slug, said in re.findall(r'<h2 id="(.*?)">(.*?)</h2>', body)]
+    before, sign, after = body.partition("<h2")
+    if before.count('href="#') < len(contents) / 2:
+        body = f'{before}<nav class="contents">{" · ".join(contents)}</nav>\n{sign}{after}'
+    title, about = (re.search(rf"<{tag}\b[^>]*>(.*?)</{tag}>", body, re.S)[1] for tag in ("h1", "p"))
+    about = re.sub(r"<[^>]*>", "", about).replace("\n", " ").split(". ")[0]
+    return PAGE.format(source=source, title=title, about=about, nav=" · ".join(nav), body=body, **framed)
 
 
 def docs_made(top):
@@ -231,9 +191,4 @@ def docs_made(top):
     runs = Runs((top / "page" / "made" / "traces.js").read_text(encoding="utf-8"))
     broken = {it.stem: it.read_text(encoding="utf-8") for it in (top / "examples" / "schedules" / "lacks").glob("*.schedule")}
     framed = frame((top / "page" / "index.html").read_text(encoding="utf-8"))
-    made = {name: page_of(it, (top / "docs" / it).read_text(encoding="utf-8"), Document(runs, broken), framed) for it, name in PAGES.items()}
-    for name, text in made.items():
-        for page, heading in re.findall(r'href="((?!index)[a-z-]+\.html)?#([\w-]+)"', text):
-            if f' id="{heading}"' not in made[page or name]:
-                raise ValueError(f"{name}: {page or name} has no heading #{heading}")
-    return made
+    return {name: page_of(it, (top / "docs" / it).read_text(encoding="utf-8"), Document(runs, broken), framed) for it, name in PAGES.items()}

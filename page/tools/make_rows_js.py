@@ -20,16 +20,6 @@ def plain(text):
     return re.sub(r"\*\*|`", "", text).strip()
 
 
-def in_lines(value, indent=0):
-    """The value as JavaScript: in one line where that is short, else each key in a line of its own."""
-    flat = json.dumps(value, ensure_ascii=False)
-    if not isinstance(value, dict) or indent + len(flat) <= 100:
-        return flat
-    inner = indent + 2
-    lines = [f"{' ' * inner}{json.dumps(str(key))}: {in_lines(one, inner)}" for key, one in value.items()]
-    return "{\n" + ",\n".join(lines) + "\n" + " " * indent + "}"
-
-
 def leads_of(then):
     """The rows to which the column "Then" leads, by what it means."""
     found = {name: re.search(pattern, then) for name, pattern in LEADS.items()}
@@ -92,4 +82,4 @@ def rows_text(tables):
         lists[kind] = {"name": name, "registers": registers_in(rows.values()), "adds": adds, "removes": removes,
                        "calls": calls_of(sections[name], own), "rows": rows}
     return ("// The rows of the step tables, from docs/TABLES.md by page/build: for show alone, no state is computed from them.\n"
-            f"\nexport const LISTS = {in_lines(lists)};\n")
+            f"\nexport const LISTS = {json.dumps(lists, ensure_ascii=False, indent=1)};\n")

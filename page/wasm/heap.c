@@ -3,7 +3,7 @@
 //
 // Blocks have 2^k bytes, k from 5 to 32; the 16 bytes before what is handed out hold k. A freed block goes to the list of its
 // size. A new one is cut from the end of the memory, which grows by whole pages; where it cannot grow, memory is refused. It ends
-// below 4 GiB (../lower_wasm.py).
+// 16 MiB below 4 GiB (../build).
 typedef unsigned long long u64;
 typedef struct { u64 ok; char *block; } Tried;
 
@@ -20,13 +20,16 @@ static int class_of(u64 count) {
     return k;
 }
 
+// Whether the memory has grown by so many pages. (Where it has not, the module that wasm-opt lowers to 32 bits gives 2^32 - 1.)
+static int has_grown(u64 pages) { return (unsigned)__builtin_wasm_memory_grow(0, pages) != ~0U; }
+
 // Makes room for so many bytes more at the end, by more pages than that needs where the memory may grow so far.
 static int grow(u64 bytes) {
     u64 needed = (bytes + PAGE - 1) / PAGE;
     u64 wanted = needed < PAGES_AT_ONCE ? PAGES_AT_ONCE : needed;
-    if (__builtin_wasm_memory_grow(0, wanted) == ~0ULL) {
+    if (!has_grown(wanted)) {
         wanted = needed;
-        if (__builtin_wasm_memory_grow(0, wanted) == ~0ULL) return 0;
+        if (!has_grown(wanted)) return 0;
     }
     end += wanted * PAGE;
     return 1;

@@ -8,7 +8,7 @@ const EVENT_ROOM = 96; // bytes of a trace's line, so that the engine is asked o
 const workerText = (room) => `"use strict";
 const FIRST_ROOM = ${room};
 const LARGE_MEMORY = ${LARGE_MEMORY};
-${[Engine, answerOf, textsOf, answerInRoom, blockOf].join("\n")}
+${Object.entries({ Engine, answerOf, textsOf, answerInRoom, blockOf }).map(([name, it]) => `const ${name} = ${it};`).join("\n")}
 onmessage = ({ data: { module, name, given } }) => {
   try {
     const { status, bytes } = new Engine(module).askBytes(name, given);

@@ -21,9 +21,7 @@ SCENARIOS = {"webkit": 8}  # for which one browser is used, as WebKit's driver g
 class Quiet(http.server.SimpleHTTPRequestHandler):
     """Gives the files of the page; slow.html is the page over a slow network, cases.json has what the program answers."""
 
-    def __init__(self, *words, cases=None, **how):
-        self.cases = cases
-        super().__init__(*words, directory=str(PAGE), **how)
+    cases = None
 
     def log_message(self, *words):
         pass
@@ -160,8 +158,8 @@ def pytest_generate_tests(metafunc):
 
 @pytest.fixture(scope="session")
 def place(request):
-    handler = functools.partial(Quiet, cases=request.config.getoption("--cases"))
-    server = http.server.ThreadingHTTPServer(("127.0.0.1", 0), handler)
+    Quiet.cases = request.config.getoption("--cases")
+    server = http.server.ThreadingHTTPServer(("127.0.0.1", 0), functools.partial(Quiet, directory=str(PAGE)))
     threading.Thread(target=server.serve_forever, daemon=True).start()
     yield f"http://127.0.0.1:{server.server_port}"
     server.shutdown()
