@@ -22,14 +22,6 @@ def braced(text, start):
     return len(text)
 
 
-def comment_above(lines, at):
-    """The lines of the doc comment above a line, without its signs."""
-    first = at
-    while first and lines[first - 1].strip().startswith(("///", "#[")):
-        first -= 1
-    return [it.strip()[3:].strip() for it in lines[first:at] if it.strip().startswith("///")]
-
-
 @dataclass(frozen=True)
 class Block:
     """An `impl` or a trait: which of both, its head, and its first and last line, from 1 on."""

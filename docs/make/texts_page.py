@@ -1,48 +1,16 @@
-"""Tables of docs/TEXTS.md, made from the sources: of errors from the comments of the variants and from what `listset faults` prints, of
-limits from the constants."""
+"""Tables of docs/TEXTS.md, made from the sources: of errors from the comments of the variants and from what `listset faults` prints. And what
+that page and docs/COMMANDS.md say otherwise than the sources."""
 
 import re
 
-import rattle_sources
-
-# Limits: the constant, its crate, and what is told past it.
-LIMITS = [
-    ("lset_words/src/lib.rt", "MOST_THREADS", "`Threads`; `bad THREADS`, `bad SEATS`"),
-    ("lset_words/src/lib.rt", "MOST_QUOTA", "`Quota`; `bad QUOTA`"),
-    ("lset_words/src/lib.rt", "MOST_OPENING", "`TooMany`; of `run` `work: Opening`"),
-    ("lset_schedule/src/lib.rt", "MOST_EVENTS", "`TooMany`"),
-    ("lset_schedule/src/lib.rt", "MOST_STEPS", "`Number`; of a draft `Waits`"),
-    ("tool_replay/src/draft.rt", "MOST_ROW", "`Number`"),
-    ("lset_report/src/report.rt", "MOST_CALLS", "`TooMany`"),
-    ("lset_report/src/report.rt", "MOST_PLACES", "`TooMany`"),
-    ("lset_report/src/report.rt", "MOST_KEYS", "`TooMany`"),
-    ("lset_report/src/report.rt", "MOST_KEYS_OPENED", "`TooMany`"),
-    ("tool_base/src/input.rt", "LONGEST", "`too long`"),
-]
-VERSIONS = {"One": 1, "Two": 2}
 # The files whose lines may be refused, with the words of `listset faults` for each
 FILES = {"schedule": "a schedule", "draft": "a draft", "report": "a report", "recording": "recorded calls", "keys": "the keys"}
-
-
-def in_words(comment):
-    """A doc comment, without what it says of whose limit it is."""
-    return re.sub(r" \(This project's own limit[^)]*\)", "", " ".join(comment))
-
-
-def first_sentence(said):
-    """What comes before the first full stop, but those within backquotes."""
-    return re.match(r"(?:[^.`]|`[^`]*`|\.(?! |$))*", said)[0]
 
 
 def table(head, rows):
     below = "|---" * len(head) + "|"
     first, *others = [f"| {' | '.join(cells)} |" for cells in [head, *rows]]
     return "\n".join([first, below, *others])
-
-
-def figure_of(text, name):
-    value = re.search(rf"^pub const {name}: \w+ = (.*);", text, re.M)[1]
-    return f"{int(value):,}"
 
 
 def faults_below(top, head):
@@ -71,20 +39,13 @@ def table_of_orders(top):
     return table(["Fault", "When"], [[f"`{name}`", when] for name, when in faults_below(top, "refused FAULT ID").items()])
 
 
-def table_of_limits(top):
-    """The limits: what the comment of each constant says first, its value, its name, and what is told past it."""
-    rows = []
-    for file, name, past in LIMITS:
-        text = (top / "crates" / file).read_text()
-        lines = text.split("\n")
-        comment = rattle_sources.comment_above(lines, next(at for at, line in enumerate(lines) if line.startswith(f"pub const {name}:")))
-        said = re.sub(r"`Version::(\w+)`.*", lambda it: f"version {VERSIONS[it[1]]}", first_sentence(in_words(comment)))
-        rows.append([said, figure_of(text, name), f"`{name}`", past])
-    return table(["Limit", "Value", "Constant", "Beyond it"], rows)
-
-
 def problems(top):
-    """What docs/COMMANDS.md says of an argument or option otherwise than `listset help`. (It may leave out the names for `--lacks`.)"""
+    """Limits that are no constants of the sources, and arguments and options that `listset help` tells otherwise. (A page may leave out the
+    names for `--lacks`.)"""
+    sources = "\n".join(it.read_text() for it in top.glob("crates/*/src/**/*.rt"))
+    for value, name in re.findall(r"\| ([\d,]+) \| `(\w+)` \|", (top / "docs/TEXTS.md").read_text()):
+        if not re.search(rf"^pub const {name}: \w+ = {value.replace(',', '_?')};", sources, re.M):
+            yield f"docs/TEXTS.md: {name} is not {value}"
     page = (top / "docs/COMMANDS.md").read_text()
     for told in (top / "tests/transcripts/help.md").read_text().split("    $ listset help ")[1:]:
         command = told.partition("\n")[0]
@@ -95,4 +56,4 @@ def problems(top):
                 yield f"docs/COMMANDS.md: {command} has no row {row}"
 
 
-MADE = {"causes": table_of_causes, "orders": table_of_orders, "limits": table_of_limits}
+MADE = {"causes": table_of_causes, "orders": table_of_orders}
