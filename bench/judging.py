@@ -1,5 +1,4 @@
-"""What judge of a recording costs beside the judge written by hand (peer_judge.rs): its time is to be that of the calls, whatever they are, and
-its memory that of the keys and of the pending calls."""
+"""What judge of a recording costs beside the judge written by hand (peer_judge.rs)."""
 
 import collections
 import os
@@ -25,21 +24,16 @@ RECORDINGS = {
 
 
 def judge():
-    """The table of recordings."""
+    """The table of recordings: the least seconds of some runs, in turn."""
     heading("Recording", "`judge`, s", "KB", "by hand, s", "KB", "ratio")
     with tempfile.TemporaryDirectory(prefix="bench-") as room:
         programs = [built("listset"), "judge"], [by_rustc("peer_judge.rs", room)]
         for name, asked in RECORDINGS.items():
             with open(f"{room}/recording", "w", encoding="ascii") as file:
                 file.writelines(lines_of(*asked))
-            measured_row(name, programs, file.name)
-
-
-def measured_row(name, programs, given):
-    """Prints the row of a recording: the least seconds of some runs, in turn."""
-    ours, hand = least([seconds_of(words, given, os.devnull, 0) for words in programs] for _ in range(RUNS))
-    kb, hand_kb = (memory_of(words, given) or 0 for words in programs)
-    row(name, f"{ours:.2f}", f"{kb:,}", f"{hand:.2f}", f"{hand_kb:,}", f"{ours / hand:.2f}")
+            ours, hand = least([seconds_of(words, file.name, os.devnull, 0) for words in programs] for _ in range(RUNS))
+            kb, hand_kb = (memory_of(words, file.name) or 0 for words in programs)
+            row(name, f"{ours:.2f}", f"{kb:,}", f"{hand:.2f}", f"{hand_kb:,}", f"{ours / hand:.2f}")
 
 
 def lines_of(calls, threads, keys, has_spanning):

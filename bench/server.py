@@ -1,7 +1,6 @@
 """What the set server gives: requests a second, beside redis. It starts both servers, and reads the port of each."""
 
 import contextlib
-import os
 import shutil
 import socket
 import statistics
@@ -11,22 +10,13 @@ import tempfile
 import time
 
 from build_benches import by_rustc
-from measuring import KINDS, built, heading, processor_seconds, row
+from measuring import KINDS, built, heading, row
 
 ROUNDS = 5
 CLIENTS = (1, 8)
 KEYS = "64"
 REQUESTS = {1: "20000", 100: "90000"}  # of each client, by how many it sends at once; so many that no seat runs out of slots
 REDIS_STARTS_WITHIN = LOAD_ENDS_WITHIN = 60  # seconds
-
-
-def processor_of(pid):
-    """The seconds that the threads of a process have had of a processor."""
-    seconds = 0
-    for task in os.listdir(f"/proc/{pid}/task"):
-        with open(f"/proc/{pid}/task/{task}/schedstat") as it:
-            seconds += int(it.read().split()[0]) / 1e9
-    return seconds
 
 
 @contextlib.contextmanager
@@ -41,10 +31,10 @@ def ended(process):
 
 @contextlib.contextmanager
 def listset(tool, kind, clients):
-    """The program as a server for so many clients: its port, and its process."""
+    """The program as a server for so many clients: its port."""
     words = [tool, "serve", kind, str(clients), "16384", "0", str(clients)]
     with ended(subprocess.Popen(words, stdout=subprocess.PIPE, text=True)) as process:
-        yield process.stdout.readline().rpartition(":")[2].strip(), process
+        yield process.stdout.readline().rpartition(":")[2].strip()
 
 
 def answers(port):
@@ -56,33 +46,26 @@ def answers(port):
 
 @contextlib.contextmanager
 def redis(program, _kind, _clients):
-    """A redis server that keeps nothing on disk: its port, and its process."""
+    """A redis server that keeps nothing on disk: its port."""
     with socket.socket() as free:
         free.bind(("127.0.0.1", 0))
         port = free.getsockname()[1]
     with tempfile.TemporaryDirectory() as room:
         words = [program, "--port", str(port), "--bind", "127.0.0.1", "--save", "", "--appendonly", "no", "--dir", room]
-        with ended(subprocess.Popen(words, stdout=subprocess.DEVNULL)) as process:
+        with ended(subprocess.Popen(words, stdout=subprocess.DEVNULL)):
             end = time.monotonic() + REDIS_STARTS_WITHIN
             while not answers(port) and time.monotonic() < end:
                 time.sleep(0.05)
-            yield str(port), process
+            yield str(port)
 
 
 def loaded(load, protocol, server, clients, at_once):
-    """Requests a second, median and 99th of 100 of the microseconds of a write, and processor microseconds of a request."""
-    requests = REQUESTS[at_once]
-    with server(clients) as (port, process):
-        before = processor_of(process.pid)
-        words = [load, protocol, port, str(clients), str(at_once), requests, KEYS]
-        # listset ends with its last client, so what it has had by then is read off as it ends
+    """Requests a second, and the 99th of 100 of the microseconds of a write."""
+    with server(clients) as port:
+        words = [load, protocol, port, str(clients), str(at_once), REQUESTS[at_once], KEYS]
         told = subprocess.run(words, stdout=subprocess.PIPE, text=True, check=True, timeout=LOAD_ENDS_WITHIN).stdout
-        if protocol == "listset":
-            process.stdout.read()
-            spent = processor_seconds(process)
-        else:
-            spent = processor_of(process.pid)
-    return [*map(float, told.split()), 1e6 * (spent - before) / (clients * int(requests))]
+    rate, _, late = map(float, told.split())
+    return rate, late
 
 
 def server():
@@ -102,7 +85,7 @@ def server():
         for many, at_once in loads:
             rounds = [{name: loaded(load, *way, many, at_once) for name, way in servers.items()} for _ in range(ROUNDS)]
             for name in servers:
-                rate, _, late, _ = (statistics.median(it) for it in zip(*(it[name] for it in rounds)))
+                rate, late = (statistics.median(it) for it in zip(*(it[name] for it in rounds)))
                 cells[name] += [f"{rate / 1000:.0f}", f"{late:.0f}"]
     for name, told in cells.items():
         row(name, *told)

@@ -36,30 +36,20 @@ def sizes():
     in turn."""
     heading("Set", *(f"{size:,}" + f" keys, {named(many)}" * (size == SIZES[0]) for many in THREADS for size in SIZES))
     with tempfile.TemporaryDirectory() as room:
-        sets = programs_of(room)
+        timer, peer = built("bench_calls"), by_rustc("peer.rs", room)
+        sets = {**{kind: [timer, kind, "whole"] for kind in KINDS}, "`Mutex<BTreeSet>`": [peer, "whole", "mutex-tree"]}
         found = {name: [] for name in sets}
         for many in THREADS:
             for size in SIZES:
                 runs = ([rate(it, many, size) for it in sets.values()] for _ in range(RUNS))
-                for name, calls_a_second in zip(sets, medians(runs)):
-                    found[name].append(f"{calls_a_second / 1e6:.1f}")
+                for name, rates in zip(sets, zip(*runs)):
+                    found[name].append(f"{statistics.median(rates) / 1e6:.1f}")
         for name, rates in found.items():
             row(name, *rates)
 
 
-def programs_of(room):
-    """Of each set the words of the program that times rounds of its calls, but for their numbers."""
-    timer, peer = built("bench_calls"), by_rustc("peer.rs", room)
-    return {**{kind: [timer, kind, "whole"] for kind in KINDS}, "`Mutex<BTreeSet>`": [peer, "whole", "mutex-tree"]}
-
-
 def named(many):
     return f"{many} thread{'s'[:many > 1]}"
-
-
-def medians(rows):
-    """The median of each column."""
-    return [statistics.median(column) for column in zip(*rows)]
 
 
 def median_of(runs, call):

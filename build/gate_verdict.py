@@ -2,6 +2,7 @@
 
 import datetime
 import hashlib
+import json
 import pathlib
 import shutil
 import subprocess
@@ -36,14 +37,12 @@ def sum_of(file):
 
 def write(commit, passed, failed):
     """Keeps the verdict of a gate that began over this commit, if it is the one here still; else removes the one before."""
-    day = datetime.datetime.now(datetime.timezone.utc).strftime("%Y-%m-%d")
-    lines = [f"commit {commit}", f"day {day}", f"passed {passed}", f"failed {failed}", *(f"{it} {sum_of(it)}" for it in TRIED)]
+    place().unlink(missing_ok=True)
     if commit and commit == clean_commit():
-        place().write_text("".join(f"{line}\n" for line in lines))
-    else:
-        place().unlink(missing_ok=True)
+        sums = {it: sum_of(it) for it in TRIED}
+        place().write_text(json.dumps({"commit": commit, "day": str(datetime.date.today()), "passed": passed, "failed": failed, **sums}))
 
 
 def read():
-    """The verdict, by the first words of its lines; or None."""
-    return dict(line.split(" ", 1) for line in place().read_text().splitlines()) if place().exists() else None
+    """The verdict, or None."""
+    return json.loads(place().read_text()) if place().exists() else None

@@ -98,8 +98,7 @@ def for_fish(said):
     rows = [f"complete -c listset -n __fish_use_subcommand -f -a {name} -d {quoted(about)}" for name, about in said.about.items()]
     for name in said.pages:
         seen = f"-n '__fish_seen_subcommand_from {name}'"
-        needs = {True: " -x", False: ""}
-        rows += [f"complete -c listset {seen} -l {it}{needs[bool(value)]} -d {quoted(about)}" for it, value, about in said.options(name)]
+        rows += [f"complete -c listset {seen} -l {it}{' -x' * bool(value)} -d {quoted(about)}" for it, value, about in said.options(name)]
         rows += [f"complete -c listset {seen} -a '{LISTS}'"] * (name in OF_A_LIST)
     examples = "complete -c listset -n '__fish_seen_subcommand_from example' -f -a \"(listset example | string split -f1 ' ')\""
     return "\n".join(["# completions of listset for fish", *rows, examples, ""])

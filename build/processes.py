@@ -1,10 +1,8 @@
-"""Processes that scripts start, which end with the script, however that ends; and the folders that one that was killed leaves."""
+"""Processes that scripts start, which end with the script, however that ends."""
 
 import contextlib
 import os
 import pathlib
-import re
-import shutil
 import signal
 import subprocess
 import sys
@@ -58,19 +56,10 @@ def end_guarded():
             group[0].wait()
 
 
-def sweep(*kinds):
-    """Removes what runs that were killed left among the temporary files: folders KIND-PROCESS-.."""
-    for it in pathlib.Path(tempfile.gettempdir()).glob("*-*-*"):
-        found = re.match(r"([a-z-]+)-(\d+)-", it.name)
-        if found and found[1] in kinds and not os.path.exists(f"/proc/{found[2]}"):
-            shutil.rmtree(it, ignore_errors=True)
-
-
 @contextlib.contextmanager
 def room(kind):
-    """A temporary folder of this process; first it removes those that runs of this kind left which were killed."""
-    sweep(kind)
-    with tempfile.TemporaryDirectory(prefix=f"{kind}-{os.getpid()}-", ignore_cleanup_errors=True) as folder:
+    """A temporary folder of this process."""
+    with tempfile.TemporaryDirectory(prefix=f"{kind}-", ignore_cleanup_errors=True) as folder:
         os.chmod(folder, 0o711)  # rt, run as root, runs programs as nobody, who has to come through
         yield pathlib.Path(folder)
 

@@ -11,9 +11,7 @@ import subprocess
 import sys
 
 import pytest
-from harness.programs import KINDS, printed
-from harness.reports_model import first_fault, read_report
-from harness.traces_model import enabled
+from harness.programs import KINDS
 
 GREATEST = 2**32 - 1  # key
 MOST_THREADS, MOST_QUOTA, OPENING = 64, 16_384, 1_048_576
@@ -150,35 +148,6 @@ def test_schedules(asked, few, kind):
     for size in [CALLS // TIMES] if few else [CALLS // TIMES, CALLS]:
         runs(asked, kind, size, NEAR[name](size), words)
     asked.grows(CALLS // TIMES, CALLS)
-
-
-def with_far_keys(draw, lines, keys):
-    """The lines of a schedule, whose keys are others, up to the greatest; some looks are ceilings."""
-    names = sorted({GREATEST, 0, *(log_uniform(draw, GREATEST) for _ in range(keys))})
-    for line in lines:
-        words = line.split()
-        if words[0] == "begin":
-            words[2:] = draw.choice(["contains", "ceiling"]) if words[2] == "contains" else words[2], str(names[int(words[3]) % len(names)])
-        yield " ".join(words)
-
-
-@pytest.mark.parametrize("kind", KINDS)
-def test_drawn_schedules(program, few, kind):
-    """What `gen` draws, whole and up to its middle; and with ceilings and far keys, on sets that open with keys."""
-    for number in range(4 if few else 30):
-        draw, opening = random.Random(f"{kind} {number}"), []
-        sizes = [log_uniform(draw, 64), draw.choice([0, log_uniform(draw, MOST_QUOTA)]), log_uniform(draw, 400 if number % 10 else 10_000)]
-        keys = log_uniform(draw, 300 if number % 2 else GREATEST)
-        text = printed(program, "gen", kind, *sizes, keys, log_uniform(draw, 2**64 - 1))
-        if number % 2:
-            opening = sorted(draw.sample(range(2 * keys), log_uniform(draw, keys)))
-            lines = [*text.splitlines()[4:], *(f"go {thread} 10000" for thread in range(sizes[0]))]
-            text = enabled(head("schedule 2", kind, *sizes[:2], opening) + "\n".join(with_far_keys(draw, lines, keys)))
-        texts = [text] if number % 3 else [text, text[:text.rindex("\n", 0, len(text) // 2) + 1]]
-        for it in (it for it in texts if it.count("\n") >= 4 + len(opening)):
-            report = printed(program, "replay", text=it)
-            assert first_fault(read_report(report)) is None
-            assert printed(program, "check", text=report) == "ok\n"
 
 
 @pytest.mark.parametrize("kind", KINDS)

@@ -10,18 +10,12 @@ A test that needs what is not built or installed is skipped and says so; it fail
 
 import fcntl
 import os
-import pathlib
 import pickle
 import re
-import signal
-import tempfile
 
-import processes
 import pytest
 from harness.pages import PAGES, Page
 from harness.programs import PROVED, UNPROVED, clear, not_installed
-
-OF_RUN = "LISTSET_TESTS"  # in the environment of what a run starts: the run's folder
 
 
 def pytest_addoption(parser):
@@ -37,31 +31,9 @@ def pytest_cmdline_main(config):
         config.option.dist = "loadgroup"  # so that tests of one xdist_group take turns
 
 
-def is_worker(config):
-    return hasattr(config, "workerinput")
-
-
 def pytest_configure(config):
-    if is_worker(config):
-        config.folder = pathlib.Path(config.workerinput["folder"])
-        return
     if config.option.program and not os.access(config.option.program, os.X_OK):
         raise pytest.UsageError(f"there is no program {config.option.program}: build/unproved builds it, ./listset --prove proves it")
-    for number in (signal.SIGINT, signal.SIGTERM, signal.SIGHUP):  # (a shell may start it with SIGINT ignored)
-        signal.signal(number, signal.default_int_handler)
-    processes.sweep("tests")
-    config.folder = pathlib.Path(tempfile.mkdtemp(prefix=f"tests-{os.getpid()}-")).resolve()
-    os.environ[OF_RUN] = str(config.folder)
-
-
-@pytest.hookimpl(optionalhook=True)
-def pytest_configure_node(node):
-    node.workerinput["folder"] = str(node.config.folder)
-
-
-def pytest_unconfigure(config):
-    if not is_worker(config) and hasattr(config, "folder"):
-        clear(config.folder)
 
 
 @pytest.hookimpl(tryfirst=True)
@@ -108,23 +80,25 @@ def program(pytestconfig, lacking):
 
 
 @pytest.fixture
-def room(pytestconfig):
+def room(tmp_path):
     """A folder of this test. At its end it is removed, with the processes that are in it or name it."""
-    folder = pathlib.Path(tempfile.mkdtemp(prefix="test-", dir=pytestconfig.folder))
-    yield folder
-    clear(folder)
+    yield tmp_path
+    clear(tmp_path)
 
 
 @pytest.fixture(scope="session")
-def once(pytestconfig):
+def once(tmp_path_factory, worker_id):
     """A function that gives what a call makes in a folder that it is given, once for all tests of a run, also if they run side by side."""
+    of_run = tmp_path_factory.getbasetemp()
+    of_run = of_run if worker_id == "master" else of_run.parent
+
     def made(make, *further):
-        kept = pytestconfig.folder / f"{make.__module__}.{make.__qualname__}"
+        kept, folder = of_run / f"{make.__qualname__}.kept", of_run / make.__qualname__
         with open(f"{kept}.lock", "w") as lock:
             fcntl.flock(lock, fcntl.LOCK_EX)
             if not kept.exists():
-                folder = tempfile.mkdtemp(prefix="once-", dir=pytestconfig.folder)
-                kept.write_bytes(pickle.dumps(make(pathlib.Path(folder), *further)))
+                folder.mkdir()
+                kept.write_bytes(pickle.dumps(make(folder, *further)))
             return pickle.loads(kept.read_bytes())
 
     return made

@@ -3,12 +3,13 @@
 `replay` of each NAME.schedule prints NAME.report, and `check` of each report prints `ok`. Of a file that refused-files.txt names, what
 stands there is seen instead, and no report is printed. `example NAME` prints the schedule of each classic interleaving as its file has it,
 and `example --broken NAME` its broken report, if it has one. How the calls of a broken list show what it lacks is compared by
-page/tests/break_it.js."""
+page/tests/break_it.js. And README, the pages of docs/ and two others show what the commands print that stand there (harness/pages.py)."""
 
 import re
 
 import lists
 import pytest
+from harness import pages
 from harness.programs import TOP, ran
 
 EXAMPLES = TOP / "examples" / "schedules"
@@ -20,6 +21,14 @@ LACKING = re.compile(r"^- `([a-z-]+)` \(([a-z-]+)\): (.*)$", re.M)
 EXPLAINED = "he order is refused, and another order explains the calls."
 INTRODUCTION, *SECTIONS, BROKEN = re.split(r"^## ", (TOP / "docs" / "CLASSIC.md").read_text(), flags=re.M)
 NAMES = [section.split()[0] for section in SECTIONS]
+
+
+SHOWN = [pytest.param(page, steps, id=f"{page.relative_to(TOP)}:{number}") for page in pages.OTHER_PAGES for number, steps in pages.tests_shown(page)]
+
+
+@pytest.mark.parametrize("page, steps", SHOWN)
+def test_commands_print_what_the_page_shows(page, steps, program, room):
+    pages.print_what_the_page_has(page, steps, program, room)
 
 
 def lines_of(*words, text="", status=0):

@@ -1,14 +1,12 @@
 """What programs print if an allocation fails: each in turn, one a run.
 
-`tests/harness/fail_allocation.c`, which the toolchain's own clang compiles, refuses the block of memory of one number, and overwrites what
-is freed, so that a read of it shows. A run that does not end within 5 seconds of a processor, or 300 in all, fails.
-
+`tests/harness/fail_allocation.c` refuses the block of memory of one number, and overwrites what is freed, so that a read of it shows.
 The program says that it is out of memory and prints nothing else (but `trace`, which prints its events as they are made);
 or does as ever, where std asks for less room than it guessed at first. An error for whose line there is no memory has its status.
 
-CALLS is the program of crates/memory_calls. It makes calls of the libraries one by one, and takes blocks before
-its first call, as many as its input says: the fewer they are, the later is the block that is refused. It fails where a call answers
-anything but an allocation failure (or that a thread was refused), or what it answers with memory, or, made again, not that.
+CALLS is the program of crates/memory_calls. It makes calls of the libraries one by one, and takes blocks before its first call, as many
+as its input says. It fails where a call answers anything but an allocation failure (or that a thread was refused), or what it answers with
+memory, or, made again, not that.
 """
 
 import functools
@@ -43,12 +41,6 @@ example --broken stale-pred
 """
 
 LAST_CALL = "still to be refused"
-# The calls that do not allocate: in the name of each the program takes a block
-WITHOUT_ALLOCATION = {
-    "World::step", "History::end", "LiveSet::add", "LiveSet::remove", "LiveSet::contains", "LiveSet::ceiling",
-    "LiveSet::contains_now", "LiveSet::call_within", "LiveSet::receipt", "LiveSet::copied", "LiveSet::after",
-    "LiveSet::gather", "LiveSet::close", "Seat::add", "Seat::remove", "Seat::contains", "Seat::ceiling", "session",
-}
 BACK = "work (Memory, all comes back)"
 
 
@@ -132,4 +124,3 @@ def test_each_block_of_the_calls(once, lacking):
         lacking(f"{CALLS.relative_to(TOP)} is missing: tests/unproved memory_calls builds it")
     calls = answers(CALLS, once(refuser))
     assert {name for name in calls if name.startswith("work (Memory")} == {BACK}
-    assert WITHOUT_ALLOCATION <= {*calls}

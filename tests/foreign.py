@@ -12,8 +12,7 @@ import warnings
 
 import pytest
 
-from harness import same_output
-from harness.programs import LONG, QUICK_CARGO, TOP, ran, well
+from harness.programs import KINDS, LONG, QUICK_CARGO, TOP, ran, well
 from judge_in_a_test import FORMS, go_words
 
 FOREIGN, EXAMPLES = TOP / "foreign", TOP / "examples" / "schedules"
@@ -25,10 +24,6 @@ MEMORY, RACES = "-fsanitize=address,undefined", "-fsanitize=thread"
 WRAPPED = [f"-Wl,--wrap={it}" for it in ("malloc", "realloc", "free")]
 
 
-def texts():
-    return [*sorted(EXAMPLES.glob("*.schedule")), *sorted(EXAMPLES.glob("*.report"))]
-
-
 class InstalledLibraries:
     """The libraries as they are installed, and a room for what is made of them."""
 
@@ -38,8 +33,7 @@ class InstalledLibraries:
 
     def proof(self):
         """What the library says of its proof."""
-        is_unproved = "without a proof" in (self.library / "pkgconfig" / "listset.pc").read_text()
-        return "proof missing" if is_unproved else "proof checked"
+        return "proof missing" if "without a proof" in (self.library / "pkgconfig" / "listset.pc").read_text() else "proof checked"
 
     def works(self, sanitizer):
         """Whether the compiler and this machine have a sanitizer."""
@@ -101,14 +95,34 @@ def test_a_reply_is_no_condition_and_no_fault(wrong):
     assert ran(*words, text=program % wrong).returncode > 0
 
 
+OF_BOTH = ["show", "show --svg", "show --from 2 --to 9 --width 60"]
+OF_TEXTS = {
+    "examples/schedules/**/*.schedule": ["replay", "trace", "trace --chain", *OF_BOTH],
+    "examples/schedules/**/*.report": ["check", *OF_BOTH],
+    "tests/transcripts/data/recorded/*.calls": ["judge"],
+    "tests/transcripts/data/drafts/*.draft": ["draft"],
+}
+
+
+def words_of_program(program):
+    """Words of the program: on texts of each kind, names, and values."""
+    yield from (f"{words} {file}" for pattern, all_words in OF_TEXTS.items() for file in sorted(TOP.glob(pattern)) for words in all_words)
+    names = [line.split()[0] for line in ran(program, "example").stdout.splitlines()]
+    yield from (f"example{broken} {name}" for name in [*names, "no-such-name"] for broken in ("", " --broken"))
+    yield from (f"gen {kind} 3 4 9 5 1" for kind in [*KINDS, "no-such-list"])
+    yield from ("example", "faults", "gen lazy 2", "replay no-such-file", "show --from 0")
+
+
 @needs("gcc")
 def test_words(installed, program):
-    """A program in C has the bytes and statuses of the program on the words of same_output, by each library."""
-    shared, run_path = installed.room / "shared", f"-Wl,-rpath,{installed.library}"
+    """A program in C, over each of the libraries, has the bytes and the statuses of the program."""
+    static, shared, run_path = installed.built("words.c"), installed.room / "shared", f"-Wl,-rpath,{installed.library}"
     well("gcc", "-std=c11", *WARN, installed.include, TESTS / "words.c", f"-L{installed.library}", "-llistset", run_path, "-o", shared)
-    forms = [same_output.Form(it) for it in (program, installed.built("words.c"), shared)]
-    for words in same_output.WORDS:
-        same_output.print_the_same(words, *forms)
+    text = (EXAMPLES / "snip.schedule").read_bytes()
+    for words in words_of_program(program):
+        due, *found = [ran(it, *words.split(), text=text) for it in (program, static, shared)]
+        for it in found:
+            assert (it.stdout, it.stderr, it.returncode) == (due.stdout, due.stderr, due.returncode), words
 
 
 @needs("gcc")
@@ -116,7 +130,7 @@ def test_threads(installed):
     """The judge in eight threads."""
     for flags in ([], [MEMORY], [RACES]):
         if all(map(installed.works, flags)):
-            well(installed.built("threads.c", *flags), *texts())
+            well(installed.built("threads.c", *flags), *sorted(EXAMPLES.glob("*.schedule")), *sorted(EXAMPLES.glob("*.report")))
 
 
 @needs("gcc")

@@ -1,6 +1,5 @@
-"""What `judge` says of recordings beside a search of all orders: its verdict, and which key and moment it names. Of a text with an error it
-names the line and the cause that a reader in Python finds; and it says so whatever the pieces are in which the text comes. `--few` tries a tenth of
-the texts.
+"""What `judge` says of recordings beside a search of all orders: its verdict, and which key and moment it names, whatever the pieces are in
+which the text comes. `--few` tries a tenth of the texts.
 """
 
 import collections
@@ -16,7 +15,6 @@ from harness.set_model import CHANGES, SetModel, reply_of
 TEXTS, SEEDS = 100, range(1, 5)  # of each seed; --few: 10
 THREADS, KEYS = 4, 3
 LAST = 2**63 - 1
-LONGEST_LINE = 128
 MOST_SHOWN, MOST_DRAWN = 16, 6
 TITLE = "listset-calls 1"
 
@@ -192,102 +190,6 @@ def test_a_verdict_and_what_is_said_of_it(program, few, seed):
         found["right" if not is_refused else "by a moment" if judged.moment else "left wrong"] += 1
     assert few or min(found[it] for it in ("right", "left wrong", "by a moment")) >= TEXTS // 10, found
     assert found["without a window"] <= 1, found
-
-
-# ---- errors
-
-def number_in(least, most, piece):
-    if not re.fullmatch("0|[1-9][0-9]*", piece) or not least <= int(piece) <= most:
-        raise ValueError(piece)
-    return int(piece)
-
-
-def call_of(pieces):
-    _, thread, word, key, begin, end, reply = pieces
-    end, reply = (None, None) if reply == "-" else (number_in(1, LAST, end), reply)
-    return Call(number_in(0, 2**32 - 1, thread), word, number_in(0, 2**32 - 1, key), number_in(1, LAST, begin), end, reply)
-
-
-def is_form(line, section):
-    """Whether a line may come in a text that has come to a section, by its pieces and words."""
-    pieces = line.split(" ")
-    if len(line.encode()) > LONGEST_LINE or section == "done":
-        return False
-    if pieces[0] == "call":
-        return (section in ("opening", "call") and len(pieces) == 7 and pieces[2] in ("add", "remove", "contains")
-                and (pieces[5:] == ["-", "-"] or pieces[6] in ("true", "false")))
-    if pieces[0] == "opening":
-        return section == "opening" and len(pieces) == 2
-    return line == "end" or (line == "cut" and section != "key") or (pieces[0] == "key" and len(pieces) == 2)
-
-
-def is_history(calls, made):
-    """Whether a call may follow these."""
-    if made.end is not None and made.end <= made.begin:
-        return False
-    moments = {made.begin, made.end} - {None}
-    return all(it.begin < made.begin and not moments & {it.begin, it.end}
-               and (it.thread != made.thread or (it.end is not None and it.end < made.begin)) for it in calls)
-
-
-def fault_of(text):
-    """The first fault of a text, or nothing."""
-    *lines, rest = text.split("\n")
-    section, calls, last = "opening", [], {"opening": -1, "key": -1}
-    for line_number, line in enumerate(lines[1:], 2):
-        word = line.split(" ")[0]
-        if not is_form(line, section):
-            return line_number, "Line"
-        section = {"end": "done", "cut": "done"}.get(word, word)
-        try:
-            if word == "call":
-                made = call_of(line.split(" "))
-                if not is_history(calls, made):
-                    return line_number, "History"
-                calls.append(made)
-            elif word in last:
-                key = number_in(0, 2**32 - 1, line.split(" ")[1])
-                if key <= last[word]:
-                    return line_number, "Opening"
-                last[word] = key
-        except ValueError:
-            return line_number, "Number"
-    return None if section == "done" and not rest else (len(lines) + 1, "NotEnded")
-
-
-PIECES = ["0", "1", "2", "7", "-", "05", "+1", "", "true", "false", "full", "at-1", "add", "ceiling", "call", "key", "opening", "end", "cut",
-          str(2**32 - 1), str(2**32), str(LAST), str(LAST + 1), "9" * 30, "9" * 120, "x" * 200]
-
-
-def damaged(rng, text):
-    """The text with something changed: a piece, a line that is left out, twice there or elsewhere, or bytes at its end."""
-    lines = text.split("\n")
-    at = rng.randrange(1, len(lines))
-    how = rng.randrange(6)
-    if how < 3:
-        pieces = lines[at].split(" ")
-        pieces[rng.randrange(len(pieces))] = rng.choice(PIECES)
-        lines[at] = " ".join(pieces)
-    elif how == 3:
-        del lines[at]
-    elif how == 4:
-        lines.insert(at, rng.choice(lines[1:]))
-    else:
-        return text[:rng.randrange(len(TITLE) + 1, len(text) + 1)]
-    return "\n".join(lines)
-
-
-@pytest.mark.parametrize("seed", SEEDS)
-def test_the_first_fault_is_named(program, few, seed):
-    rng, found = random.Random(seed), set()
-    for _ in range(TEXTS // 10 if few else TEXTS):
-        calls, opening, keys = drawn(rng, rng.randrange(1, 12))
-        text = damaged(rng, text_of(calls, opening, None if rng.random() < 0.3 else keys))
-        fault, done = fault_of(text), ran(program, "judge", text=text)
-        assert done.stderr == (f"listset: line {fault[0]}: {fault[1]}\n" if fault else ""), text
-        assert not fault or (done.returncode, done.stdout) == (1, ""), text
-        found.add(fault and fault[1])
-    assert few or len(found) >= 6, f"the causes are {found}"
 
 
 # ---- pieces

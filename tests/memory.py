@@ -7,11 +7,10 @@ server that has served a thousand sessions, and many calls, has at no time had m
 import contextlib
 import pathlib
 import re
-import socket
 
 import pytest
-
-from harness.programs import printed, ran
+from at_sizes import recording_of
+from harness.programs import ran, well
 from harness.serve_client import SOON, asks, resets, serving
 
 LITTLE = 7_000  # kilobytes: the program takes 4,000 for itself and the C library, and up to 800 for what it holds
@@ -27,34 +26,18 @@ def printed_within(kilobytes, program, *words, text=b""):
 
 # ---- long recordings
 
-ROUNDS, KEYS = 80_000, 120
-# Of each call of a round its thread, its word, which of two keys, when it begins and ends, and its reply
-CALLS_OF_ROUND = [
-    (0, "add", 0, 1, 4, "true"), (1, "contains", 0, 2, 6, "true"), (2, "add", 0, 3, 5, "false"), (0, "contains", 0, 7, 8, "true"),
-    (1, "remove", 0, 9, 12, "true"), (2, "remove", 0, 10, 14, "false"), (0, "contains", 0, 11, 13, "true"),
-    (2, "contains", 0, 15, 16, "false"), (0, "add", 1, 17, 18, "true"), (1, "remove", 1, 19, 20, "true"),
-]
-MOMENTS_OF_ROUND = 20
+CALLS, KEYS = 800_000, 120
 
 
-def round_of(number):
-    """The lines of a round: changes, calls that change nothing, and looks that find the key or not, of which some overlap; of three threads
-    that make no others."""
-    thread, key, before = 100 + 3 * number, number % KEYS, 1 + MOMENTS_OF_ROUND * number
-    return "".join(f"call {thread + of} {word} {key + KEYS * second} {before + begin} {before + end} {reply}\n"
-                   for of, word, second, begin, end, reply in CALLS_OF_ROUND)
-
-
-def test_recordings(program, room):
+@pytest.mark.parametrize("threads, at_once", [(4, True), (CALLS // 4, False)])
+def test_recordings(program, room, threads, at_once):
     """`judge` keeps nothing of a call that has ended but the state of its key, nor of its thread, be it read from a file or from the input."""
+    of_key = ("add", "true"), ("contains", "true"), ("add", "false"), ("remove", "true"), ("remove", "false")
+    calls = [(word, number % KEYS, reply) for number in range(CALLS // len(of_key)) for word, reply in of_key]
     file = room / "long.calls"
-    with open(file, "w", encoding="ascii") as out:
-        out.write("listset-calls 1\nopening 4294967295\ncall 9 remove 4294967295 1 - -\n")
-        out.writelines(map(round_of, range(ROUNDS)))
-        out.write("end\n")
+    file.write_text(recording_of([], calls, [], threads, at_once))
     for words, given in (((file,), b""), ((), file.read_bytes())):
-        said = printed_within(LITTLE, program, "judge", *words, text=given)
-        assert said.startswith(b"ok %d calls\n" % (1 + ROUNDS * len(CALLS_OF_ROUND)))
+        assert printed_within(LITTLE, program, "judge", *words, text=given).startswith(b"ok %d calls\n" % CALLS)
 
 
 # ---- events
@@ -80,7 +63,7 @@ def events_of(schedule):
                                    "show --lacks mark-in-contains --from 400000"])
 def test_events(program, words):
     """Commands that make or execute hundreds of thousands of events, also on a broken list: what `trace` prints has tens of megabytes."""
-    schedule = printed(program, "draft", text=long_walks())
+    schedule = well(program, "draft", text=long_walks())
     many = events_of(schedule)
     assert many > 400_000  # (of which a picture has few from there on)
     said = printed_within(LITTLE, program, *words.split(), text=long_walks() if words == "draft" else schedule)
@@ -102,8 +85,8 @@ def test_rounds(program):
 
 # ---- a server
 
-SEATS, CALLS = 4, 2_000  # (calls of a session that sends them at once)
-FEW, MANY, LONG_LINES = 60, 300, 9  # rounds of sessions, before the memory is looked at and after that; and sessions
+SEATS, CALLS_AT_ONCE = 4, 2_000
+FEW, MANY, LONG_LINES = 90, 450, 9  # rounds of sessions, before the memory is looked at and after that; and sessions
 GROWTH = 1_000  # kilobytes: a page for each session of MANY rounds would be 3,600, and eight bytes for each call 4,800
 
 
@@ -113,14 +96,7 @@ def most_resident(server):
 
 
 def sends_all_at_once(connection):
-    asks(connection, b"CONTAINS 7\n" * CALLS + b"QUIT\n", b"FALSE\n" * CALLS + b"BYE\n")
-
-
-def sends_bytes(connection):
-    connection.setsockopt(socket.IPPROTO_TCP, socket.TCP_NODELAY, 1)
-    for byte in b"ADD 7\nREMOVE 7\n":
-        connection.sendall(bytes([byte]))
-    asks(connection, b"QUIT\n", b"TRUE\nTRUE\nBYE\n")
+    asks(connection, b"CONTAINS 7\n" * CALLS_AT_ONCE + b"QUIT\n", b"FALSE\n" * CALLS_AT_ONCE + b"BYE\n")
 
 
 def goes_away(connection):
@@ -134,8 +110,8 @@ def sends_a_long_line(connection):
         connection.sendall(b"?" * 4_000_000)
 
 
-SESSIONS = [sends_all_at_once, sends_bytes, goes_away]
-CALLS_OF_SESSIONS = CALLS + 2 + 2
+SESSIONS = [sends_all_at_once, goes_away]
+CALLS_OF_SESSIONS = CALLS_AT_ONCE + 2
 
 
 def serves(server, sessions):

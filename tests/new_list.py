@@ -2,27 +2,20 @@
 build/new_list makes a copy, writes it there, and says what is left. What it makes is proved by ./gate, of examples/lists."""
 
 import re
-import shutil
 
 import lists
 import pytest
-from harness.programs import TOP, ran, well
+from harness.programs import ran, well
+from scripts import copied
 
 KINDS = [it.word for it in lists.lists()]
 PLACES = {**lists.CODE, **lists.TEXTS}
 
 
 @pytest.fixture
-def copy(tmp_path):
+def copy(room):
     """A repository with what new_list reads and writes."""
-    for path in ["build", "crates.txt", "examples/lists", *PLACES, *(f"crates/{it.crate}" for it in lists.lists())]:
-        to = tmp_path / "copy" / path
-        to.parent.mkdir(parents=True, exist_ok=True)
-        if (TOP / path).is_dir():
-            shutil.copytree(TOP / path, to, ignore=shutil.ignore_patterns("out", "__pycache__"), dirs_exist_ok=True)
-        else:
-            shutil.copy(TOP / path, to)
-    return tmp_path / "copy"
+    return copied(["build", "crates.txt", "examples/lists", *PLACES, *(f"crates/{it.crate}" for it in lists.lists())], room / "copy")
 
 
 def code_in(crate):
@@ -52,13 +45,6 @@ def test_a_joined_list_lacks_only_what_is_written_by_hand(copy):
     assert len(lists.TEXTS) <= 8
     assert "const KIND: Kind = Kind::OneMore;" in code_in(copy / "crates/lset_one_more")
     assert [ran(copy / "build/new_list", "--left", it).returncode for it in KINDS] == [0] * len(KINDS)
-
-
-def test_the_patch_of_each_exercise_applies_to_the_copy_that_its_page_makes(copy):
-    lists.add_exercises(copy)
-    added = [it for it in lists.lists(copy) if it.word not in KINDS]
-    assert [it.word for it in added] == sorted(it.stem for it in (TOP / "examples/lists").glob("*.patch"))
-    assert all(f"pub {it.table}_lawful : Lawful {it.table}" in code_in(copy / "crates" / it.crate) for it in added)
 
 
 @pytest.mark.parametrize("words", [[], ["lazy", "lazy"], ["lazy", "../x"], ["no-list", "x"], ["--check", "no-list"], ["--join", "lazy"]])

@@ -1,5 +1,5 @@
 """The first error of texts of each kind: of each text in a table, and of each front of a text. The program writes one line about it,
-nothing else, and ends with status 1. (judging.py has those of recordings.)"""
+nothing else, and ends with status 1."""
 
 import re
 
@@ -14,6 +14,7 @@ READERS = {
     "draft": ("draft", "listset-draft 2\nlist coarse\nthreads 2\nquota 1\n"),
     "report": ("check", "listset-report 1\nlist coarse\nthreads 2\nquota 4\n"),
     "report 2": ("check", "listset-report 2\nlist coarse\nthreads 1\nquota 1\n"),
+    "recording": ("judge", "listset-calls 1\n"),
     "keys": ("serve lazy 1 4 0 0 -", ""),
 }
 # A kind of text, the number of a line and its cause; then texts with that first error: their lines, with an end of line between two (\n)
@@ -21,13 +22,9 @@ TABLE = r"""
 schedule: line 5: Event | take 0 5\n | go  0 1\n | begin 0 add\n | opening 5\n
 schedule: line 5: Number | begin 0 add 05\n | begin 0 add 4294967296\n | go 0 0\n | go 0 10001\n
 schedule: line 5: NoThread | begin 64 add 5\n
-schedule: line 5: Idle | go 0 1\n | go 0 10000\n
 schedule: line 6: Idle | begin 0 add 5\ngo 0 8\n | begin 0 add 5\ngo 0 10000\n
 schedule: line 6: Busy | begin 0 add 5\nbegin 0 add 6\n
 schedule 2: line 5: Event | opening 5 6\n | opening\n | opened 5\n
-schedule 2: line 5: Number | opening 05\n | opening \n
-schedule 2: line 6: Event | begin 0 add 1\nopening 5\n
-schedule 2: line 6: Number | opening 5\nopening 4294967296\n | opening 5\ngo 0 0\n
 schedule 2: line 6: Opening | opening 9\nopening 5\n | opening 5\nopening 5\ngo 0 0\n
 draft: line 5: Event | go 0 into 4\n
 draft: line 5: Number | go 0 past\n | go 0 to 0\n | go 0 to 256\n | go x out\n
@@ -40,14 +37,17 @@ draft: line 8: Waits | begin 0 add 5\ngo 0 to 2\nbegin 1 add 5\ngo 1 out\n
 report: line 5: Line | call 0 0 add 5 1 8 done\n | call 0 0 add 5 1 shut\n | opening 5\n
 report: line 5: Number | call 0 0 add 5 0 open\n | call 0 0 add 5 1 4294967296 true\nend\n | place 4294967296 true\n
 report: line 5: History | call 1 0 add 5 1 8 true\n | call 0 2 add 5 1 8 true\n | call 0 0 add 5 8 8 true\n
-report: line 6: Line | key 6\nplace 0 true\n | end\nend\n
-report: line 6: History | call 0 0 add 5 1 3 true\ncall 1 1 add 5 2 3 true\n | call 0 0 add 5 1 3 true\ncall 1 1 add 5 3 4 true\n
-report: line 6: History | call 0 0 add 5 1 3 true\ncall 1 1 add 5 1 4 true\n | call 0 0 add 5 1 3 true\ncall 1 0 add 5 2 4 true\n
-report: line 6: History | call 0 0 add 5 1 open\ncall 1 0 add 5 2 4 true\n
-report 2: line 5: Line | opening 5 6\n
-report 2: line 5: Number | opening 4294967296\n
+report: line 6: History | call 0 0 add 5 1 3 true\ncall 1 1 add 5 2 3 true\n | call 0 0 add 5 1 open\ncall 1 0 add 5 2 4 true\n
 report 2: line 6: Line | call 0 0 add 1 1 8 true\nopening 5\n | key 5\nopening 5\n | end\nopening 5\n
 report 2: line 6: Opening | opening 9\nopening 5\n | opening 5\nopening 5\nend\n
+recording: line 2: Line | call 0 insert 5 1 2 true\n | call 0 add 5 1 2\n | call 0 add 5 1 2 done\n | opening 5 6\n | key\n | \n | cut off\n
+recording: line 2: Number | call 0 add 05 1 2 true\n | call 0 add 5 1 - true\n | call 0 add 5 0 2 true\n | call 4294967296 add 5 1 2 true\n | opening x\n
+recording: line 2: Number | call 0 add 5 1 9223372036854775808 true\n | call 0 add 4294967296 1 - -\n | key 4294967296\nend\n
+recording: line 2: History | call 0 add 5 2 2 true\n | call 0 add 5 3 2 true\n
+recording: line 3: History | call 0 add 5 1 4 true\ncall 0 add 5 2 5 true\n | call 0 add 5 2 4 true\ncall 1 add 5 1 5 true\n
+recording: line 3: History | call 0 add 5 1 4 true\ncall 1 add 5 2 4 true\n | call 0 add 5 1 - -\ncall 0 add 5 2 3 true\n
+recording: line 3: Opening | opening 5\nopening 5\n | opening 5\nopening 4\n | key 5\nkey 4\n
+recording: line 3: Line | end\nend\n | cut\nend\n | key 5\ncut\n | key 5\ncall 0 add 5 1 2 true\n | call 0 add 5 1 2 true\nopening 5\n
 keys: line 1: Line | \n | key\n | key 1 2\n | key  1\n | Key 1\n | keys 1\n | listening\nkey 1\n | sessions 1 2\n
 keys: line 1: Number | key \n | key 01\n | key +1\n | key x\n | key 1\r\n | key 4294967296\n
 keys: line 2: Line | key 1\n\nkey 2\n | key 1\nkeys 2\n | sessions 1\nsessions 1\n | sessions 2\nlistening a\nkey 1\n
@@ -56,20 +56,7 @@ keys: line 2: Opening | key 5\nkey 5\n | key 5\nkey 4\nkey x\n
 keys: line 4: Opening | sessions 1\ncalls 2\nkey 3\nkey 2\n
 keys: line 5: Opening | listening a\nsessions 1\ncalls 2\nkey 3\nkey 3\n
 """
-# By the number of whole lines, what a text of each kind lacks then; with more, what a text with an end lacks
-HEADER = ["Header", "Kind", "Threads", "Quota"]
-# Texts: the command that reads each, the causes of those that lack a line of the front, and whether it needs an end
-FRONTS = {
-    "schedules/add.schedule": ("trace", HEADER, False),
-    "schedules/passing.schedule": ("trace", HEADER, False),
-    "versions/marked.schedule": ("trace", HEADER, False),
-    "opening-keys/renewed.schedule": ("trace", HEADER, False),
-    "drafts/opens-with-keys.draft": ("draft", HEADER, False),
-    "reports/added.report": ("check", HEADER, True),
-    "versions/marked.report": ("check", HEADER, True),
-    "opening-keys/renewed.report": ("check", HEADER, True),
-    "recorded/seen.calls": ("judge", HEADER[:1], True),
-}
+HEADER = ["Header", "Kind", "Threads", "Quota"]  # what a text lacks, by the number of its whole lines
 
 
 def rows():
@@ -109,26 +96,21 @@ def test_the_first_error_of_a_header(program, title, words):
         refused(program, words, "".join(f"{it}\n" for it in header), f"line {line}: {HEADER[line - 1]}")
 
 
-@pytest.mark.parametrize("file", FRONTS)
-def test_each_front_of_a_text(program, file):
-    """A front that ends within a line is not ended there. One that ends with a line lacks the next of the header, or the end, or is read."""
-    words, header, has_end = FRONTS[file]
-    text = (DATA / file).read_text()
-    for bytes_read in range(len(text)):
-        front = text[:bytes_read]
+def test_each_front_of_a_draft(program):
+    """A front that ends within a line is not ended there. One that ends with a line lacks the next of the header, or is read."""
+    text = (DATA / "drafts/opens-with-keys.draft").read_text()
+    for front in (text[:at] for at in range(len(text))):
         lines = front.count("\n")
-        is_ended = not front or front.endswith("\n")
-        if is_ended and lines < len(header):
-            refused(program, words, front, f"line {lines + 1}: {header[lines]}")
-        elif has_end or not is_ended:
-            refused(program, words, front, f"line {lines + 1}: NotEnded")
+        if front[-1:] not in ("", "\n"):
+            refused(program, "draft", front, f"line {lines + 1}: NotEnded")
+        elif lines < len(HEADER):
+            refused(program, "draft", front, f"line {lines + 1}: {HEADER[lines]}")
         else:
-            assert "listset: line" not in ran(program, words, text=front).stderr
+            assert "listset: line" not in ran(program, "draft", text=front).stderr
 
 
-@pytest.mark.parametrize("text", ["key 1\nkey 22\n", "listening 127.0.0.1:4711\nsessions 3\ncalls 2\nkey 7\n"])
-def test_each_front_of_keys(program, text):
-    for bytes_read in range(1, len(text)):
-        front = text[:bytes_read]
-        if not front.endswith("\n"):
-            refused(program, "serve lazy 1 4 0 0 -", front, f"line {front.count(chr(10)) + 1}: NotEnded")
+@pytest.mark.parametrize("words, front", [("check", "listset-report 1\nlist lazy\nthreads 1\nquota 1\n"), ("judge", "listset-calls 1\n"),
+                                          ("judge", "listset-calls 1\ncall 0 add 5 1 2 true\n"), ("serve lazy 1 4 0 0 -", "key 1\nkey 2"),
+                                          ("serve lazy 1 4 0 0 -", "sessions 3\ncalls 2\nkey 7"), ("replay", "listset-schedule 1\nlist")])
+def test_a_text_without_its_end(program, words, front):
+    refused(program, words, front, f"line {front.count(chr(10)) + 1}: NotEnded")

@@ -7,11 +7,11 @@ import re
 import shutil
 import signal
 import subprocess
+import sys
 import time
 
 import pytest
-from harness.programs import LONG, SECONDS, TOP, comes, is_running, left_of, ran, wants, well
-from harness.small_clone import bare_path, small_clone
+from harness.programs import LONG, SECONDS, TOP, comes, is_running, ran, wants, well
 
 BUILDING, KEPT, BY_NODE = "building the program once WITHOUT A PROOF", "without a proof", "by the page's engine in node"
 # of each word one more than the byte that its length has: of "show" that is past the greatest byte, and "replay" has none
@@ -31,12 +31,39 @@ fn main(rt: HostRuntime) -> io::Result<()> {
 TEXTS = {"crates.txt": "ffi_page staticlib:\nlistset:\n", "crates/ffi_page/src/lib.rt": "//! Nothing.\n", "crates/listset/src/main.rt": MAIN}
 
 
+# What the scripts may call of the system without saying that it is missing
+COMMANDS = "awk bash cat chmod cp cut date dirname env find grep mv readlink rm sed sh sha256sum sleep sort touch xargs".split()
+
+
+def bare_path(folder, *further):
+    """A folder to be PATH, with Python, COMMANDS, and of further commands those that are installed."""
+    folder.mkdir()
+    (folder / "python3").symlink_to(os.path.realpath(sys.executable))
+    for it in filter(shutil.which, [*COMMANDS, *further]):
+        (folder / it).symlink_to(shutil.which(it))
+    return folder
+
+
+def copied(parts, to):
+    """A folder with these folders and files of the repository, without what is built."""
+    for part in parts:
+        (to / part).parent.mkdir(parents=True, exist_ok=True)
+        if (TOP / part).is_dir():
+            shutil.copytree(TOP / part, to / part, symlinks=True, ignore=shutil.ignore_patterns("__pycache__", "out"))
+        else:
+            shutil.copy(TOP / part, to / part)
+    return to
+
+
 class Clone:
     """A small clone, and a PATH with few commands."""
 
     def __init__(self, room, *commands):
         self.tree, self.path = room / "tree", bare_path(room / "path", *commands)
-        small_clone(self.tree, ["build", "page", "tests/transcripts", "listset", "HANDLES"], TEXTS)
+        copied(["build", "page", "tests/transcripts", "listset", "HANDLES"], self.tree)
+        for path, text in TEXTS.items():
+            (self.tree / path).parent.mkdir(parents=True, exist_ok=True)
+            (self.tree / path).write_text(text)
         self.main, out = self.tree / "crates/listset/src/main.rt", self.tree / "crates/listset/out"
         self.proved, self.kept = out / "listset", out / "unproved"
         self.how = {"cwd": self.tree, "env": {**os.environ, "PATH": str(self.path), "TMPDIR": str(room)}}
@@ -90,22 +117,10 @@ def test_the_proved_program_is_taken_unless_a_source_is_younger(room):
     wants(clone.ran(room / "listset", "check"), output="proved: check\n")
 
 
-def interrupt(clone, room):
-    """Ends a build in the middle by Ctrl-C: it leaves no process, and no file that another build would meet."""
-    how = {**clone.how, "stdin": subprocess.DEVNULL, "stdout": subprocess.PIPE, "stderr": subprocess.STDOUT}
-    building = subprocess.Popen(["./listset", "gen"], start_new_session=True, **how)
-    comes((clone.kept / "room/toolchain/bin/clang").exists, "a build")
-    os.killpg(building.pid, signal.SIGINT)
-    building.communicate(timeout=SECONDS)
-    comes(lambda: not left_of(room), "the end of all that was started")
-    assert (building.returncode, [it.name for it in clone.kept.iterdir()]) == (130, ["lock"])
-
-
 @pytest.mark.needs("rt")
 def test_the_program_is_built_once_of_the_sources_as_they_are(room):
     clone = Clone(room)
     (clone.path / "rt").symlink_to(pathlib.Path(shutil.which("rt")).resolve())
-    interrupt(clone, room)
     wants(clone.ran("./listset", "gen", "check"), output="4\n6\n", tells=[BUILDING, "built in"])
     clone.main.touch()
     wants(clone.ran("./listset", "gen"), output="4\n", tells=[KEPT], no=[BUILDING])
@@ -155,7 +170,7 @@ def test_a_proof_that_is_ended_leaves_nothing(room, words):
 
 def test_crates_are_taken_and_taken_again(room):
     there = room / "there"
-    here = small_clone(room / "here", ["build", "crates.txt", "HANDLES", "crates/lset_history", "crates/lset_words"])
+    here = copied(["build", "crates.txt", "HANDLES", "crates/lset_history", "crates/lset_words"], room / "here")
     wants(ran(here / "build/take", there, "lset_history"), output="took: lset_words\ntook: lset_history\n2 crates are there as here\n")
     assert {it.split(":")[0] for it in (there / "crates.txt").read_text().splitlines()} == {"lset_history", "lset_words"}
     (here / "crates/lset_words/src/new.rt").write_text("//! Newer.\n")

@@ -1,13 +1,11 @@
 """The answers of `listset serve` to clients, at once and one after another.
 
-For each list: 63 clients at once, on keys that they share, whose answers have to add up, and on keys of their own, of which each answer is
-known. For one list: 200 clients on 8 seats; one seat and 10,000 clients one after another, with few open files; lines that come in groups
-of any size; a client that reads no answer; and clients that send bytes past the end of their session. On the loopback alone; every wait is
-bounded, and the server is ended by its own number if it does not end.
+On the loopback alone; every wait is bounded, and the server is ended by its own number if it does not end.
 """
 
 import collections
 import contextlib
+import functools
 import random
 import socket
 import struct
@@ -16,7 +14,7 @@ import time
 
 import pytest
 from harness.programs import KINDS
-from harness.serve_client import SECONDS, SOON, Client, Server, answer_of, asks, have_ended, read_all, resets, serving, started
+from harness.serve_client import SECONDS, SOON, Server, asks, read_all, resets, serving, speak_at_once, started
 from harness.set_model import SetModel
 
 pytestmark = pytest.mark.xdist_group("serve")  # (they take turns: each has more clients than there are processors)
@@ -26,7 +24,7 @@ CLIENTS = SEATS - 1
 REQUESTS = 300
 SHARED = 64  # keys; those of a client's own lie above
 ROOM = 16_384
-MANNERS = ["pieces", "bytes", "all at once", "middle of a line", "random bytes", "goes away"]
+MANNERS = ["pieces", "bytes", "all at once", "middle of a line", "random bytes"]
 BEYOND = 100_000
 LATE = 3
 
@@ -34,19 +32,17 @@ LATE = 3
 # ---- many clients at once
 
 
-class Sharing(Client):
+class Sharing:
     """A client with a manner of its own: it sends its requests in pieces of random size, byte by byte, or all before it reads an answer; it
-    ends with QUIT, in the middle of a line, or with bytes at random; or it goes away and leaves its answers unread, of calls that change
-    nothing. `told` has what its calls on shared keys were answered, `own` its own keys.
+    ends with QUIT, in the middle of a line, or with bytes at random. `told` has what its calls on shared keys were answered, `own` its own keys.
 
     (A LockFreeList has no CEILING here: one that meets a marked node starts again until another call walks there.)"""
 
-    def __init__(self, server, number, kind, all_are_served):
-        super().__init__(server)
+    def __init__(self, number, kind, all_are_served):
         self.all_are_served = all_are_served
         self.draw, self.manner = random.Random(f"{kind} {number}"), MANNERS[number % len(MANNERS)]
         self.first_own, self.own, self.told = SHARED * (number + 1), SetModel(), []
-        self.words = ["contains", *["ceiling"] * (kind != "lock-free"), *["add", "remove"] * (self.manner != "goes away")]
+        self.words = ["contains", *["ceiling"] * (kind != "lock-free"), "add", "remove"]
         self.turns = [self.turn() for _ in range(REQUESTS)]
         self.calls = sum(call is not None for _, call, _ in self.turns)
 
@@ -58,15 +54,13 @@ class Sharing(Client):
         key += self.first_own if is_own else 0
         if word == "ceiling":
             return f"CEILING {key}", (word, key), min((it for it in self.own.keys if it >= key), default=None)
-        due = {answer_of(self.own.reply(0, word, key)).decode().strip()} if is_own else {"TRUE", "FALSE"}
+        due = {self.own.reply(0, word, key).upper()} if is_own else {"TRUE", "FALSE"}
         return f"{word.upper()} {key}", (word, key), due
 
     def speak(self, connection):
         asks(connection, b"MOVE 7\n", b"BAD\n")
         self.all_are_served.wait(SOON)
         text = "".join(f"{line}\n" for line, *_ in self.turns).encode()
-        if self.manner == "goes away":
-            return connection.sendall(text)
         last = {"middle of a line": b"ADD 6", "random bytes": self.draw.randbytes(40).replace(b"\n", b"?") + b"\n" + b"x" * 65}.get(self.manner, b"QUIT\n")
         ends = {"middle of a line": [], "random bytes": ["BAD", "LONG"]}.get(self.manner, ["BYE"])
         sender = threading.Thread(target=self.send, args=(connection, text + last), daemon=True)
@@ -99,49 +93,36 @@ def test_clients_at_once(program, kind):
     a seat at once: none goes on before each has its first answer."""
     with serving(program, kind, SEATS, ROOM, CLIENTS + 1) as server, server.connect() as idle:
         all_are_served = threading.Barrier(CLIENTS)
-        clients = [Sharing(server, number, kind, all_are_served) for number in range(CLIENTS)]
-        have_ended(clients)
+        clients = [Sharing(number, kind, all_are_served) for number in range(CLIENTS)]
+        speak_at_once(server, [it.speak for it in clients])
         left = collections.Counter()
         for word, key, answer in (it for client in clients for it in client.told):
             left[key] += {"add": 1, "remove": -1}.get(word, 0) * (answer == "TRUE")
         assert {*left.values()} <= {0, 1}
         keys = {key for key in left if left[key]}.union(*(it.own.keys for it in clients))
         asks(idle, b"QUIT\n", b"BYE\n")
-        unread = sum(it.calls for it in clients if it.manner == "goes away")
         calls = sum(it.calls for it in clients)
-        server.ends(CLIENTS + 1, calls - unread, calls, keys)
+        server.ends(CLIENTS + 1, calls, calls, keys)
 
 
 # ---- more clients than seats
 
 
-class Queued(Client):
-    """A client that waits for a seat. Each tenth resets its connection, with answers that it has not read."""
-
-    LINES = b"ADD {0}\nADD {0}\nREMOVE {0}\nCONTAINS {0}\nADD {0}\nCEILING {0}\nQUIT\n"
-    ANSWERS = b"TRUE\nFALSE\nTRUE\nFALSE\nTRUE\nAT {0}\nBYE\n"
-
-    def __init__(self, server, number):
-        super().__init__(server)
-        self.key, self.resets = number, number % 10 == 0
-        self.manner = f"client {number}" + (" (resets)" if self.resets else "")
-
-    def speak(self, connection):
-        if self.resets:
-            connection.sendall(b"CONTAINS %d\n" % self.key * 3)
-            assert connection.recv(1) == b"F"
-            resets(connection)
-            return
-        asks(connection, *(text.replace(b"{0}", b"%d" % self.key) for text in (self.LINES, self.ANSWERS)))
-
-
 def test_queue(program):
-    """More sessions than seats, threads of a set and waiting places; a session that ends with a fault ends no more."""
+    """More sessions than seats, threads of a set and waiting places; a session that ends with a fault ends no more. Each tenth client resets
+    its connection, with answers that it has not read."""
+    def speak(key, connection):
+        if key % 10 == 0:
+            connection.sendall(b"CONTAINS %d\n" % key * 3)
+            assert connection.recv(1) == b"F"
+            return resets(connection)
+        lines = "ADD {0}\nADD {0}\nREMOVE {0}\nCONTAINS {0}\nADD {0}\nCEILING {0}\nQUIT\n"
+        asks(connection, *(text.format(key).encode() for text in (lines, "TRUE\nFALSE\nTRUE\nFALSE\nTRUE\nAT {0}\nBYE\n")))
+
     sessions = 200
     with serving(program, ONE_LIST, 8, ROOM, sessions) as server:
-        clients = [Queued(server, number) for number in range(sessions)]
-        have_ended(clients)
-        served = [client.key for client in clients if not client.resets]
+        speak_at_once(server, [functools.partial(speak, key) for key in range(sessions)])
+        served = [key for key in range(sessions) if key % 10]
         faulty = sessions - len(served)
         server.ends(sessions, 6 * len(served) + faulty, 6 * len(served) + 3 * faulty, served)
 
@@ -208,18 +189,15 @@ def test_one_seat(program):
 
 
 def test_a_port_that_is_asked_for(program):
-    """A server listens on the port that its words name, which was free just before; another program may take it first."""
-    for _ in range(5):
-        with socket.create_server(("127.0.0.1", 0)) as free:
-            port = free.getsockname()[1]
-        with started(program, "serve", ONE_LIST, 1, ROOM, port, 1) as process:
-            if first := process.stdout.readline():
-                server = Server(process, first)
-                assert server.port == port
-                with server.connect() as connection:
-                    asks(connection, b"CONTAINS 7\nQUIT\n", b"FALSE\nBYE\n")
-                return server.ends(1, 1, 1, [])
-    raise AssertionError("no port was free")
+    """A server listens on the port that its words name, which was free just before."""
+    with socket.create_server(("127.0.0.1", 0)) as free:
+        port = free.getsockname()[1]
+    with started(program, "serve", ONE_LIST, 1, ROOM, port, 1) as process:
+        server = Server(process)
+        assert server.port == port
+        with server.connect() as connection:
+            asks(connection, b"CONTAINS 7\nQUIT\n", b"FALSE\nBYE\n")
+        server.ends(1, 1, 1, [])
 
 
 # ---- lines in groups
@@ -297,40 +275,26 @@ def test_no_answer_is_read(program):
 # ---- bytes past the end of a session
 
 
-class Beyond(Client):
-    """A client that sends all, and bytes past the end of its session, before it reads an answer; it begins to read so many
-    seconds late."""
-
-    def __init__(self, server, manner, lines, answers, late=0):
-        super().__init__(server)
-        self.manner, self.lines, self.answers, self.late = manner, lines, answers, late
-
-    def speak(self, connection):
-        connection.sendall(self.lines + b"?" * BEYOND)
-        time.sleep(self.late)
-        told = read_all(connection)
-        assert told.count(b"\n") == self.answers.count(b"\n")
-        assert told == self.answers
-
-
 def test_bytes_past_the_end(program):
     """Every answer arrives, whatever the client has sent behind its last line. One client reads so late that the server has let
     its connection go: an answer that the system has not handed over by then would be lost with bytes left unread."""
+    def speak(lines, answers, late, connection):
+        connection.sendall(lines + b"?" * BEYOND)
+        time.sleep(late)
+        told = read_all(connection)
+        assert told.count(b"\n") == answers.count(b"\n")
+        assert told == answers
+
     few, many = 100, 100_000
+    short = b"REMOVE 1\n" * few + b"QUIT\n", b"FALSE\n" * few + b"BYE\n"
+    sessions = [(*short, 0), (*short, LATE), (b"REMOVE 1\n" * many + b"QUIT\n", b"FALSE\n" * many + b"BYE\n", 0),
+                (b"REMOVE 1\n" * many + b"?" * 65, b"FALSE\n" * many + b"LONG\n", 0), (b"\n" * 1_000_000, b"BAD\n" * 1_000_000 + b"LIMIT\n", 0)]
     with serving(program, ONE_LIST, 5, ROOM, 10) as server:
-        short = b"REMOVE 1\n" * few + b"QUIT\n", b"FALSE\n" * few + b"BYE\n"
-        clients = [
-            Beyond(server, "QUIT after a few lines", *short),
-            Beyond(server, "the same, read late", *short, late=LATE),
-            Beyond(server, "QUIT after many lines", b"REMOVE 1\n" * many + b"QUIT\n", b"FALSE\n" * many + b"BYE\n"),
-            Beyond(server, "a long line", b"REMOVE 1\n" * many + b"?" * 65, b"FALSE\n" * many + b"LONG\n"),
-            Beyond(server, "a million lines", b"\n" * 1_000_000, b"BAD\n" * 1_000_000 + b"LIMIT\n"),
-        ]
-        have_ended(clients)
+        speak_at_once(server, [functools.partial(speak, *it) for it in sessions])
         with contextlib.ExitStack() as held:  # each seat serves on, whatever the end of its session was
-            for _ in clients:
+            for _ in sessions:
                 connection = held.enter_context(server.connect())
                 connection.settimeout(SOON)
                 asks(connection, b"CONTAINS 1\n", b"FALSE\n")
-        calls = 2 * few + 2 * many + len(clients)
+        calls = 2 * few + 2 * many + len(sessions)
         server.ends(10, calls, calls, [])

@@ -1,14 +1,11 @@
 """How `run` and `serve` end with room for fewer and fewer threads.
 
-A thread needs addresses for its stack, so a limit on the program's addresses (`ulimit -v`) refuses threads: some, or all. The limits go
-down in steps of less than a stack, from one under which all threads start to the least under which the program begins. Under each, `run`
-gives its outcome, or says that a thread or memory was refused; `serve` the same, and its client is served whole or not at all. A limit on
-its files (`ulimit -n`) refuses connections: `serve` says so, and ends.
+A thread needs addresses for its stack, so a limit on the program's addresses (`ulimit -v`) refuses threads: some, or all. Under each limit,
+`run` gives its outcome, or says that a thread or memory was refused; `serve` the same, and its client is served whole or not at all.
 """
 
 import collections
 import re
-import resource
 
 import pytest
 from harness.programs import KINDS, ran
@@ -16,6 +13,7 @@ from harness.serve_client import Server, read_all, started
 
 THREADS, QUOTA, CALLS = 8, 16_384, 50
 FILES = 4  # the streams and the listener
+STACK = 8_192  # KiB of a thread
 REFUSALS = {
     (1, "listset: work: Spawn\n"): "thread refused",
     (1, "listset: serve: Spawn\n"): "thread refused",
@@ -25,7 +23,7 @@ REFUSALS = {
 
 def limited(limit, *words, of="-v"):
     """The words of a command that runs another under a limit: so many KiB of addresses, or so many files."""
-    return ["sh", "-c", f'ulimit {of} "$0" && exec "$@"', str(limit), *map(str, words)]
+    return ["sh", "-c", f'ulimit -s {STACK} && ulimit {of} "$0" && exec "$@"', str(limit), *map(str, words)]
 
 
 def ended_run(program, limit):
@@ -62,17 +60,9 @@ def ended_serve(program, limit):
 
 @pytest.fixture
 def limits(program):
-    """Limits in KiB, down to the least under which the program begins (its loader needs addresses too): half a stack apart, and closer at
-    the end."""
-    stack, _ = resource.getrlimit(resource.RLIMIT_STACK)
-    stack = 8192 if stack == resource.RLIM_INFINITY else stack // 1024
-    limit, found = 4 * (THREADS + 2) * stack, []
-    for step in [stack // 2, stack // 64]:
-        while ran(*limited(limit, program, "example", "full")).returncode == 0:
-            found.append(limit)
-            limit -= step
-        limit = found[-1] - stack // 64
-    return found
+    """Limits in KiB under which the program begins (its loader needs addresses too): half a stack apart, and closer at the end."""
+    limits = [*range(2_000, 12_000, 128), *range(12_000, 4 * (THREADS + 2) * STACK, STACK // 2)]
+    return [it for it in limits if ran(*limited(it, program, "example", "full")).returncode == 0]
 
 
 @pytest.mark.parametrize("way", [ended_run, ended_serve])

@@ -1,13 +1,8 @@
 """What `trace` and `show` print is what models say, written apart from the crates (tests/harness/traces_model.py, pictures_model.py,
-reports_model.py and lists_model.py): no contract speaks of these bytes.
+reports_model.py and lists_model.py): no contract speaks of these bytes. Of an SVG its texts are compared, and how many points and bars it has.
 
-Of each schedule of examples/schedules/, and of 20 that are drawn for each list (--few: 2), with opening keys, ceilings, calls that stay open,
-events that are refused and up to 64 threads: the trace with chains and without, the picture of all moments and of a window, and the
-SVG of both, are those of the model, to the byte (of the SVG its texts, and how many points and bars it has). Some of the pictures are
-drawn at each tenth width from 20 to 200.
-
-So are pictures and SVGs of 100 reports (--few: 10) of calls made at random, most of them damaged, so that each fault of an order is met, and of
-what each broken list makes of 5 schedules (--few: 1), with its traces. Windows and widths are drawn too, and which of these options are given.
+The schedules are those of examples/schedules/, and others drawn at random, of the lists and the broken ones; the reports are of such calls,
+most of them damaged, so that each fault of an order is met. Windows and widths are drawn too, and which of these options are given.
 """
 
 import collections
@@ -15,32 +10,35 @@ import random
 import re
 from xml.etree import ElementTree
 
-from harness.lists_model import LACKING
+from harness.lists_model import LACKING, Call, List
 from harness.pictures_model import Drawn, fitted, picture_of_run
 from harness.programs import KINDS, TOP, ran
 from harness.reports_model import damage, first_fault, picture_of_report, read_report, report_text, spread
-from harness.traces_model import enabled, read_schedule, run_of
+from harness.traces_model import read_schedule, run_of
 
 EXAMPLES = {file.stem: file for file in sorted((TOP / "examples" / "schedules").glob("*.schedule"))}
 GREATEST = 4294967295
 
 
-def drawn_schedule(kind, seed):
-    """A schedule of the list, some of whose events are refused."""
+def drawn_schedule(kind, seed, lacks=None, overruns=False):
+    """A schedule of the list. If it overruns, steps come after a call's end, of which the first is refused."""
     draw = random.Random(f"{kind} {seed}")
-    version, threads = draw.choice([1, 2, 2]), draw.choice([64, 9]) if seed % 10 == 9 else draw.choice([1, 2, 3])
-    lines = [f"listset-schedule {version}", f"list {kind}", f"threads {threads}", f"quota {draw.randrange(5)}"]
-    if version == 2:
-        lines += [f"opening {it}" for it in sorted(draw.sample([*range(12), GREATEST], draw.randrange(11 if seed % 7 == 3 else 4)))]
-    words, busy = ["add", "add", "remove", "contains", *["ceiling"] * (version - 1)], set()
+    version, threads, quota = draw.choice([1, 2, 2]), draw.choice([64, 9]) if seed % 10 == 9 else draw.choice([1, 2, 3]), draw.randrange(5)
+    opening = sorted(draw.sample([*range(12), GREATEST], draw.randrange(11 if seed % 7 == 3 else 4))) if version == 2 else []
+    lines = [f"listset-schedule {version}", f"list {kind}", f"threads {threads}", f"quota {quota}", *(f"opening {it}" for it in opening)]
+    model, words = List(kind, threads, quota, opening, lacks), ["add", "add", "remove", "contains", *["ceiling"] * (version - 1)]
     for _ in range(draw.randrange(1, 60)):
         thread = draw.randrange(threads)
-        if thread not in busy:
-            key = draw.choice([*range(12), *range(6), 1000000000, GREATEST])
-            lines.append(f"begin {thread} {draw.choice(words)} {key}")
-            busy.add(thread)
+        if model.threads[thread].pc == 0:
+            word, key = draw.choice(words), draw.choice([*range(12), *range(6), 1000000000, GREATEST])
+            model.begin(thread, Call(0, thread, word, key, 0))
+            lines.append(f"begin {thread} {word} {key}")
         else:
-            lines.append(f"go {thread} {draw.choice([1, 2, 3, 5, 8, 13])}")
+            asked, made = draw.choice([1, 2, 3, 5, 8, 13]), 0
+            while made < asked and model.threads[thread].pc:
+                model.go(thread)
+                made += 1
+            lines.append(f"go {thread} {asked if overruns else made}")
     return "\n".join(lines) + "\n"
 
 
@@ -95,11 +93,6 @@ class Compared:
         self.svg(picture, (None, None, None))
         self.svg(picture, (draw.choice([None, first]), draw.choice([None, last]), draw.choice([None, width])))
 
-    def fault(self, other):
-        """That `show` ends with an error as another command did."""
-        done = ran(self.program, "show", *self.words, text=self.text)
-        self.compare(["show"], [other.returncode, other.stderr], [done.returncode, done.stderr])
-
 
 def options(words, asked):
     """A command with options, and the window and the width that they ask for; one that is None is not given."""
@@ -119,9 +112,9 @@ def status_of(picture):
 
 def pytest_generate_tests(metafunc):
     """The names and the seeds of what is drawn; with --few a tenth."""
-    part = 10 if metafunc.config.option.few else 1
-    named = {"schedule": [*EXAMPLES, *(f"{kind} {seed}" for kind in KINDS for seed in range(20 // part))], "report": [f"{kind} {seed}" for kind in KINDS for seed in range(20 // part)],
-             "broken": [f"{name} {seed}" for name in LACKING for seed in range(max(1, 5 // part))]}
+    is_few = metafunc.config.option.few
+    drawn = [f"{kind} {seed}" for kind in KINDS for seed in range(2 if is_few else 20)]
+    named = {"schedule": [*EXAMPLES, *drawn], "report": drawn, "broken": [f"{name} {seed}" for name in LACKING for seed in range(1 if is_few else 5)]}
     for it in named.keys() & {*metafunc.fixturenames}:
         metafunc.parametrize(it, named[it])
 
@@ -131,8 +124,8 @@ def test_trace_and_pictures_are_those_of_the_model(program, schedule):
         text, seed = EXAMPLES[schedule].read_text(), 1
     else:
         kind, seed = schedule.split()
-        text, seed = drawn_schedule(kind, int(seed)), int(seed)
-        text = text if seed % 4 == 0 else enabled(text)
+        seed = int(seed)
+        text = drawn_schedule(kind, seed, overruns=seed % 4 == 0)
     if ran(program, "trace", text=text.encode()).stdout.startswith(b"listset-trace"):  # (else it is no schedule)
         plan = read_schedule(text)
         run = run_of(plan)
@@ -159,7 +152,7 @@ def compare_report(looked, report):
 def test_pictures_of_reports_are_those_of_the_model(program, report):
     """Of the report of a drawn schedule, right or damaged; and what `check` says of it."""
     kind, seed = report.split()
-    replayed, draw = ran(program, "replay", text=enabled(drawn_schedule(kind, int(seed)))).stdout, random.Random(report)
+    replayed, draw = ran(program, "replay", text=drawn_schedule(kind, int(seed))).stdout, random.Random(report)
     made = read_report(replayed)
     for _ in range([0, 1, 1, 2][int(seed) % 4]):
         damage(draw, made)
@@ -176,11 +169,11 @@ def test_pictures_of_reports_are_those_of_the_model(program, report):
 def test_traces_and_pictures_of_a_broken_list_are_those_of_the_model(program, broken):
     """The trace; and the picture of the report that `replay` prints, or its error."""
     name, seed = broken.split()
-    text = drawn_schedule(LACKING[name][0], int(seed))
-    text = enabled(text, name) if int(seed) % 4 else text
+    text = drawn_schedule(LACKING[name][0], int(seed), name, overruns=int(seed) % 4 == 0)
     looked, report = Compared(program, broken, text, "--lacks", name), ran(program, "replay", "--lacks", name, text=text)
     looked.traces(run_of(read_schedule(text), name))
     if report.returncode:
-        looked.fault(report)
+        shown = ran(program, "show", "--lacks", name, text=text)
+        assert (shown.returncode, shown.stderr) == (report.returncode, report.stderr), text
     else:
         compare_report(looked, read_report(report.stdout))

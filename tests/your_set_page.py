@@ -72,9 +72,6 @@ class MySet:
         with self.lock: return key not in self.keys and not self.keys.add(key)
     def remove(self, key):
         with self.lock: return key in self.keys and not self.keys.remove(key)
-%s
-listset_judge.judge.__kwdefaults__["runs"] = 2  # (the line above makes twenty)
-%s
 """
 GO = """package own
 import (
@@ -155,7 +152,8 @@ def java(room):
 
 def python(room):
     shutil.copy(FORMS / "python" / "listset_judge.py", room)
-    (room / "own.py").write_text(PYTHON % (line_of("Python")[0], options_of("Python")))
+    fewer = 'listset_judge.judge.__kwdefaults__["runs"] = 2'  # (the line before it makes twenty)
+    (room / "own.py").write_text("\n".join([PYTHON, line_of("Python")[0], fewer, options_of("Python")]))
     return [sys.executable, "-B", "own.py"]
 
 

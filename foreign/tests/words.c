@@ -1,4 +1,4 @@
-// The words of the program that need no set, by liblistset: a form of the program for tests/harness/same_output.py.
+// The words of the program that need no set, by liblistset, for tests/foreign.py.
 #include "listset.h"
 
 #include <stdbool.h>

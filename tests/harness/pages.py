@@ -20,6 +20,7 @@ import os
 import re
 import shutil
 import subprocess
+from dataclasses import dataclass, field
 
 import pytest
 from harness.programs import SECONDS, TOP
@@ -31,40 +32,42 @@ LEFT_OUT = ".."
 INDENT = "    "
 
 
+@dataclass
 class PageCommand:
-    """A command, and the lines that the page has of it."""
+    """A command, the number of its line, and the lines that the page has of it."""
 
-    def __init__(self, command, number):
-        self.command, self.number, self.lines = [command], number, []
+    command: list
+    number: int
+    lines: list = field(default_factory=list)
 
     def told(self):
         """What the command prints, as the page has it."""
-        while self.lines and not self.lines[-1]:
-            self.lines.pop()
-        return self.lines
+        return "\n".join(self.lines).rstrip("\n").split("\n") if any(self.lines) else []
+
+
+def steps_of(lines, first):
+    """The commands in lines, of which the first has this number."""
+    steps = []
+    for number, line in enumerate(lines, first):
+        if line.startswith("$ "):
+            steps.append(PageCommand([line.removeprefix("$ ")], number))
+        elif steps and line.startswith("> ") and not steps[-1].lines:
+            steps[-1].command.append(line.removeprefix("> "))
+        elif steps:
+            steps[-1].lines.append(line)
+    return steps
 
 
 def tests_of(page):
     """The tests of a page: of each its name and its steps."""
-    tests, steps = {}, None
-    for number, line in enumerate(page.read_text(encoding="utf-8").split("\n"), 1):
-        text = line.removeprefix(INDENT)
-        if line.startswith("## "):
-            steps = tests.setdefault(line.removeprefix("## "), [])
-            assert not steps, f"{page.name}:{number}: a second {line}"
-        elif line.startswith(INDENT + "$ ") and steps is not None:
-            steps.append(PageCommand(text.removeprefix("$ "), number))
-        elif line.startswith(INDENT):
-            assert steps, f"{page.name}:{number}: it belongs to no command"
-            if text.startswith("> ") and not steps[-1].lines:
-                steps[-1].command.append(text.removeprefix("> "))
-            else:
-                steps[-1].lines.append(text)
-        elif not line and steps:
-            steps[-1].lines.append("")
-    for name, steps in tests.items():
-        assert steps, f"{page.name}: {name} has no command"
-    return tests
+    number = 1
+    for section in re.split(r"^(?=## )", page.read_text(encoding="utf-8"), flags=re.MULTILINE):
+        lines = section.split("\n")
+        if section.startswith("## "):
+            steps = steps_of([line.removeprefix(INDENT) if line.startswith(INDENT) else "" for line in lines], number)
+            assert steps, f"{page.name}: {lines[0]} has no command"
+            yield lines[0].removeprefix("## "), steps
+        number += len(lines) - 1
 
 
 def tests_shown(page):
@@ -72,14 +75,9 @@ def tests_shown(page):
     text = page.read_text(encoding="utf-8")
     for block in SHOWN_BLOCK.finditer(text):
         shown = re.sub("^```(?:sh)?$|^    ", "", block[0], flags=re.MULTILINE).strip("\n").split("\n")
-        number, steps = text.count("\n", 0, block.start()) + 1, []
-        for at, line in enumerate(shown):
-            if line.startswith("$ "):
-                steps.append(PageCommand(line.removeprefix("$ "), number + at))
-            elif steps:
-                steps[-1].lines.append(line)
+        number = text.count("\n", 0, block.start()) + 1
         if shown[0].startswith("$ "):
-            yield number, steps
+            yield number, steps_of(shown, number)
 
 
 def lines_of_transcript(run):
@@ -143,7 +141,7 @@ class Page(pytest.File):
     """A page of tests/transcripts."""
 
     def collect(self):
-        for name, steps in tests_of(self.path).items():
+        for name, steps in tests_of(self.path):
             yield pytest.Function.from_parent(self, name=name, callobj=self.test_of(name, steps))
 
     def test_of(self, name, steps):

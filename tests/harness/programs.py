@@ -1,5 +1,5 @@
-"""How a test runs a program to its end: how that ends (`ran`), what it prints if nothing may be wrong (`printed`), and what a compiler or
-another language's test says that has to end well (`well`). And waiting, and the processes that belong to a folder."""
+"""How a test runs a program to its end: how that ends (`ran`), and what it prints if it has to end well (`well`). And waiting, and the
+processes that belong to a folder."""
 
 import contextlib
 import os
@@ -33,14 +33,6 @@ def ran(*words, text=None, seconds=SECONDS, **how):
     if not isinstance(text, bytes):
         done.stdout, done.stderr = (it.decode(errors="replace") for it in (done.stdout, done.stderr))
     return done
-
-
-def printed(*words, **how):
-    """What a program prints that has to end with the status 0 and nothing on its standard error."""
-    done = ran(*words, **how)
-    given = f" of {how['text']!r}" if "text" in how else ""
-    assert (done.returncode, done.stderr) == (0, type(done.stderr)()), f"{' '.join(map(str, words[1:]))}{given}"
-    return done.stdout
 
 
 def well(*words, seconds=LONG, **how):
@@ -77,20 +69,11 @@ def is_running(process):
         return False
 
 
-def left_of(folder):
-    """The processes that are in this folder, or have it among their words or in their environment."""
-    found = []
+def clear(folder):
+    """Ends the processes that are in this folder, or have it among their words or in their environment, and removes it."""
     for process in pathlib.Path("/proc").glob("[0-9]*"):
         with contextlib.suppress(OSError):
             has_it = any(str(folder).encode() in (process / it).read_bytes() for it in ("cmdline", "environ"))
-            if has_it or os.readlink(process / "cwd").startswith(str(folder)):
-                found.append(int(process.name))
-    return [it for it in found if it != os.getpid()]
-
-
-def clear(folder):
-    """Ends what is left of a folder, and removes it."""
-    for process in left_of(folder):
-        with contextlib.suppress(OSError):
-            os.kill(process, signal.SIGKILL)
+            if (has_it or os.readlink(process / "cwd").startswith(str(folder))) and process.name != str(os.getpid()):
+                os.kill(int(process.name), signal.SIGKILL)
     shutil.rmtree(folder, ignore_errors=True)

@@ -29,78 +29,57 @@ def read_report(text):
     return report
 
 
-# ---- the faults of an order, in the order in which they are looked for
+# ---- the faults of an order
 
 
-def about(report, said, number):
-    """A refusal of a call, with which the picture begins."""
-    return Refusal(said, report.calls[number].begun, None)
+def faults_of(report):
+    """Why an order is refused, in the order in which that is looked for."""
+    def about(said, number):
+        """A refusal of a call, with which the picture begins."""
+        return Refusal(said, report.calls[number].begun, None)
 
-
-def unknown(report):
-    has = f"calls 0 to {len(report.calls) - 1}" if report.calls else "no calls"
-    found = (it for it, _ in report.order if it >= len(report.calls))
-    return next((Refusal(f"Unknown {it}: the history has {has}", None, it) for it in found), None)
-
-
-def twice(report):
     numbers = [it for it, _ in report.order]
+    has = f"calls 0 to {len(report.calls) - 1}" if report.calls else "no calls"
+    yield from (Refusal(f"Unknown {it}: the history has {has}", None, it) for it in numbers if it >= len(report.calls))
+    yield from (about(f"Twice {it}: it stands at places {numbers.index(it) + 1} and {at + 1}", it)
+                for at, it in enumerate(numbers) if it in numbers[:at])
+    yield from (about(f"Missing {it}: it ended at {end} with {reply} and has no place", it)
+                for it, (end, reply) in sorted(report.ends.items()) if it not in numbers)
+    yield from (about(f"WrongReply {it}: {why}", it) for it, why in wrong_replies(report))
     for at, it in enumerate(numbers):
-        if it in numbers[:at]:
-            return about(report, f"Twice {it}: it stands at places {numbers.index(it) + 1} and {at + 1}", it)
-    return None
-
-
-def missing(report):
-    placed = {it for it, _ in report.order}
-    for it, (end, reply) in sorted(report.ends.items()):
-        if it not in placed:
-            return about(report, f"Missing {it}: it ended at {end} with {reply} and has no place", it)
-    return None
-
-
-def after_places(place):
-    return {1: "at first", 2: "after place 1", 3: "after places 1 and 2"}.get(place, f"after places 1 to {place - 1}")
-
-
-def wrong_reply(report):
-    held = SetModel(report.quota, report.opening)
-    for place, (it, says) in enumerate(report.order, 1):
-        told, call = f"WrongReply {it}: place {place} says {says}, and ", report.calls[it]
-        if it in report.ends and report.ends[it][1] != says:
-            return about(report, f"{told}the history says {report.ends[it][1]}", it)
-        before = keys_text(sorted(held.keys))
-        answer = held.reply(call.thread, call.word, call.key)
-        if answer != says:
-            return about(report, f"{told}{after_places(place)} the set is {{{before}}} and answers {answer}", it)
-    return None
-
-
-def too_early(report):
-    for at, (it, _) in enumerate(report.order):
         begun = report.calls[it].begun
-        for other, _ in report.order[at:]:
-            if other in report.ends and report.ends[other][0] < begun:
-                end = report.ends[other][0]
-                return about(report, f"TooEarly {it}: it begins at {begun} and stands before call {other}, which ended at {end}", other)
-    return None
+        yield from (about(f"TooEarly {it}: it begins at {begun} and stands before call {other}, which ended at {report.ends[other][0]}", other)
+                    for other in numbers[at:] if other in report.ends and report.ends[other][0] < begun)
+    yield from wrong_sets(report)
 
 
-def wrong_set(report):
+def wrong_replies(report):
+    """Calls with another reply than in the history, or than the set has there; and what is said of them."""
+    held, after = SetModel(report.quota, report.opening), {0: "at first", 1: "after place 1", 2: "after places 1 and 2"}
+    for place, (it, says) in enumerate(report.order):
+        call, before = report.calls[it], keys_text(sorted(held.keys))
+        answer, told = held.reply(call.thread, call.word, call.key), f"place {place + 1} says {says}, and "
+        if report.ends.get(it, (0, says))[1] != says:
+            yield it, f"{told}the history says {report.ends[it][1]}"
+        elif answer != says:
+            yield it, f"{told}{after.get(place, f'after places 1 to {place}')} the set is {{{before}}} and answers {answer}"
+
+
+def wrong_sets(report):
     held = SetModel(report.quota, report.opening)
     for it, _ in report.order:
         held.reply(report.calls[it].thread, report.calls[it].word, report.calls[it].key)
     left = sorted(held.keys)
-    if left == report.keys:
-        return None
-    first_apart = next({*pair} - {None} for pair in itertools.zip_longest(left, report.keys) if pair[0] != pair[1])
-    begun = next((it.begun for it in report.calls if it.key == min(first_apart)), None)
-    return Refusal(f"WrongSet: the order leaves {{{keys_text(left)}}}, and the keys are {{{keys_text(report.keys)}}}", begun, None)
+    if left != report.keys:
+        apart = next({*pair} - {None} for pair in itertools.zip_longest(left, report.keys) if pair[0] != pair[1])
+        begun = next((it.begun for it in report.calls if it.key == min(apart)), None)
+        yield Refusal(f"WrongSet: the order leaves {{{keys_text(left)}}}, and the keys are {{{keys_text(report.keys)}}}", begun, None)
 
 
 def first_fault(report):
     """Why its order is refused, or None."""
-    return next(filter(None, (fault(report) for fault in (unknown, twice, missing, wrong_reply, too_early, wrong_set))), None)
+    return next(faults_of(report), None)
+
 
 # ---- the picture
 

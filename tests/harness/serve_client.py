@@ -6,6 +6,7 @@ import socket
 import struct
 import subprocess
 import threading
+from concurrent.futures import ThreadPoolExecutor
 
 SECONDS = 300
 SOON = 60
@@ -52,12 +53,6 @@ def serving(program, kind, seats, quota, sessions, before=()):
         yield Server(process)
 
 
-def answer_of(reply):
-    """The line by which the server answers what a report has as this reply."""
-    answer = {"nothing": "none"}.get(reply, reply.replace("at-", "at "))
-    return f"{answer.upper()}\n".encode()
-
-
 def read_all(connection):
     """The answers up to the end, which is no reset."""
     return b"".join(iter(lambda: connection.recv(65_536), b""))
@@ -86,26 +81,12 @@ def resets(connection):
     connection.close()
 
 
-class Client(threading.Thread):
-    """A client in a thread of its own; in `wrong` what was not as promised."""
+def speak_at_once(server, speakers):
+    """Clients in threads of their own, each of which speaks on a connection."""
+    def connected(speak):
+        with server.connect() as connection:
+            speak(connection)
 
-    def __init__(self, server):
-        super().__init__(daemon=True)
-        self.server, self.wrong = server, None
-
-    def run(self):
-        try:
-            with self.server.connect() as connection:
-                self.speak(connection)
-        except Exception as error:
-            self.wrong = f"{self.manner}: {error!r}"
-
-
-def have_ended(clients):
-    for client in clients:
-        client.start()
-    for client in clients:
-        client.join(SECONDS)
-    for client in clients:
-        assert not client.wrong
-        assert not client.is_alive(), client.manner
+    with ThreadPoolExecutor(len(speakers)) as threads:
+        for _ in threads.map(connected, speakers, timeout=2 * SECONDS):
+            pass

@@ -18,26 +18,6 @@ def read_schedule(text):
     return Schedule(int(lines[0][1]), lines[1][1], int(lines[2][1]), int(lines[3][1]), opening, events)
 
 
-def enabled(text, lacks=None):
-    """The schedule without the steps that come after a call's end, so that few of its events are refused."""
-    plan = read_schedule(text)
-    model, kept, number = List(plan.kind, plan.threads, plan.quota, plan.opening, lacks), text.splitlines()[: 4 + len(plan.opening)], 0
-    for _, pieces in plan.lines:
-        t = int(pieces[1])
-        if pieces[0] == "begin":
-            if model.threads[t].pc == 0:
-                model.begin(t, Call(number, t, pieces[2], int(pieces[3]), 0))
-                number += 1
-                kept.append(" ".join(pieces))
-            continue
-        count, most_steps = 0, int(pieces[2])
-        while count < most_steps and model.threads[t].pc:
-            model.go(t)
-            count += 1
-        kept += [f"go {t} {count}"] if count else []
-    return "\n".join(kept) + "\n"
-
-
 def node_text(node):
     return ["head", "tail"][node] if node < 2 else f"n{node}"
 
