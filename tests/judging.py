@@ -172,9 +172,9 @@ def test_a_verdict_and_what_is_said_of_it(program, few, seed):
         said, shown = done.stdout.splitlines()[:len(due)], done.stdout.splitlines()[len(due):]
         assert (done.returncode, said, done.stderr) == (int(is_refused), due, ""), text
         assert len([it for it in shown if it.startswith("call ")]) <= 1 + MOST_SHOWN * is_refused and (is_refused or not shown), text
-        assert {it for it in shown if it.startswith("call ")} <= {*map(call_line, judged.of_key.get(judged.key, []))}, text
-        calls = [call_of(it.split(" ")) for it in shown if it.startswith("call ")]
-        assert are_bars([it for it in shown if it.startswith("thread ")], calls), done.stdout
+        made_of = {call_line(it): it for it in judged.of_key.get(judged.key, [])}
+        assert {it for it in shown if it.startswith("call ")} <= made_of.keys(), text
+        assert are_bars([it for it in shown if it.startswith("thread ")], [made_of[it] for it in shown if it in made_of]), done.stdout
         if change := re.search(r"moment (\d+) the key is (not )?there, by this change:\n(call .*)", done.stdout):
             turns = [it for it in judged.of_key[judged.key] if it.word == ("remove" if change[2] else "add") and it.reply == "true"]
             assert change[3] == call_line(max((it for it in turns if it.end <= int(change[1])), key=lambda it: it.end)), text
