@@ -41,7 +41,6 @@ example --broken stale-pred
 """
 
 LAST_CALL = "still to be refused"
-BACK = "work (Memory, all comes back)"
 
 
 def refuser(folder):
@@ -123,4 +122,4 @@ def test_each_block_of_the_calls(once, lacking):
     if not CALLS.exists():
         lacking(f"{CALLS.relative_to(TOP)} is missing: tests/unproved memory_calls builds it")
     calls = answers(CALLS, once(refuser))
-    assert {name for name in calls if name.startswith("work (Memory")} == {BACK}
+    assert {name for name in calls if name.startswith("work (Memory")} == {"work (Memory, all comes back)"}

@@ -12,7 +12,6 @@ from harness.programs import KINDS, ran
 from harness.serve_client import Server, read_all, started
 
 THREADS, QUOTA, CALLS = 8, 16_384, 50
-FILES = 4  # the streams and the listener
 STACK = 8_192  # KiB of a thread
 REFUSALS = {
     (1, "listset: work: Spawn\n"): "thread refused",
@@ -79,7 +78,7 @@ def test_serve_without_a_set(program):
 
 
 def test_serve_without_files(program):
-    """The system refuses the first connection before a client comes."""
-    made = ran(*limited(FILES, program, "serve", "lazy", 2, 4, 0, 1, of="-n"))
+    """The streams and the listener are 4 files: the system refuses the first connection before a client comes."""
+    made = ran(*limited(4, program, "serve", "lazy", 2, 4, 0, 1, of="-n"))
     assert re.fullmatch(r"listening 127\.0\.0\.1:\d+\n", made.stdout)
     assert (made.returncode, made.stderr) == (1, "listset: serve: Accept\n")

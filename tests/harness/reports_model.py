@@ -92,9 +92,8 @@ class Sets:
 
     def __getitem__(self, moment):
         held = SetModel(keys=self.opening)
-        for at, call in self.changes:
-            if at <= moment:
-                held.change(call.thread, call.word, call.key)
+        for call in (call for at, call in self.changes if at <= moment):
+            held.change(call.thread, call.word, call.key)
         return held.keys
 
 

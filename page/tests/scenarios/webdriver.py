@@ -28,10 +28,6 @@ COMMANDS = {"go": ("POST", "url", "WebDriver:Navigate"), "back": ("POST", "back"
             "size": ("POST", "window/rect", "WebDriver:SetWindowRect"), "end": ("DELETE", "", "WebDriver:DeleteSession"), "log": ("POST", "se/log", None)}
 
 
-class Failed(Exception):
-    pass
-
-
 def installed(name):
     """The path of the driver, or None."""
     path = next((found for found in map(shutil.which, NEEDS[name][1]) if found), None)
@@ -66,7 +62,7 @@ class OverHttp:
             with urllib.request.urlopen(request, timeout=180) as answer:
                 return json.load(answer)["value"]
         except urllib.error.HTTPError as fault:
-            raise Failed(json.load(fault)["value"]["message"]) from None
+            raise RuntimeError(json.load(fault)["value"]["message"]) from None
 
     def command(self, name, given):
         method, path, _ = COMMANDS[name]
@@ -98,7 +94,7 @@ class OverMarionette:
         self.socket.sendall(b"%d:%s" % (len(text), text))
         _, _, fault, value = self.read()
         if fault is not None:
-            raise Failed(fault["message"])
+            raise RuntimeError(fault["message"])
         return value["value"] if isinstance(value, dict) and set(value) == {"value"} else value
 
     def command(self, name, given):
@@ -143,7 +139,7 @@ class Browser:
     def __exit__(self, *_):
         try:
             self.at.command("end", {})
-        except (Failed, OSError):
+        except (RuntimeError, OSError):
             pass
         self.at.process.terminate()
         self.at.process.wait()
@@ -152,7 +148,7 @@ class Browser:
     def is_alive(self):
         try:
             return self.script("return true")
-        except (Failed, OSError):
+        except (RuntimeError, OSError):
             return False
 
     def go(self, address):
