@@ -22,8 +22,6 @@ from harness.programs import SECONDS, TOP
 
 REFUSED = 1000  # the block that is refused: more than the calls take
 PROCESSOR_SECONDS = 5  # of one run
-HARNESS = pathlib.Path(__file__).resolve().parent / "harness"
-EXAMPLES = TOP / "examples" / "schedules"
 CALLS = TOP / "crates/memory_calls/out/unproved/memory_calls"
 
 # What the program is asked of files in examples/, of a drawn one (DRAWN) and of one with many opening keys, which goes past the end of its
@@ -49,7 +47,7 @@ def refuser(folder):
     assert rt, "the command rt is missing"
     clang = pathlib.Path(rt).resolve().parent.parent / "toolchain/bin/clang"
     compiled, linked = f"{folder}/refuse.o", f"{folder}/refuse.so"
-    subprocess.run(["clang", "-c", "-O1", "-fPIC", HARNESS / "fail_allocation.c", "-o", compiled], executable=clang, check=True)
+    subprocess.run(["clang", "-c", "-O1", "-fPIC", TOP / "tests/harness/fail_allocation.c", "-o", compiled], executable=clang, check=True)
     subprocess.run(["ld.lld", "-shared", compiled, "-o", linked], executable=clang, check=True)
     return linked
 
@@ -81,7 +79,7 @@ LAST = 10  # so many blocks, one after another, make no difference: then there a
 
 def out_of_memory_at_each(program, words, refuse):
     """How often a command says that it is out of memory, where each of its blocks is refused in turn."""
-    how = {"cwd": EXAMPLES, "stdin": subprocess.DEVNULL}
+    how = {"cwd": TOP / "examples/schedules", "stdin": subprocess.DEVNULL}
     due = ran_where(refuse, 0, program, *words, **how)
     goes_along = words[0] == "trace"
     met = {OUT_OF_MEMORY} | ({SPAWN} if words[0] == "run" else set()) | ({(due[0], "", "")} if due[2] else set())

@@ -10,7 +10,6 @@ from harness.programs import TOP, ran, well
 from judging import drawn, spread, text_of
 
 pytestmark = pytest.mark.needs("gcc")
-HERE = TOP / "examples" / "recordings"
 
 
 def recording(seed, is_cut=False):
@@ -28,7 +27,7 @@ def test_parts_on_processors_have_the_verdict(program, room, text, parts):
     """Which refusal is named, or which part has an error, may be another."""
     recorded = room / "run.calls"
     recorded.write_text(text)
-    done, due = ran(HERE / "judge_by_key", recorded, parts, env={**os.environ, "LISTSET": program}), ran(program, "judge", recorded)
+    done, due = ran(TOP / "examples/recordings/judge_by_key", recorded, parts, env={**os.environ, "LISTSET": program}), ran(program, "judge", recorded)
     assert done.returncode == due.returncode, done.stderr
     if due.returncode == 0:
         assert done.stdout == due.stdout

@@ -8,9 +8,7 @@ FILES = {"schedule": "a schedule", "draft": "a draft", "report": "a report", "re
 
 
 def table(head, rows):
-    below = "|---" * len(head) + "|"
-    first, *others = [f"| {' | '.join(cells)} |" for cells in [head, *rows]]
-    return "\n".join([first, below, *others])
+    return "\n".join([f"| {' | '.join(head)} |", "|---" * len(head) + "|", *(f"| {' | '.join(cells)} |" for cells in rows)])
 
 
 def faults_below(top, head):
