@@ -9,7 +9,6 @@ COMMAND = re.compile(r"^  (\w+) +(.+)$", re.M)
 OPTION = re.compile(r"^ +(?:-\w, )?--([\w-]+)(?: <(\w+)>)? +(.*)$", re.M)
 LISTS = " ".join(it.word for it in lists.lists())
 OF_A_LIST = ["gen", "run", "serve"]  # their first value is a list
-HELP = "help"
 
 
 class Help:
@@ -21,11 +20,11 @@ class Help:
 
         self.whole = said("--help")
         self.about = dict(COMMAND.findall(self.whole.split("Commands:\n")[1].split("\n\n")[0]))
-        self.pages = {name: said(HELP, name) for name in self.about if name != HELP}
+        self.pages = {name: said("help", name) for name in self.about if name != "help"}
 
     def options(self, name):
         """The options of a command but for --help: of each its name, that of its value or "", and what it does."""
-        return [it for it in OPTION.findall(self.pages[name]) if it[0] != HELP]
+        return [it for it in OPTION.findall(self.pages[name]) if it[0] != "help"]
 
 
 def man_page(said, version, date):
