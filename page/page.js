@@ -3754,20 +3754,22 @@ function chooser(figure, thread, own) {
   return threadRow(thread, `<span class="choose">${fields}<button data-begin="${thread}">begin</button></span> ${reply}`);
 }
 
-function showStrip(figure, given) {
+function showStrip(figure) {
   const { run } = figure;
-  const box = figure.part("strip");
-  const wide = Math.max(280, given);
+  const wide = Math.max(280, figure.stripWide);
   const room = 26 + 9 * `{${run.promised().join(", ")}}`.length; // right of the last event, for what is in the set then
   const scale = scaleOf(run.trace, run.count, wide - room, figure.hides);
   Object.assign(scale, { edge: scale.edge + room, width: wide });
   figure.scale = scale;
-  setHtml(box, tag("div", { class: "calls" }, drawCalls(run.trace, scale)) + drawContents(run.trace, scale));
-  if (scale.height > MOST_CALLS && run.count > 0) scrollToLane(box.firstElementChild, scale.y(run.trace.event(run.count).thread));
+  setHtml(figure.part("strip"), tag("div", { class: "calls" }, drawCalls(run.trace, scale)) + drawContents(run.trace, scale));
 }
 const MOST_CALLS = 400; // pixels: of more threads the bars scroll
 
-function scrollToLane(box, y) {
+function scrollToLane(figure) {
+  const { run, scale } = figure;
+  if (scale.height <= MOST_CALLS || run.count === 0) return;
+  const box = figure.part("calls");
+  const y = scale.y(run.trace.event(run.count).thread);
   if (y < box.scrollTop + 20 || y > box.scrollTop + box.clientHeight - 20) box.scrollTop = y - box.clientHeight / 2;
 }
 
@@ -3788,7 +3790,7 @@ function showScrub(figure) {
   box.querySelector(".count").textContent = `${count} of ${trace.total}`;
   box.hidden = !figure.isOpen;
 }
-return { showDock, showStrip, showScrub };
+return { showDock, showStrip, scrollToLane, showScrub };
 })();
 
 // story/figure_parts.js
@@ -3798,8 +3800,9 @@ const { drawList } = $draw_list;
 const { arranged, shapeFor } = $draw_places;
 const { callText, colourOf, letterOf } = $run_markup;
 const { momentAt } = $run_sentences;
+const { setHtml } = $page_dom;
 const { drawOwnCode } = $story_code;
-const { showDock, showScrub, showStrip } = $story_dock;
+const { scrollToLane, showDock, showScrub, showStrip } = $story_dock;
 const { taleOf } = $story_tale;
 const MOST_SCALE = 1.75;
 const MOST_HEIGHT = 0.4; // of the window, for the list
@@ -3824,18 +3827,27 @@ function frameOf({ box, spec }) {
 
 function drawFigure(figure, moment, isNear) {
   const { run, spec, box } = figure;
-  figure.wide = figure.part("list").clientWidth;
-  const [wide, scrolled] = [figure.part("strip").clientWidth, figure.part("lines")?.scrollTop];
   placeTheList(figure, moment, isNear);
   const tale = figure.told ?? taleHere(figure, moment);
   const words = tale === "" ? (spec.tale ?? "") : tale;
   if (figure.part("tale").innerHTML !== words) figure.part("tale").innerHTML = words;
   box.classList.toggle("at-end", run.count === run.trace.total);
   box.classList.toggle("shut", !figure.canStep);
-  showCode(figure, moment, scrolled);
+  showCode(figure, moment);
   showDock(figure);
-  if (spec.strip) showStrip(figure, wide);
+  if (spec.strip) showStrip(figure);
   if (spec.scrub) showScrub(figure);
+  scrollSoon(figure, moment.event?.thread ?? figure.active);
+}
+
+function scrollSoon(figure, moved) {
+  cancelAnimationFrame(figure.scroll);
+  figure.scroll = requestAnimationFrame(() => {
+    if (figure.isEnded) return;
+    scrollToTouched(figure);
+    scrollToLit(figure, moved);
+    if (figure.spec.strip) scrollToLane(figure);
+  });
 }
 
 function taleHere({ run, spec }, moment) {
@@ -3868,7 +3880,6 @@ function placeTheList(figure, { state, event }, isNear) {
     for (const name of svg.querySelectorAll("text.name")) if (/^n\d+$/.test(name.textContent)) name.remove();
   };
   glide(box, draw, isNear);
-  scrollToTouched(box, room);
 }
 
 function fitList({ spec, most: { width } }, svg, room, own) {
@@ -3880,11 +3891,12 @@ function fitList({ spec, most: { width } }, svg, room, own) {
   svg.setAttribute("height", high * scale);
 }
 
-function scrollToTouched(box, room) {
+function scrollToTouched(figure) {
+  const [box, room] = [figure.part("list"), figure.wide];
   const drawn = box.firstElementChild;
-  const wide = Number(drawn.getAttribute("width"));
+  const wide = Number(drawn?.getAttribute("width"));
   const touched = wide <= room ? null : box.querySelector("[data-hot]");
-  if (touched === null) return;
+  if (touched == null) return;
   const [x, , width] = drawn.getAttribute("viewBox").split(" ").map(Number);
   const at = (Number(touched.getAttribute("x")) - x) * (wide / width);
   if (at < box.scrollLeft + 60 || at > box.scrollLeft + room - 120) box.scrollLeft = at - room / 2;
@@ -3914,7 +3926,7 @@ function operationsOf({ spec, run, isGuess }) {
   return [...new Set([...(spec.operations ?? []), ...planned, ...begun])].filter((name) => !hidden.includes(name));
 }
 
-function showCode(figure, { state, event, before }, scrolled) {
+function showCode(figure, { state, event, before }) {
   const box = figure.part("lines");
   if (box === null) return;
   const { spec, run, canStep } = figure;
@@ -3925,19 +3937,18 @@ function showCode(figure, { state, event, before }, scrolled) {
   const made = event === null || event.deed === "begin" ? null : { row: before.pc, thread: event.thread };
   const next = state.threads.map((own, thread) => ({ thread, row: own.pc })).filter(({ row }) => row !== 0);
   const hides = (figure.isGuess ? spec.hidden?.hides : undefined) ?? spec.hides; // some is not told before the guess
-  box.innerHTML = drawOwnCode({ list, plain, fresh, struck, hides, instead, operations: operationsOf(figure), next, made, canStep, active });
-  box.scrollTop = scrolled;
+  setHtml(box, drawOwnCode({ list, plain, fresh, struck, hides, instead, operations: operationsOf(figure), next, made, canStep, active }));
   const toggles = figure.shown.filter(isAble).map((thread) => toggleOf(thread, active));
-  figure.part("runs").innerHTML = canStep && toggles.length > 1 ? toggles.join("") : "";
-  scrollToLit(box, event?.thread ?? active);
+  setHtml(figure.part("runs"), canStep && toggles.length > 1 ? toggles.join("") : "");
 }
 
 const toggleOf = (thread, active) => `<button class="who ${colourOf(thread)}" data-active="${thread}" aria-pressed="${thread === active}"
   title="${letterOf(thread)} runs to another line that is pressed">${letterOf(thread)}</button>`;
 
-function scrollToLit(box, moved) {
-  const line = box.querySelector(`.lit.${colourOf(moved)}`) ?? box.querySelector(".made") ?? box.querySelector(".lit");
-  if (line === null || box.scrollHeight <= box.clientHeight) return;
+function scrollToLit(figure, moved) {
+  const box = figure.part("lines");
+  const line = box?.querySelector(`.lit.${colourOf(moved)}`) ?? box?.querySelector(".made") ?? box?.querySelector(".lit");
+  if (line == null || box.scrollHeight <= box.clientHeight) return;
   const y = line.offsetTop - box.offsetTop;
   if (y < box.scrollTop + 10 || y > box.scrollTop + box.clientHeight - 50) box.scrollTop = y - box.clientHeight / 2;
 }
@@ -4025,7 +4036,9 @@ class Figure {
   isGuess = false; // what would tell the answer is not shown
   isLost = false; // the nodes that are lost are lit
   hides = true; // of the history, what comes later
-  wide = 0;
+  wide = 0; // of the list, in pixels
+  stripWide = 0;
+  scroll = 0;
   told = null;
   onStep = null;
   onFork = null;
@@ -4043,9 +4056,14 @@ class Figure {
     box.addEventListener("click", (event) => pressed(this, event));
     box.addEventListener("input", ({ target }) => target.closest(".choose") !== null && chooseCall(this, target.closest("[data-thread]")));
     this.stretch = new ResizeObserver(() => {
-      if (this.part("list").clientWidth !== this.wide) requestAnimationFrame(() => this.isEnded || this.draw());
+      if (this.part("list").clientWidth !== this.wide) requestAnimationFrame(() => this.isEnded || this.fit());
     });
     this.stretch.observe(this.part("list"));
+    this.fit();
+  }
+
+  fit() {
+    [this.wide, this.stripWide] = ["list", "strip"].map((name) => this.part(name).clientWidth);
     this.draw();
   }
 
@@ -4205,107 +4223,499 @@ class StillFigure extends Figure {
 return { StillFigure };
 })();
 
-// activities/bench.js
-const $activities_bench = (() => {
+// run/address.js
+const $run_address = (() => {
+const { LACKING } = $made_classics;
 const { LISTS } = $made_rows;
-const { drawOrder } = $draw_contents;
-const { HISTORY_LEFT } = $draw_history;
-const { drawListing } = $draw_listing;
-const { drawTable } = $draw_table;
-const { drawThreads, MOST_ROWS } = $draw_threads;
-const { byId, setAble, setHtml } = $page_dom;
-const { scrollToLine } = $page_editor;
-const { hiddenOutcomes, isJudging, now, show, tell } = $page_now;
-const { goByHand, isPlaying } = $page_play;
-const { escaped } = $run_markup;
-const { sentenceOf } = $run_sentences;
-const { ShownRun } = $story_live_run;
-const { StillFigure } = $story_still_figure;
-const bench = { key: "", figure: null };
-const LACKING = "The code of the correct list. The list that runs here lacks one of its checks.";
+const LONGEST_ADDRESS = 30000; // characters; a longer schedule has no address
+const SHORT_WORDS = { begin: "b", go: "g" };
+const LONG_WORDS = { b: "begin", g: "go" };
+const SHORT_EVENT = String.raw`(b\d+\.[a-z]+\.\d+|g\d+\.\d+)`;
+const ADDRESS_PARTS = {
+  example: /^[a-z-]+$/,
+  list: /^[A-Za-z-]+$/,
+  threads: /^\d+$/,
+  quota: /^\d+$/,
+  version: /^\d+$/,
+  opening: /^\d+(\.\d+)*$/,
+  s: new RegExp(`^(${SHORT_EVENT}(,${SHORT_EVENT})*)?$`),
+  event: /^\d+$/,
+  lacks: /^(\d+|[A-Za-z-]+)$/,
+  view: /^(lecture|list|history)$/,
+  course: /^[A-Za-z0-9_-]+$/,
+  sides: /^(coarse|fine|optimistic|lazy|lock-free)\.(coarse|fine|optimistic|lazy|lock-free)$/,
+  calls: /^(\d\d?\.[a-z]+\.\d+(,|$))+$/,
+  turns: /^(\d\d?(\.\d\d?)*)?$/,
+  watch: /^[a-z-]*$/,
+  learn: /^[a-z0-9-]*$/,
+  judge: /^$/,
+  break: /^\d*$/,
+  compare: /^$/,
+  read: /^$/,
+  seed: /^(coarse|fine|optimistic|lazy|lock-free)\.\d{1,2}\.\d{1,2}\.\d{1,2}\.\d{1,9}$/,
+};
 
-function figureOfTask(run) {
-  const { kind, lacks } = run.trace;
-  const key = [now.task.kind, now.task.id, now.task.work, kind, lacks].join();
-  if (bench.figure !== null && bench.key === key) return bench.figure;
-  bench.figure?.end();
-  bench.key = key;
-  const box = document.createElement("div");
-  byId("run-figure").replaceChildren(box);
-  const codeNote = lacks === null ? "" : LACKING;
-  const sentence = (moment) => sentenceOf(moment, hiddenOutcomes());
-  bench.figure = new StillFigure(box, { list: kind, run, sentence, codeTitle: LISTS[kind].name, codeNote, roomFor: 560 });
-  return bench.figure;
+class AddressFault extends Error {}
+
+const neededVersion = (lines) => (lines.some((line) => /^(opening |begin \d+ ceiling )/.test(line)) ? 2 : 1);
+
+function addressOf(text, event, lacks = null) {
+  if (text.length > 2 * LONGEST_ADDRESS) return null; // an address has more than half of the letters
+  const [title, list, threads, quota, ...lines] = text.split("\n").slice(0, -1);
+  const isOpening = (line) => line.startsWith("opening ");
+  const opening = lines.filter(isOpening).map((line) => line.slice("opening ".length));
+  const events = lines.filter((line) => !isOpening(line)).map(shortLine);
+  const version = title?.split(" ")[1];
+  const parts = [`list=${list?.split(" ")[1]}`, `threads=${threads?.split(" ")[1]}`, `quota=${quota?.split(" ")[1]}`];
+  if (version !== String(neededVersion(lines))) parts.push(`version=${version}`);
+  if (opening.length > 0) parts.push(`opening=${opening.join(".")}`);
+  parts.push(`s=${events.join()}`, `event=${event}`);
+  if (lacks !== null) parts.push(`lacks=${Object.keys(LACKING).indexOf(lacks) + 1}`);
+  const address = `#${parts.join("&")}`;
+  return address.length <= LONGEST_ADDRESS && isAddressOf(address, text) ? address : null;
 }
 
-function showRun(moment) {
-  const { trace, state, count } = now.run;
-  const run = new ShownRun(trace, state, count);
-  const figure = figureOfTask(run);
-  figure.box.classList.toggle("judged", isJudging());
-  figure.part("tale").setAttribute("aria-live", isPlaying() ? "off" : "polite");
-  figure.spec.high = isJudging() ? 0.24 : now.place.view === "lecture" ? 0.3 : 0.36;
-  figure.take(run, moment, now.prefs.hides);
-  setHtml(byId("order"), drawOrder(trace, count, now.prefs.hides));
-  showThreads(moment.event);
-  showTable(moment);
-  showListing(moment);
-  scrollToLine(moment.event);
-}
+const shortLine = (line) => {
+  const [word, ...values] = line.split(" ");
+  return `${SHORT_WORDS[word] ?? word}${values.join(".")}`;
+};
 
-function showBar() {
-  const { trace, count, source } = now.run;
-  const { total } = trace;
-  const name = `${LISTS[trace.kind].name}${trace.lacks === null ? "" : " without one check"}`;
-  byId("title").textContent = `${name}, ${trace.threads} thread${trace.threads > 1 ? "s" : ""}`;
-  byId("source").textContent = source;
-  const where = `event ${count} of ${total}`;
-  Object.assign(byId("slider"), { max: total, value: count });
-  byId("slider").setAttribute("aria-valuetext", where);
-  byId("where").textContent = where;
-  setAble("back", count > 0);
-  setAble("next", count < total);
-}
+const longLine = (short) => `${LONG_WORDS[short[0]]} ${short.slice(1).replaceAll(".", " ")}`;
 
-function showThreads(event) {
-  if (!byId("threads-box").open) return;
-  byId("threads").innerHTML = drawThreads(now.run.state, event, now.prefs.allThreads, hiddenOutcomes().includes("reply"));
-  byId("all-threads").hidden = now.run.trace.threads <= MOST_ROWS;
-  byId("all-threads").textContent = now.prefs.allThreads ? "show only those with a pending call" : `show all ${now.run.trace.threads}`;
-}
-
-function showTable(moment) {
-  const which = now.run.lacks === null ? "" : "the correct ";
-  byId("table-title").textContent = `Step table of ${which}${LISTS[now.run.trace.kind].name}`;
-  if (byId("table-box").open) byId("table").innerHTML = drawTable(moment);
-}
-
-function showListing(moment) {
-  if (!byId("listing-box").open) return;
-  const box = byId("listing");
-  box.innerHTML = drawListing(moment);
-  const line = box.querySelector(".moved") ?? box.querySelector(".here");
-  if (line === null) return;
-  const y = line.offsetTop - box.offsetTop;
-  if (y < box.scrollTop + 40 || y > box.scrollTop + box.clientHeight - 80) box.scrollTop = y - box.clientHeight / 2;
-}
-
-function pressPicture({ target, clientX }) {
-  const calls = target.closest(".calls svg");
-  const said = target.closest("g, svg")?.querySelector(":scope > title")?.textContent ?? "";
-  if (calls !== null) {
-    const { first, step } = bench.figure.scale;
-    goByHand(first - 1 + Math.ceil((clientX - calls.getBoundingClientRect().left - HISTORY_LEFT) / step));
+function isAddressOf(address, text) {
+  try {
+    return readAddress(address).text === text;
+  } catch (fault) {
+    if (!(fault instanceof AddressFault)) throw fault;
+    return false;
   }
-  if (said !== "") tell(escaped(said));
 }
 
-function listenToBench() {
-  byId("run-figure").addEventListener("click", pressPicture);
-  byId("turns").onclick = ({ target }) => target.dataset.event && goByHand(Number(target.dataset.event));
-  for (const name of ["table-box", "listing-box", "threads-box", "turns-box"]) byId(name).ontoggle = show;
+function readAddress(hash) {
+  const { view = null, course = null, lacks: which, seed = null, ...rest } = partsOf(hash);
+  const { place, isJudged, parts } = placeOf(rest, seed);
+  const lacks = which === undefined ? null : lackingNamed(which, parts);
+  const own = { view, course, sides: null, lacks, place, seed, isJudged };
+  const named = { example: parts.example ?? null, text: null, event: Number(parts.event ?? 0), ...own };
+  if (parts.sides !== undefined) return { ...named, sides: parts };
+  const ofSchedule = Object.keys(parts).filter((name) => name !== "event" && name !== "example");
+  if (named.example !== null && ofSchedule.length > 0) {
+    throw new AddressFault(`the address names an example, and has "${ofSchedule[0]}" too`);
+  }
+  if (ofSchedule.length > 0) named.text = textOfParts(parts);
+  return named;
 }
-return { showRun, showBar, listenToBench };
+
+function lackingNamed(which, { list, example }) {
+  const names = Object.keys(LACKING);
+  const lacks = names.includes(which) ? which : names[which - 1];
+  if (lacks === undefined) {
+    throw new AddressFault(`there is no broken list "${which}": expected 1 to ${names.length}, or a name that "listset show --help" prints`);
+  }
+  if (list === LACKING[lacks]) return lacks;
+  const named = list !== undefined ? `list=${list}` : example !== undefined ? `example=${example}` : "no list";
+  throw new AddressFault(`lacks=${which} is a broken ${LISTS[LACKING[lacks]].name}, and the address has ${named}`);
+}
+
+function placeOf(parts, seed) {
+  const isRun = seed !== null || parts.example !== undefined || parts.list !== undefined;
+  const name = ["watch", "learn", "judge", "break", "compare", "read"].find((one) => parts[one] !== undefined);
+  if (name === undefined) return { place: null, isJudged: false, parts };
+  const { [name]: value, ...others } = parts;
+  const isJudged = name === "judge" && isRun;
+  return { place: isJudged ? null : [name, value], isJudged, parts: others };
+}
+
+function partsOf(hash) {
+  const parts = {};
+  for (const [name, value] of new URLSearchParams(hash.replace(/^#/, ""))) {
+    if (!Object.hasOwn(ADDRESS_PARTS, name)) throw new AddressFault(`the address has a part "${name}", which is none`);
+    if (name in parts) throw new AddressFault(`the address has "${name}" twice`);
+    if (!ADDRESS_PARTS[name].test(value)) throw new AddressFault(`"${value.slice(0, 60)}" is no ${name} of an address`);
+    parts[name] = value;
+  }
+  return parts;
+}
+
+function textOfParts(parts) {
+  const missing = ["list", "threads", "quota"].find((name) => parts[name] === undefined);
+  if (missing !== undefined) throw new AddressFault(`the address has no "${missing}"`);
+  const opening = (parts.opening?.split(".") ?? []).map((key) => `opening ${key}`);
+  const events = (parts.s ? parts.s.split(",") : []).map(longLine);
+  const lines = [...opening, ...events];
+  const title = `listset-schedule ${parts.version ?? neededVersion(lines)}`;
+  return [title, `list ${parts.list}`, `threads ${parts.threads}`, `quota ${parts.quota}`, ...lines, ""].join("\n");
+}
+
+const warningOf = (link) =>
+  link.startsWith("file:") ? " Others cannot open it, since it leads to a file on this computer: copy it from a page on a web server." : "";
+return { LONGEST_ADDRESS, AddressFault, addressOf, longLine, readAddress, warningOf };
+})();
+
+// run/seed.js
+const $run_seed = (() => {
+const { AddressFault } = $run_address;
+const { isTrace, Trace } = $run_trace;
+const KINDS = ["coarse", "fine", "optimistic", "lazy", "lock-free"];
+const TRIES = 200;
+const MOST_TRIED_CALLS = 8; // of a run with more calls the first is taken
+const MOST_SEEN = 60; // events that are told apart by eye
+
+const seedOf = (kind, number, { threads = 2, calls = 5, keys = 2 } = {}) => `${kind}.${threads}.${calls}.${keys}.${number}`;
+
+function partsOfSeed(seed) {
+  const [kind, ...values] = seed.split(".");
+  const [threads, calls, keys, number] = values.map(Number);
+  return { kind, threads, calls, keys, number };
+}
+
+function scheduleOfSeed(ask, seed) {
+  const { kind, threads, calls, keys, number } = partsOfSeed(seed);
+  const tries = calls > MOST_TRIED_CALLS ? 1 : TRIES;
+  let text = "";
+  for (let tried = 0; tried < tries; tried++) {
+    const answer = ask("listset_gen", [kind, threads, 4, calls, keys, number * TRIES + tried].join("\0"));
+    if (answer.status !== 0) throw new AddressFault(`the address names no run: ${answer.text.trim()}`);
+    text = answer.text;
+    const traced = ask("listset_trace", text).text;
+    if (!isTrace(traced)) throw new AddressFault(`the run of the address has no trace: ${traced.trim()}`);
+    if (isWorthIt(new Trace(traced))) break;
+  }
+  return joined(text);
+}
+
+function isWorthIt({ calls, changes, total }) {
+  const puts = changes.some(({ put }) => put !== undefined) && changes.some(({ took }) => took !== undefined);
+  const isBeside = (one, other) => one.thread !== other.thread && one.begun < other.ended && other.begun < one.ended;
+  const beside = calls.filter((one) => calls.some((other) => isBeside(one, other)));
+  const isTold = beside.some(({ changes: own, operation, reply }) => !own && (operation === "contains" || reply === "false"));
+  return puts && isTold && total <= MOST_SEEN && calls.every(({ ended }) => ended !== null);
+}
+
+function joined(text) {
+  const lines = [];
+  for (const line of text.trimEnd().split("\n")) {
+    const [thread, steps] = /^go (\d+) (\d+)$/.exec(line)?.slice(1) ?? [];
+    const [before, count] = /^go (\d+) (\d+)$/.exec(lines.at(-1) ?? "")?.slice(1) ?? [];
+    if (thread !== undefined && thread === before) lines[lines.length - 1] = `go ${thread} ${Number(count) + Number(steps)}`;
+    else lines.push(line);
+  }
+  return `${lines.join("\n")}\n`;
+}
+
+function anotherSeed(before, kind = null) {
+  const list = kind ?? KINDS[Math.floor(Math.random() * KINDS.length)];
+  const number = 1 + Math.floor(Math.random() * 9999);
+  const seed = seedOf(list, number);
+  return seed === before ? seedOf(list, (number % 9999) + 1) : seed;
+}
+return { seedOf, partsOfSeed, scheduleOfSeed, anotherSeed };
+})();
+
+// data/levels.js
+const $data_levels = (() => {
+const BREAK_LEVELS = {
+  lock: {
+    story: "One thread at a time, they say. Let two of them meet.",
+    hints: [
+      "Two adds of different keys, both between 3 and 7.",
+      "Let both threads walk to the same place: pred is the node of 3, curr that of 7.",
+      "Stop A just before it writes pred.next. Let B do its whole add. Then let A end.",
+    ],
+    lacks: "It continues although another thread holds the lock.",
+    others: {
+      "It releases the lock before it writes the arrow.": "it releases the lock only after that",
+      "It writes the arrow of pred before that of its own node.": "it writes the arrow of its own node first",
+    },
+    start: [["add", 5], ["add", 4]], shortest: [20, 2],
+    missing: [{ row: 1, part: "lock the list" }],
+  },
+  "mark-in-remove": {
+    story: "Two threads remove one key. One of them should answer that it came too late.",
+    hints: [
+      "Two removes of the same key, 3.",
+      "Let both threads find the node of 3 before either of them marks it.",
+      "Stop A before the step that sets the mark; let B set its own; then let both end.",
+    ],
+    lacks: "A remove marks a node that is marked already.",
+    others: {
+      "A remove takes its node out before it marks it.": "it marks the node first",
+      "A remove does not look whether its key is there.": "it compares curr.key with its key",
+    },
+    start: [["remove", 3], ["remove", 3]], shortest: [14, 2],
+    missing: [{ row: 9, part: "no mark" }],
+  },
+  mark: {
+    story: "Removing a node is one compare-and-set here. Fast. Too fast?",
+    hints: [
+      "An add of 5, and a remove of the node in front of it.",
+      "The pred of the add must be the node of 3, which the other thread removes.",
+      "Stop A before the step that links 5 in. Let B remove 3. Then one step of A.",
+    ],
+    lacks: "A remove unlinks its node without marking it first.",
+    others: {
+      "A remove marks a node that is marked already.": "it marks no node at all",
+      "An add writes its arrow without comparing.": "it compares with what it saw",
+    },
+    start: [["add", 5], ["remove", 3]], shortest: [15, 2],
+    missing: [{ row: 9, part: "CAS curr.next: succ, no mark → mark" }],
+  },
+  "new-slot": {
+    story: "Each key that is added needs a node of its own. Does it get one?",
+    hints: ["One thread is enough. It adds.", "Two adds of different keys, one after the other.", "Let A add 4, and then 5. Where is 4?"],
+    lacks: "An add writes into the node of its last key.",
+    others: {
+      "An add does not look whether its key is there.": "it compares curr.key with its key",
+      "An add writes its arrow without comparing.": "it compares with what it saw",
+    },
+    start: [["add", 4], ["add", 5]], shortest: [20, 2],
+    missing: [{ row: 5, part: "new " }],
+  },
+  "second-lock": {
+    story: "Hand over hand means two locks at a time. Here one hand stays in the pocket.",
+    hints: [
+      "An add of 5 beside a remove of 3, its neighbour.",
+      "The add must hold the lock of 3 while the other thread removes that node.",
+      "Let B step through its add until just before it writes pred.next, with 3 as its pred. Then try a remove of 3 by A.",
+    ],
+    lacks: "A remove locks only pred, and not the node that it unlinks.",
+    others: {
+      "A remove does not lock pred.": "it locks pred, and keeps that lock until it has written",
+      "A remove releases its lock before it writes.": "it releases its lock only after that",
+    },
+    start: [["remove", 3], ["add", 5]], shortest: [21, 2],
+    missing: [{ row: 3, part: "lock curr," }],
+  },
+  "hand-over-hand": {
+    story: "A walk should never be without a lock, not for one moment.",
+    hints: [
+      "An add of 5 beside a remove of 3, its neighbour.",
+      "There is a moment in which the walk of the add holds no lock. Find it.",
+      "Stop B on its way from the node of 3 to that of 7. Let A remove 3. Then let B end.",
+    ],
+    lacks: "A walk releases one lock before it has the next.",
+    others: {
+      "It releases its locks before it writes.": "it releases them only after that",
+      "A walk does not lock the head.": "it locks the head first of all",
+    },
+    start: [["remove", 3], ["add", 5]], shortest: [24, 2],
+    missing: [{ row: 3, part: "pred still locked" }],
+  },
+  "second-walk": {
+    story: "It locks two nodes, and looks again. But what does it look at?",
+    hints: [
+      "An add of 5 beside a remove of 3, its neighbour.",
+      "The node that the add has found as pred may be unlinked before it is locked.",
+      "Stop A before it locks pred, which is the node of 3. Let B remove 3. Then let A end.",
+    ],
+    lacks: "With the locks it does not walk again: pred may not be in the list any more.",
+    others: {
+      "It does not lock curr.": "it locks pred and curr",
+      "It does not look whether pred still leads to curr.": "it looks at that, with both locks",
+    },
+    start: [["add", 5], ["remove", 3]], shortest: [23, 2],
+    missing: [{ row: 6, part: "walk from the head again" }, { row: 7, part: "until pred is met, else not valid" }],
+  },
+  "marks-in-validation": {
+    story: "Marks are set here. Does everybody read them?",
+    hints: [
+      "An add of 5 beside a remove of 3, its neighbour.",
+      "The node that the add has found as pred may be removed before it is locked.",
+      "Stop A before it locks pred, which is the node of 3. Let B remove 3. Then let A end.",
+    ],
+    lacks: "The validation does not look at the marks.",
+    others: {
+      "The validation does not look whether pred still leads to curr.": "it looks at that, with both locks",
+      "A remove does not mark its node.": "it marks the node before it unlinks it",
+    },
+    start: [["add", 5], ["remove", 3]], shortest: [25, 2],
+    missing: [{ row: 6, part: "pred unmarked," }, { row: 7, part: "and curr unmarked" }],
+  },
+  "mark-in-add": {
+    story: "A marked arrow must not change. Somebody changes it all the same.",
+    hints: [
+      "An add of 5, and a remove of the node in front of it.",
+      "The remove must have marked the node of 3, and done no more.",
+      "Stop A before its last step. Let B remove 3 until it has set the mark. Then let A end.",
+    ],
+    lacks: "An add inserts its node behind a marked one.",
+    others: {
+      "A remove does not mark its node.": "it marks the node before it unlinks it",
+      "An add does not look whether its key is there.": "it compares curr.key with its key",
+    },
+    start: [["add", 5], ["remove", 3]], shortest: [17, 2],
+    missing: [{ row: 7, part: "no mark" }],
+  },
+  "same-node": {
+    story: "The second walk looks for pred. It meets something that looks like it.",
+    hints: [
+      "Three calls: an add of 5, and of the other thread a remove and an add of one key.",
+      "The node of 3 is unlinked, and another node of 3 is inserted.",
+      "Stop A before it locks pred, the old node of 3. Let B remove 3 and add 3 again. Then let A end.",
+    ],
+    lacks: "The second walk looks for the key of pred, and not for the node itself.",
+    others: {
+      "It does not walk a second time.": "it walks from the head again, with its locks",
+      "It does not lock pred.": "it locks pred and curr",
+    },
+    start: [["add", 5], ["remove", 3]], shortest: [36, 3],
+    missing: [{ row: 7, part: "pred is met" }],
+  },
+  "mark-at-key": {
+    story: "A marked node can stay in the chain for a while. Who reads it there?",
+    hints: [
+      "Three calls: an add of 5, a remove of 7, and then a contains of 7.",
+      "A remove whose last compare-and-set fails leaves its node in the chain, marked.",
+      "Stop A before it links 5 in. Let B remove 7 up to its last step. Link 5 in, let B end. Then call contains(7).",
+    ],
+    lacks: "A contains does not look at the mark of the node with its key.",
+    others: {
+      "A remove does not mark its node.": "it marks the node before it unlinks it",
+      "A contains stops before it comes to its key.": "it walks on while curr.key is below its key",
+    },
+    start: [["add", 5], ["remove", 7]], shortest: [26, 3],
+    missing: [{ row: 22, part: "and unmarked" }],
+  },
+  "mark-in-ceiling": {
+    story: "ceiling(2) asks for the smallest key from 2 on. It takes the first node that it finds. Any node?",
+    hints: [
+      "A remove of 3, and a ceiling of 2. Let something end in between.",
+      "The remove has marked the node of 3 and has not ended. A contains of 3 answers false. And then the ceiling?",
+      "Stop A after it set the mark. Let B call contains(3), and then ceiling(2).",
+    ],
+    lacks: "A ceiling does not look at the mark of its node.",
+    others: {
+      "A ceiling stops before it comes to its key.": "it walks on while curr.key is below its key",
+      "A remove does not mark its node.": "it marks the node before it unlinks it",
+    },
+    start: [["remove", 3], ["contains", 3]], shortest: [16, 3],
+    missing: [{ row: 25, part: "if marked: start again;" }],
+  },
+  "mark-in-contains": {
+    story: "Here contains does not look at the mark. No schedule is known after which no order explains the calls. Why not?",
+    hints: [
+      "A remove of 3, and a contains of 3 by the other thread.",
+      "The remove has set its mark and is still pending. So it may come after the contains.",
+      "When the remove has ended, can a new contains still reach its node? In this list a remove ends after the node is unlinked.",
+    ],
+    lacks: "A contains does not look at the mark of its node.",
+    others: {},
+    start: [["remove", 3], ["contains", 3]], shortest: null,
+    missing: [{ row: 22, part: "and unmarked" }],
+  },
+};
+
+const TEN = [
+  "lock", "second-lock", "hand-over-hand", "second-walk", "same-node", "marks-in-validation", "mark-in-remove", "mark", "mark-in-add",
+  "mark-at-key",
+];
+const THREE_MORE = ["new-slot", "mark-in-ceiling", "mark-in-contains"];
+
+const NUMBERED = Object.keys(BREAK_LEVELS);
+const numberOfLevel = (name) => NUMBERED.indexOf(name) + 1;
+const levelOfNumber = (number) => NUMBERED[Number(number) - 1];
+
+const whyWrong = (name, sentence) => `No: ${BREAK_LEVELS[name].others[sentence]}. Look for the line that this list makes differently.`;
+return { BREAK_LEVELS, TEN, THREE_MORE, numberOfLevel, levelOfNumber, whyWrong };
+})();
+
+// page/scene_address.js
+const $page_scene_address = (() => {
+const { levelOfNumber } = $data_levels;
+const { AddressFault, addressOf, LONGEST_ADDRESS, longLine } = $run_address;
+const { startOfLacking } = $run_broken;
+const { eventsAsked } = $run_schedule_text;
+const SCENES = ["assignment", "story", "ask", "code", "teachers"]; // run/address.js reads the others, with their schedules
+const SCENE_VIEWS = ["lecture", "embed"];
+
+function sceneOfHash(hash) {
+  const { view = null, ...parts } = Object.fromEntries(new URLSearchParams(hash.replace(/^#/, "")));
+  const activity = SCENES.find((name) => name in parts);
+  if (activity === undefined) return null;
+  if (view !== null && !SCENE_VIEWS.includes(view)) throw new AddressFault(`"${view.slice(0, 60)}" is no view of a page`);
+  const { [activity]: id, ...given } = parts;
+  return { activity, id, given, view };
+}
+
+const START_OF_CODE = [3, 7];
+const shortLine = (line) => `${line[0]}${line.split(" ").slice(1).join(".")}`;
+const linesOfCode = (s) => s.split(",").filter((line) => /^(b\d+\.[a-z]+\.\d+|g\d+\.\d+)$/.test(line)).map(longLine);
+
+const SET_OF_CODE = { threads: 2, quota: 9 };
+
+function addressOfCode(list, opening, lines, set = SET_OF_CODE) {
+  const ofOpening = opening.join() === START_OF_CODE.join() && lines.length === 0 ? "" : `&opening=${opening.join(".")}`;
+  const ofSet = ["threads", "quota"].map((name) => (set[name] === SET_OF_CODE[name] ? "" : `&${name}=${set[name]}`)).join("");
+  return `#code=${list}${ofSet}${ofOpening}${lines.length > 0 ? `&s=${lines.map(shortLine).join()}` : ""}`;
+}
+
+function addressOfLevel({ id }, { text }) {
+  const name = levelOfNumber(id);
+  if (id === "" || text === "" || text === startOfLacking(name)) return id === "" ? "#break" : `#break=${id}`;
+  return `#break=${id}&${addressOf(text, eventsAsked(text))?.slice(1) ?? ""}`;
+}
+
+function addressOfLesson({ id }, { text }, { course }) {
+  const named = `${course === null ? "#" : `${course}&`}learn${id === "" ? "" : `=${id}`}`;
+  const own = text === "" ? null : addressOf(text, eventsAsked(text));
+  const whole = own === null ? named : `${named}&${own.slice(1)}`;
+  return whole.length <= LONGEST_ADDRESS ? whole : named;
+}
+
+const addressOfAssignment = ({ id, given }) => `#${new URLSearchParams({ assignment: id, ...given })}`.replaceAll("%2C", ",");
+
+const plainAddress = ({ activity, id }) => `#${activity}${id === "" ? "" : `=${id}`}`;
+
+const ADDRESSES = {
+  code: ({ id, given }, { text }) => text || `#${new URLSearchParams({ code: id, ...given })}`,
+  compare: (place, { text }) => text || plainAddress(place),
+  break: addressOfLevel,
+  learn: addressOfLesson,
+  assignment: addressOfAssignment,
+};
+
+const addressOfScene = ({ place, scene }, given) =>
+  `${(ADDRESSES[place.activity] ?? plainAddress)(place, scene, given)}${place.view === null ? "" : `&view=${place.view}`}`;
+return { sceneOfHash, START_OF_CODE, linesOfCode, SET_OF_CODE, addressOfCode, addressOfAssignment, addressOfScene };
+})();
+
+// page/address_of.js
+const $page_address_of = (() => {
+const { CLASSICS } = $made_classics;
+const { LISTS } = $made_rows;
+const { addressOf } = $run_address;
+const { inLetters } = $run_markup;
+const { partsOfSeed } = $run_seed;
+const { addressOfScene } = $page_scene_address;
+function ofRun(state) {
+  const { task, run } = state;
+  if (task.kind === "own") return addressOf(run.text, run.count, run.lacks);
+  return `#${task.kind}=${task.id}&event=${run.count}`;
+}
+
+function addressIn(state, given) {
+  const { place, exercise } = state;
+  if (place.screen === "scene") return addressOfScene(state, given);
+  const view = place.view === null ? "" : `&view=${place.view}`;
+  const address = ofRun(state);
+  return address === null ? null : `${address}${exercise === null ? "" : "&judge"}${view}`;
+}
+
+const WHOLE = "Why not just one lock?";
+
+function titleIn(state, titleOfScene) {
+  const { place, task, run } = state;
+  const list = run.trace === null ? "" : LISTS[run.trace.kind].name;
+  if (place.screen === "scene") return titleOfScene(place);
+  const judged = state.exercise === null ? "" : "Judge: ";
+  const ofTask = {
+    example: () => `${judged}${inLetters(CLASSICS[task.id].question)}`,
+    seed: () => `${judged}Run ${partsOfSeed(task.id).number} of ${list}`,
+    own: () => `${judged}${task.work}: ${list}`,
+  };
+  return `${ofTask[task.kind]()} · ${WHOLE}`;
+}
+return { addressIn, titleIn };
 })();
 
 // made/book.js
@@ -4802,161 +5212,6 @@ const BOOK = [
 return { BOOK_NAME, BOOK };
 })();
 
-// run/address.js
-const $run_address = (() => {
-const { LACKING } = $made_classics;
-const { LISTS } = $made_rows;
-const LONGEST_ADDRESS = 30000; // characters; a longer schedule has no address
-const SHORT_WORDS = { begin: "b", go: "g" };
-const LONG_WORDS = { b: "begin", g: "go" };
-const SHORT_EVENT = String.raw`(b\d+\.[a-z]+\.\d+|g\d+\.\d+)`;
-const ADDRESS_PARTS = {
-  example: /^[a-z-]+$/,
-  list: /^[A-Za-z-]+$/,
-  threads: /^\d+$/,
-  quota: /^\d+$/,
-  version: /^\d+$/,
-  opening: /^\d+(\.\d+)*$/,
-  s: new RegExp(`^(${SHORT_EVENT}(,${SHORT_EVENT})*)?$`),
-  event: /^\d+$/,
-  lacks: /^(\d+|[A-Za-z-]+)$/,
-  view: /^(lecture|list|history)$/,
-  course: /^[A-Za-z0-9_-]+$/,
-  sides: /^(coarse|fine|optimistic|lazy|lock-free)\.(coarse|fine|optimistic|lazy|lock-free)$/,
-  calls: /^(\d\d?\.[a-z]+\.\d+(,|$))+$/,
-  turns: /^(\d\d?(\.\d\d?)*)?$/,
-  watch: /^[a-z-]*$/,
-  learn: /^[a-z0-9-]*$/,
-  judge: /^$/,
-  break: /^\d*$/,
-  compare: /^$/,
-  read: /^$/,
-  seed: /^(coarse|fine|optimistic|lazy|lock-free)\.\d{1,2}\.\d{1,2}\.\d{1,2}\.\d{1,9}$/,
-};
-
-class AddressFault extends Error {}
-
-const neededVersion = (lines) => (lines.some((line) => /^(opening |begin \d+ ceiling )/.test(line)) ? 2 : 1);
-
-function addressOf(text, event, lacks = null) {
-  if (text.length > 2 * LONGEST_ADDRESS) return null; // an address has more than half of the letters
-  const [title, list, threads, quota, ...lines] = text.split("\n").slice(0, -1);
-  const isOpening = (line) => line.startsWith("opening ");
-  const opening = lines.filter(isOpening).map((line) => line.slice("opening ".length));
-  const events = lines.filter((line) => !isOpening(line)).map(shortLine);
-  const version = title?.split(" ")[1];
-  const parts = [`list=${list?.split(" ")[1]}`, `threads=${threads?.split(" ")[1]}`, `quota=${quota?.split(" ")[1]}`];
-  if (version !== String(neededVersion(lines))) parts.push(`version=${version}`);
-  if (opening.length > 0) parts.push(`opening=${opening.join(".")}`);
-  parts.push(`s=${events.join()}`, `event=${event}`);
-  if (lacks !== null) parts.push(`lacks=${Object.keys(LACKING).indexOf(lacks) + 1}`);
-  const address = `#${parts.join("&")}`;
-  return address.length <= LONGEST_ADDRESS && isAddressOf(address, text) ? address : null;
-}
-
-const shortLine = (line) => {
-  const [word, ...values] = line.split(" ");
-  return `${SHORT_WORDS[word] ?? word}${values.join(".")}`;
-};
-
-const longLine = (short) => `${LONG_WORDS[short[0]]} ${short.slice(1).replaceAll(".", " ")}`;
-
-function isAddressOf(address, text) {
-  try {
-    return readAddress(address).text === text;
-  } catch (fault) {
-    if (!(fault instanceof AddressFault)) throw fault;
-    return false;
-  }
-}
-
-function readAddress(hash) {
-  const { view = null, course = null, lacks: which, seed = null, ...rest } = partsOf(hash);
-  const { place, isJudged, parts } = placeOf(rest, seed);
-  const lacks = which === undefined ? null : lackingNamed(which, parts);
-  const own = { view, course, sides: null, lacks, place, seed, isJudged };
-  const named = { example: parts.example ?? null, text: null, event: Number(parts.event ?? 0), ...own };
-  if (parts.sides !== undefined) return { ...named, sides: parts };
-  const ofSchedule = Object.keys(parts).filter((name) => name !== "event" && name !== "example");
-  if (named.example !== null && ofSchedule.length > 0) {
-    throw new AddressFault(`the address names an example, and has "${ofSchedule[0]}" too`);
-  }
-  if (ofSchedule.length > 0) named.text = textOfParts(parts);
-  return named;
-}
-
-function lackingNamed(which, { list, example }) {
-  const names = Object.keys(LACKING);
-  const lacks = names.includes(which) ? which : names[which - 1];
-  if (lacks === undefined) {
-    throw new AddressFault(`there is no broken list "${which}": expected 1 to ${names.length}, or a name that "listset show --help" prints`);
-  }
-  if (list === LACKING[lacks]) return lacks;
-  const named = list !== undefined ? `list=${list}` : example !== undefined ? `example=${example}` : "no list";
-  throw new AddressFault(`lacks=${which} is a broken ${LISTS[LACKING[lacks]].name}, and the address has ${named}`);
-}
-
-function placeOf(parts, seed) {
-  const isRun = seed !== null || parts.example !== undefined || parts.list !== undefined;
-  const name = ["watch", "learn", "judge", "break", "compare", "read"].find((one) => parts[one] !== undefined);
-  if (name === undefined) return { place: null, isJudged: false, parts };
-  const { [name]: value, ...others } = parts;
-  const isJudged = name === "judge" && isRun;
-  return { place: isJudged ? null : [name, value], isJudged, parts: others };
-}
-
-function partsOf(hash) {
-  const parts = {};
-  for (const [name, value] of new URLSearchParams(hash.replace(/^#/, ""))) {
-    if (!Object.hasOwn(ADDRESS_PARTS, name)) throw new AddressFault(`the address has a part "${name}", which is none`);
-    if (name in parts) throw new AddressFault(`the address has "${name}" twice`);
-    if (!ADDRESS_PARTS[name].test(value)) throw new AddressFault(`"${value.slice(0, 60)}" is no ${name} of an address`);
-    parts[name] = value;
-  }
-  return parts;
-}
-
-function textOfParts(parts) {
-  const missing = ["list", "threads", "quota"].find((name) => parts[name] === undefined);
-  if (missing !== undefined) throw new AddressFault(`the address has no "${missing}"`);
-  const opening = (parts.opening?.split(".") ?? []).map((key) => `opening ${key}`);
-  const events = (parts.s ? parts.s.split(",") : []).map(longLine);
-  const lines = [...opening, ...events];
-  const title = `listset-schedule ${parts.version ?? neededVersion(lines)}`;
-  return [title, `list ${parts.list}`, `threads ${parts.threads}`, `quota ${parts.quota}`, ...lines, ""].join("\n");
-}
-
-const warningOf = (link) =>
-  link.startsWith("file:") ? " Others cannot open it, since it leads to a file on this computer: copy it from a page on a web server." : "";
-return { LONGEST_ADDRESS, AddressFault, addressOf, longLine, readAddress, warningOf };
-})();
-
-// course/course_link.js
-const $course_course_link = (() => {
-const { AddressFault, LONGEST_ADDRESS } = $run_address;
-async function passed(bytes, stream) {
-  return new Uint8Array(await new Response(new Blob([bytes]).stream().pipeThrough(stream)).arrayBuffer());
-}
-
-async function courseAddress(text) {
-  const lines = text.split("\n").filter((line) => line.trim() !== "" && !line.startsWith("#"));
-  const bytes = await passed(new TextEncoder().encode(`${lines.join("\n")}\n`), new CompressionStream("deflate-raw"));
-  const letters = btoa(Array.from(bytes, (byte) => String.fromCharCode(byte)).join(""));
-  const address = `#course=${letters.replaceAll("+", "-").replaceAll("/", "_").replace(/=+$/, "")}`;
-  return address.length <= LONGEST_ADDRESS ? address : null;
-}
-
-async function courseOfAddress(letters) {
-  try {
-    const bytes = Uint8Array.from(atob(letters.replaceAll("-", "+").replaceAll("_", "/")), (letter) => letter.charCodeAt(0));
-    return new TextDecoder().decode(await passed(bytes, new DecompressionStream("deflate-raw")));
-  } catch {
-    throw new AddressFault("the course of the address cannot be unpacked: the link is cut");
-  }
-}
-return { courseAddress, courseOfAddress };
-})();
-
 // run/moments.js
 const $run_moments = (() => {
 const { isFailed, isLock, ownerIn } = $run_outcomes;
@@ -5422,6 +5677,252 @@ function triedCourse(ask, text) {
   return { name, lessons, text, faults: faults.sort((one, other) => one.line - other.line) };
 }
 return { MOST_EVENTS, judged, conditionTexts, missingIn, triedCourse };
+})();
+
+// page/kept.js
+const $page_kept = (() => {
+const { BOOK_NAME } = $made_book;
+const { CLASSICS } = $made_classics;
+const { byId } = $page_dom;
+const { announce, held, now } = $page_now;
+const KEPT = "listset-page-2";
+const KEPT_BEFORE = "listset-page"; // one text, as the page kept it before
+const HERE = "listset-here"; // the address of what was shown last
+const MOST_WORKS = 60; // the oldest ones go
+
+function keptUnder(name) {
+  try {
+    return JSON.parse(localStorage.getItem(name));
+  } catch {
+    return null;
+  }
+}
+
+function keepUnder(name, value) {
+  try {
+    localStorage.setItem(name, JSON.stringify(value));
+    return true;
+  } catch {
+    return false;
+  }
+}
+
+const isText = (value) => typeof value === "string";
+const isWork = (kept) => typeof kept?.text === "string" && typeof kept.box === "string" && Number.isInteger(kept.count);
+const KINDS = ["own", "example", "lesson", "seed"];
+const isTask = (task) => KINDS.includes(task?.kind) && isText(task.id) && isText(task.course);
+
+function taskOfName(name) {
+  const [, lesson, course = BOOK_NAME] = /^lesson ([a-z0-9-]+)(?: of (.+?))?(?: \d+)?$/.exec(name) ?? [];
+  if (lesson !== undefined) return { kind: "lesson", id: lesson, course };
+  const [, example] = /^from ([a-z-]+)(?: \d+)?$/.exec(name) ?? [];
+  if (Object.hasOwn(CLASSICS, example)) return { kind: "example", id: example, course: "" };
+  return { kind: "own", id: "", course: "" };
+}
+
+/** @type {(entry: any[]) => [string, any]} */
+const workOf = ([name, kept]) => [name, { ...kept, task: isTask(kept.task) ? kept.task : taskOfName(name) }];
+
+const works = {
+  /** @type {Map<string, any>} */
+  byName: new Map(),
+  isKept: true,
+
+  load() {
+    const kept = keptUnder(KEPT);
+    const before = keptUnder(KEPT_BEFORE);
+    const entries = Array.isArray(kept) ? kept : isWork(before) ? [["my schedule", before]] : [];
+    const isGood = (entry) => Array.isArray(entry) && isText(entry[0]) && isWork(entry[1]);
+    this.byName = new Map(entries.filter(isGood).map(workOf));
+  },
+
+  set(name, work) {
+    this.byName.delete(name);
+    this.byName.set(name, work);
+    const names = [...this.byName.keys()];
+    for (const old of names.slice(0, Math.max(0, names.length - MOST_WORKS))) this.byName.delete(old);
+    this.isKept = keepUnder(KEPT, [...this.byName]);
+  },
+
+  last(isWanted) {
+    return [...this.byName].findLast(([, work]) => isWanted(work))?.[0] ?? null;
+  },
+
+  nameOf(text, lacks = null) {
+    return this.last((work) => work.text === text && (work.lacks ?? null) === lacks);
+  },
+
+  newName(word) {
+    for (let number = 1; ; number++) {
+      const name = number === 1 ? word : `${word} ${number}`;
+      if (!this.byName.has(name)) return name;
+    }
+  },
+};
+
+function keepWork() {
+  const box = byId("schedule").value;
+  const { run, task } = now;
+  const isLookedAt = box === run.text && run.text === task.begun;
+  if (held.engine === null || run.text === "" || isLookedAt || task.work === "") return;
+  const before = works.byName.get(task.work);
+  if (before?.text === run.text && before.box === box && before.count === run.count) return;
+  const { kind, id } = task;
+  works.set(task.work, { text: run.text, box, count: run.count, lacks: run.lacks, task: { kind, id, course: "" } });
+  announce("kept");
+}
+return { HERE, keptUnder, keepUnder, isText, works, keepWork };
+})();
+
+// story/kept_story.js
+const $story_kept_story = (() => {
+const { LACKING } = $made_classics;
+const { isText, keepUnder, keptUnder } = $page_kept;
+const { change } = $page_now;
+const STORY = "listset-story";
+const BROKEN = "listset-broken"; // of each list that was broken the line that is handed in
+const NAMED = "listset-named-checks"; // the lists of which the reader has said what they lack
+const NOTHING = { at: 1, done: {}, asks: {}, student: "", number: "", homework: null };
+
+/** @returns {{ at: number, done: Record<string, boolean>, asks: Record<string, string>, student: string, number: string, homework: any }} */
+const keptStory = () => ({ ...NOTHING, ...keptUnder(STORY) });
+const keepStory = (change) => keepUnder(STORY, { ...keptStory(), ...change });
+
+const isBrokenLine = ([name, line]) => Object.hasOwn(LACKING, name) && isText(line);
+const brokenLines = () => Object.entries(keptUnder(BROKEN) ?? {}).filter(isBrokenLine);
+const isBrokenOnce = (name) => brokenLines().some(([one]) => one === name);
+const keepBrokenLine = (name, line) => keepUnder(BROKEN, { ...keptUnder(BROKEN), [name]: line });
+const isNamed = (name) => (keptUnder(NAMED) ?? []).includes(name);
+const keepNamed = (name) => keepUnder(NAMED, [...new Set([...(keptUnder(NAMED) ?? []), name])]);
+
+function startAfresh(button) {
+  if (button.dataset.isSure !== "yes") {
+    button.dataset.isSure = "yes";
+    button.textContent = "Press again: answers, solutions and names kept here go";
+    return;
+  }
+  change("text", { text: "" }); // and is not kept anew
+  try {
+    for (const name of Object.keys(localStorage)) if (name.startsWith("listset-")) localStorage.removeItem(name);
+  } catch {
+  }
+  location.hash = "#story=1&gone=yes"; // the first screen says so
+  location.reload();
+}
+return { keptStory, keepStory, brokenLines, isBrokenOnce, keepBrokenLine, isNamed, keepNamed, startAfresh };
+})();
+
+// story/assignment.js
+const $story_assignment = (() => {
+const { BOOK, BOOK_NAME } = $made_book;
+const { LACKING } = $made_classics;
+const { LISTS } = $made_rows;
+const { triedCourse } = $course_lesson;
+const { BREAK_LEVELS, levelOfNumber, numberOfLevel } = $data_levels;
+const { keptUnder } = $page_kept;
+const { askNow } = $page_now;
+const { addressOfAssignment } = $page_scene_address;
+const { AddressFault, addressOf, readAddress } = $run_address;
+const { NO_TASK } = $run_broken;
+const { inLetters } = $run_markup;
+const { eventsAsked } = $run_schedule_text;
+const { partsOfSeed, scheduleOfSeed } = $run_seed;
+const { brokenLines, keptStory } = $story_kept_story;
+const known = { course: null };
+
+const bookCourse = () => (known.course ??= triedCourse(askNow, BOOK));
+
+const allLevels = () => Object.keys(BREAK_LEVELS).filter((name) => name !== NO_TASK).map((name) => ({ name, number: numberOfLevel(name) }));
+
+const wordsIn = (text, sign = ".") => (text ?? "").split(sign).filter((word) => word !== "");
+const isSeed = (word) => /^(coarse|fine|optimistic|lazy|lock-free)\.\d{1,2}\.\d{1,2}\.\d{1,2}\.\d{1,9}$/.test(word);
+
+function addressOfTasks(title, { learn, levels, seeds }) {
+  const parts = Object.entries({ learn: learn.join("."), break: levels.join("."), judge: seeds.join(",") });
+  return addressOfAssignment({ id: title, given: Object.fromEntries(parts.filter(([, value]) => value !== "")) });
+}
+
+/** @typedef {{ id: string, kind: "Solve" | "Break" | "Judge", title: string, says: string, href: string, seed?: string }} Task */
+
+/** @returns {Task | null} */
+function lessonTask(name) {
+  const lesson = bookCourse().lessons.find((one) => one.name === name);
+  return lesson === undefined ? null : { id: name, kind: "Solve", title: lesson.title, says: inLetters(lesson.question), href: `#learn=${name}` };
+}
+
+/** @returns {Task | null} */
+function levelTask(number) {
+  const name = levelOfNumber(number);
+  if (name === undefined || name === NO_TASK) return null;
+  const title = `Level ${number}, ${LISTS[LACKING[name]].name}`;
+  return { id: `break ${name}`, kind: "Break", title, says: BREAK_LEVELS[name].story, href: `#break=${number}` };
+}
+
+/** @returns {Task | null} */
+function seedTask(seed) {
+  if (!isSeed(seed)) return null;
+  const { kind, number, calls } = partsOfSeed(seed);
+  const says = `${calls} calls: what does each answer, and where does it take effect?`;
+  return { id: `judge ${seed}`, kind: "Judge", title: `Run ${number}, ${LISTS[kind].name}`, says, href: `#seed=${seed}&judge`, seed };
+}
+
+function homeworkOf({ activity, id }, task = { kind: "", id: "" }) {
+  const { homework } = keptStory();
+  const isRun = activity === "judge" && task.kind === "seed";
+  if (homework === null || !(isRun || ["learn", "break"].includes(activity))) return null;
+  return wordsIn(homework.given[activity], isRun ? "," : ".").includes(isRun ? task.id : id) ? homework : null;
+}
+
+function wayOn({ activity, id }, own) {
+  const homework = homeworkOf({ activity, id });
+  if (homework === null) return own;
+  const { tasks } = tasksOf(homework.given);
+  const next = tasks[tasks.findIndex(({ href }) => href === `#${activity}=${id}`) + 1];
+  return next === undefined ? { href: addressOfAssignment(homework), words: "All tasks →" } : { href: next.href, words: "Next task →" };
+}
+
+function tasksOf(given) {
+  const unknown = [];
+  const taken = (words, taskOf, what) =>
+    words.flatMap((word) => {
+      const task = taskOf(word);
+      if (task === null) unknown.push(`${what} ${word.slice(0, 40)}`);
+      return task === null ? [] : [task];
+    });
+  const learn = taken(wordsIn(given.learn), lessonTask, "lesson");
+  const levels = taken(wordsIn(given.break), levelTask, "level");
+  return { tasks: [...learn, ...levels, ...taken(wordsIn(given.judge, ","), seedTask, "run")], unknown };
+}
+
+
+function textOfRun(run) {
+  try {
+    return run.includes("#") ? readAddress(run.slice(run.indexOf("#"))).text : null;
+  } catch (fault) {
+    if (fault instanceof AddressFault) return null;
+    throw fault;
+  }
+}
+
+function taskOfJudged(line, tasks) {
+  const [, run = "", level] = line.split(" ");
+  if (level === "claim") return null;
+  const text = textOfRun(run);
+  return tasks.find(({ seed }) => seed !== undefined && text === scheduleOfSeed(askNow, seed)) ?? null;
+}
+
+function linesDone(tasks) {
+  const lessons = keptUnder("listset-lessons-2")?.of?.[BOOK_NAME]?.solutions ?? {};
+  const broken = Object.fromEntries(brokenLines());
+  const judged = Object.values(keptUnder("listset-judged") ?? {}).filter((line) => typeof line === "string");
+  const lineOf = {
+    Solve: ({ id }) => (typeof lessons[id] === "string" ? `${id} ${addressOf(lessons[id], eventsAsked(lessons[id]))}` : undefined),
+    Break: ({ id }) => broken[id.slice("break ".length)],
+    Judge: (task) => judged.find((line) => taskOfJudged(line, [task]) !== null),
+  };
+  return Object.fromEntries(tasks.map((task) => [task.id, lineOf[task.kind](task)]));
+}
+return { bookCourse, allLevels, addressOfTasks, homeworkOf, wayOn, tasksOf, taskOfJudged, linesDone };
 })();
 
 // course/hand_in.js
@@ -6683,101 +7184,6 @@ function openKept(name, count) {
 return { examples, isExample, exampleText, openKept };
 })();
 
-// page/kept.js
-const $page_kept = (() => {
-const { BOOK_NAME } = $made_book;
-const { CLASSICS } = $made_classics;
-const { byId } = $page_dom;
-const { announce, held, now } = $page_now;
-const KEPT = "listset-page-2";
-const KEPT_BEFORE = "listset-page"; // one text, as the page kept it before
-const HERE = "listset-here"; // the address of what was shown last
-const MOST_WORKS = 60; // the oldest ones go
-
-function keptUnder(name) {
-  try {
-    return JSON.parse(localStorage.getItem(name));
-  } catch {
-    return null;
-  }
-}
-
-function keepUnder(name, value) {
-  try {
-    localStorage.setItem(name, JSON.stringify(value));
-    return true;
-  } catch {
-    return false;
-  }
-}
-
-const isText = (value) => typeof value === "string";
-const isWork = (kept) => typeof kept?.text === "string" && typeof kept.box === "string" && Number.isInteger(kept.count);
-const KINDS = ["own", "example", "lesson", "seed"];
-const isTask = (task) => KINDS.includes(task?.kind) && isText(task.id) && isText(task.course);
-
-function taskOfName(name) {
-  const [, lesson, course = BOOK_NAME] = /^lesson ([a-z0-9-]+)(?: of (.+?))?(?: \d+)?$/.exec(name) ?? [];
-  if (lesson !== undefined) return { kind: "lesson", id: lesson, course };
-  const [, example] = /^from ([a-z-]+)(?: \d+)?$/.exec(name) ?? [];
-  if (Object.hasOwn(CLASSICS, example)) return { kind: "example", id: example, course: "" };
-  return { kind: "own", id: "", course: "" };
-}
-
-/** @type {(entry: any[]) => [string, any]} */
-const workOf = ([name, kept]) => [name, { ...kept, task: isTask(kept.task) ? kept.task : taskOfName(name) }];
-
-const works = {
-  /** @type {Map<string, any>} */
-  byName: new Map(),
-  isKept: true,
-
-  load() {
-    const kept = keptUnder(KEPT);
-    const before = keptUnder(KEPT_BEFORE);
-    const entries = Array.isArray(kept) ? kept : isWork(before) ? [["my schedule", before]] : [];
-    const isGood = (entry) => Array.isArray(entry) && isText(entry[0]) && isWork(entry[1]);
-    this.byName = new Map(entries.filter(isGood).map(workOf));
-  },
-
-  set(name, work) {
-    this.byName.delete(name);
-    this.byName.set(name, work);
-    const names = [...this.byName.keys()];
-    for (const old of names.slice(0, Math.max(0, names.length - MOST_WORKS))) this.byName.delete(old);
-    this.isKept = keepUnder(KEPT, [...this.byName]);
-  },
-
-  last(isWanted) {
-    return [...this.byName].findLast(([, work]) => isWanted(work))?.[0] ?? null;
-  },
-
-  nameOf(text, lacks = null) {
-    return this.last((work) => work.text === text && (work.lacks ?? null) === lacks);
-  },
-
-  newName(word) {
-    for (let number = 1; ; number++) {
-      const name = number === 1 ? word : `${word} ${number}`;
-      if (!this.byName.has(name)) return name;
-    }
-  },
-};
-
-function keepWork() {
-  const box = byId("schedule").value;
-  const { run, task } = now;
-  const isLookedAt = box === run.text && run.text === task.begun;
-  if (held.engine === null || run.text === "" || isLookedAt || task.work === "") return;
-  const before = works.byName.get(task.work);
-  if (before?.text === run.text && before.box === box && before.count === run.count) return;
-  const { kind, id } = task;
-  works.set(task.work, { text: run.text, box, count: run.count, lacks: run.lacks, task: { kind, id, course: "" } });
-  announce("kept");
-}
-return { HERE, keptUnder, keepUnder, isText, works, keepWork };
-})();
-
 // page/work.js
 const $page_work = (() => {
 const { askList } = $run_broken;
@@ -6997,372 +7403,6 @@ function refreshReport() {
 return { saveText, comparedTrace, openFile, refreshReport };
 })();
 
-// run/seed.js
-const $run_seed = (() => {
-const { AddressFault } = $run_address;
-const { isTrace, Trace } = $run_trace;
-const KINDS = ["coarse", "fine", "optimistic", "lazy", "lock-free"];
-const TRIES = 200;
-const MOST_TRIED_CALLS = 8; // of a run with more calls the first is taken
-const MOST_SEEN = 60; // events that are told apart by eye
-
-const seedOf = (kind, number, { threads = 2, calls = 5, keys = 2 } = {}) => `${kind}.${threads}.${calls}.${keys}.${number}`;
-
-function partsOfSeed(seed) {
-  const [kind, ...values] = seed.split(".");
-  const [threads, calls, keys, number] = values.map(Number);
-  return { kind, threads, calls, keys, number };
-}
-
-function scheduleOfSeed(ask, seed) {
-  const { kind, threads, calls, keys, number } = partsOfSeed(seed);
-  const tries = calls > MOST_TRIED_CALLS ? 1 : TRIES;
-  let text = "";
-  for (let tried = 0; tried < tries; tried++) {
-    const answer = ask("listset_gen", [kind, threads, 4, calls, keys, number * TRIES + tried].join("\0"));
-    if (answer.status !== 0) throw new AddressFault(`the address names no run: ${answer.text.trim()}`);
-    text = answer.text;
-    const traced = ask("listset_trace", text).text;
-    if (!isTrace(traced)) throw new AddressFault(`the run of the address has no trace: ${traced.trim()}`);
-    if (isWorthIt(new Trace(traced))) break;
-  }
-  return joined(text);
-}
-
-function isWorthIt({ calls, changes, total }) {
-  const puts = changes.some(({ put }) => put !== undefined) && changes.some(({ took }) => took !== undefined);
-  const isBeside = (one, other) => one.thread !== other.thread && one.begun < other.ended && other.begun < one.ended;
-  const beside = calls.filter((one) => calls.some((other) => isBeside(one, other)));
-  const isTold = beside.some(({ changes: own, operation, reply }) => !own && (operation === "contains" || reply === "false"));
-  return puts && isTold && total <= MOST_SEEN && calls.every(({ ended }) => ended !== null);
-}
-
-function joined(text) {
-  const lines = [];
-  for (const line of text.trimEnd().split("\n")) {
-    const [thread, steps] = /^go (\d+) (\d+)$/.exec(line)?.slice(1) ?? [];
-    const [before, count] = /^go (\d+) (\d+)$/.exec(lines.at(-1) ?? "")?.slice(1) ?? [];
-    if (thread !== undefined && thread === before) lines[lines.length - 1] = `go ${thread} ${Number(count) + Number(steps)}`;
-    else lines.push(line);
-  }
-  return `${lines.join("\n")}\n`;
-}
-
-function anotherSeed(before, kind = null) {
-  const list = kind ?? KINDS[Math.floor(Math.random() * KINDS.length)];
-  const number = 1 + Math.floor(Math.random() * 9999);
-  const seed = seedOf(list, number);
-  return seed === before ? seedOf(list, (number % 9999) + 1) : seed;
-}
-return { seedOf, partsOfSeed, scheduleOfSeed, anotherSeed };
-})();
-
-// data/levels.js
-const $data_levels = (() => {
-const BREAK_LEVELS = {
-  lock: {
-    story: "One thread at a time, they say. Let two of them meet.",
-    hints: [
-      "Two adds of different keys, both between 3 and 7.",
-      "Let both threads walk to the same place: pred is the node of 3, curr that of 7.",
-      "Stop A just before it writes pred.next. Let B do its whole add. Then let A end.",
-    ],
-    lacks: "It continues although another thread holds the lock.",
-    others: {
-      "It releases the lock before it writes the arrow.": "it releases the lock only after that",
-      "It writes the arrow of pred before that of its own node.": "it writes the arrow of its own node first",
-    },
-    start: [["add", 5], ["add", 4]], shortest: [20, 2],
-    missing: [{ row: 1, part: "lock the list" }],
-  },
-  "mark-in-remove": {
-    story: "Two threads remove one key. One of them should answer that it came too late.",
-    hints: [
-      "Two removes of the same key, 3.",
-      "Let both threads find the node of 3 before either of them marks it.",
-      "Stop A before the step that sets the mark; let B set its own; then let both end.",
-    ],
-    lacks: "A remove marks a node that is marked already.",
-    others: {
-      "A remove takes its node out before it marks it.": "it marks the node first",
-      "A remove does not look whether its key is there.": "it compares curr.key with its key",
-    },
-    start: [["remove", 3], ["remove", 3]], shortest: [14, 2],
-    missing: [{ row: 9, part: "no mark" }],
-  },
-  mark: {
-    story: "Removing a node is one compare-and-set here. Fast. Too fast?",
-    hints: [
-      "An add of 5, and a remove of the node in front of it.",
-      "The pred of the add must be the node of 3, which the other thread removes.",
-      "Stop A before the step that links 5 in. Let B remove 3. Then one step of A.",
-    ],
-    lacks: "A remove unlinks its node without marking it first.",
-    others: {
-      "A remove marks a node that is marked already.": "it marks no node at all",
-      "An add writes its arrow without comparing.": "it compares with what it saw",
-    },
-    start: [["add", 5], ["remove", 3]], shortest: [15, 2],
-    missing: [{ row: 9, part: "CAS curr.next: succ, no mark → mark" }],
-  },
-  "new-slot": {
-    story: "Each key that is added needs a node of its own. Does it get one?",
-    hints: ["One thread is enough. It adds.", "Two adds of different keys, one after the other.", "Let A add 4, and then 5. Where is 4?"],
-    lacks: "An add writes into the node of its last key.",
-    others: {
-      "An add does not look whether its key is there.": "it compares curr.key with its key",
-      "An add writes its arrow without comparing.": "it compares with what it saw",
-    },
-    start: [["add", 4], ["add", 5]], shortest: [20, 2],
-    missing: [{ row: 5, part: "new " }],
-  },
-  "second-lock": {
-    story: "Hand over hand means two locks at a time. Here one hand stays in the pocket.",
-    hints: [
-      "An add of 5 beside a remove of 3, its neighbour.",
-      "The add must hold the lock of 3 while the other thread removes that node.",
-      "Let B step through its add until just before it writes pred.next, with 3 as its pred. Then try a remove of 3 by A.",
-    ],
-    lacks: "A remove locks only pred, and not the node that it unlinks.",
-    others: {
-      "A remove does not lock pred.": "it locks pred, and keeps that lock until it has written",
-      "A remove releases its lock before it writes.": "it releases its lock only after that",
-    },
-    start: [["remove", 3], ["add", 5]], shortest: [21, 2],
-    missing: [{ row: 3, part: "lock curr," }],
-  },
-  "hand-over-hand": {
-    story: "A walk should never be without a lock, not for one moment.",
-    hints: [
-      "An add of 5 beside a remove of 3, its neighbour.",
-      "There is a moment in which the walk of the add holds no lock. Find it.",
-      "Stop B on its way from the node of 3 to that of 7. Let A remove 3. Then let B end.",
-    ],
-    lacks: "A walk releases one lock before it has the next.",
-    others: {
-      "It releases its locks before it writes.": "it releases them only after that",
-      "A walk does not lock the head.": "it locks the head first of all",
-    },
-    start: [["remove", 3], ["add", 5]], shortest: [24, 2],
-    missing: [{ row: 3, part: "pred still locked" }],
-  },
-  "second-walk": {
-    story: "It locks two nodes, and looks again. But what does it look at?",
-    hints: [
-      "An add of 5 beside a remove of 3, its neighbour.",
-      "The node that the add has found as pred may be unlinked before it is locked.",
-      "Stop A before it locks pred, which is the node of 3. Let B remove 3. Then let A end.",
-    ],
-    lacks: "With the locks it does not walk again: pred may not be in the list any more.",
-    others: {
-      "It does not lock curr.": "it locks pred and curr",
-      "It does not look whether pred still leads to curr.": "it looks at that, with both locks",
-    },
-    start: [["add", 5], ["remove", 3]], shortest: [23, 2],
-    missing: [{ row: 6, part: "walk from the head again" }, { row: 7, part: "until pred is met, else not valid" }],
-  },
-  "marks-in-validation": {
-    story: "Marks are set here. Does everybody read them?",
-    hints: [
-      "An add of 5 beside a remove of 3, its neighbour.",
-      "The node that the add has found as pred may be removed before it is locked.",
-      "Stop A before it locks pred, which is the node of 3. Let B remove 3. Then let A end.",
-    ],
-    lacks: "The validation does not look at the marks.",
-    others: {
-      "The validation does not look whether pred still leads to curr.": "it looks at that, with both locks",
-      "A remove does not mark its node.": "it marks the node before it unlinks it",
-    },
-    start: [["add", 5], ["remove", 3]], shortest: [25, 2],
-    missing: [{ row: 6, part: "pred unmarked," }, { row: 7, part: "and curr unmarked" }],
-  },
-  "mark-in-add": {
-    story: "A marked arrow must not change. Somebody changes it all the same.",
-    hints: [
-      "An add of 5, and a remove of the node in front of it.",
-      "The remove must have marked the node of 3, and done no more.",
-      "Stop A before its last step. Let B remove 3 until it has set the mark. Then let A end.",
-    ],
-    lacks: "An add inserts its node behind a marked one.",
-    others: {
-      "A remove does not mark its node.": "it marks the node before it unlinks it",
-      "An add does not look whether its key is there.": "it compares curr.key with its key",
-    },
-    start: [["add", 5], ["remove", 3]], shortest: [17, 2],
-    missing: [{ row: 7, part: "no mark" }],
-  },
-  "same-node": {
-    story: "The second walk looks for pred. It meets something that looks like it.",
-    hints: [
-      "Three calls: an add of 5, and of the other thread a remove and an add of one key.",
-      "The node of 3 is unlinked, and another node of 3 is inserted.",
-      "Stop A before it locks pred, the old node of 3. Let B remove 3 and add 3 again. Then let A end.",
-    ],
-    lacks: "The second walk looks for the key of pred, and not for the node itself.",
-    others: {
-      "It does not walk a second time.": "it walks from the head again, with its locks",
-      "It does not lock pred.": "it locks pred and curr",
-    },
-    start: [["add", 5], ["remove", 3]], shortest: [36, 3],
-    missing: [{ row: 7, part: "pred is met" }],
-  },
-  "mark-at-key": {
-    story: "A marked node can stay in the chain for a while. Who reads it there?",
-    hints: [
-      "Three calls: an add of 5, a remove of 7, and then a contains of 7.",
-      "A remove whose last compare-and-set fails leaves its node in the chain, marked.",
-      "Stop A before it links 5 in. Let B remove 7 up to its last step. Link 5 in, let B end. Then call contains(7).",
-    ],
-    lacks: "A contains does not look at the mark of the node with its key.",
-    others: {
-      "A remove does not mark its node.": "it marks the node before it unlinks it",
-      "A contains stops before it comes to its key.": "it walks on while curr.key is below its key",
-    },
-    start: [["add", 5], ["remove", 7]], shortest: [26, 3],
-    missing: [{ row: 22, part: "and unmarked" }],
-  },
-  "mark-in-ceiling": {
-    story: "ceiling(2) asks for the smallest key from 2 on. It takes the first node that it finds. Any node?",
-    hints: [
-      "A remove of 3, and a ceiling of 2. Let something end in between.",
-      "The remove has marked the node of 3 and has not ended. A contains of 3 answers false. And then the ceiling?",
-      "Stop A after it set the mark. Let B call contains(3), and then ceiling(2).",
-    ],
-    lacks: "A ceiling does not look at the mark of its node.",
-    others: {
-      "A ceiling stops before it comes to its key.": "it walks on while curr.key is below its key",
-      "A remove does not mark its node.": "it marks the node before it unlinks it",
-    },
-    start: [["remove", 3], ["contains", 3]], shortest: [16, 3],
-    missing: [{ row: 25, part: "if marked: start again;" }],
-  },
-  "mark-in-contains": {
-    story: "Here contains does not look at the mark. No schedule is known after which no order explains the calls. Why not?",
-    hints: [
-      "A remove of 3, and a contains of 3 by the other thread.",
-      "The remove has set its mark and is still pending. So it may come after the contains.",
-      "When the remove has ended, can a new contains still reach its node? In this list a remove ends after the node is unlinked.",
-    ],
-    lacks: "A contains does not look at the mark of its node.",
-    others: {},
-    start: [["remove", 3], ["contains", 3]], shortest: null,
-    missing: [{ row: 22, part: "and unmarked" }],
-  },
-};
-
-const TEN = [
-  "lock", "second-lock", "hand-over-hand", "second-walk", "same-node", "marks-in-validation", "mark-in-remove", "mark", "mark-in-add",
-  "mark-at-key",
-];
-const THREE_MORE = ["new-slot", "mark-in-ceiling", "mark-in-contains"];
-
-const NUMBERED = Object.keys(BREAK_LEVELS);
-const numberOfLevel = (name) => NUMBERED.indexOf(name) + 1;
-const levelOfNumber = (number) => NUMBERED[Number(number) - 1];
-
-const whyWrong = (name, sentence) => `No: ${BREAK_LEVELS[name].others[sentence]}. Look for the line that this list makes differently.`;
-return { BREAK_LEVELS, TEN, THREE_MORE, numberOfLevel, levelOfNumber, whyWrong };
-})();
-
-// page/scene_address.js
-const $page_scene_address = (() => {
-const { levelOfNumber } = $data_levels;
-const { AddressFault, addressOf, LONGEST_ADDRESS, longLine } = $run_address;
-const { startOfLacking } = $run_broken;
-const { eventsAsked } = $run_schedule_text;
-const SCENES = ["assignment", "story", "ask", "code", "teachers"]; // run/address.js reads the others, with their schedules
-const SCENE_VIEWS = ["lecture", "embed"];
-
-function sceneOfHash(hash) {
-  const { view = null, ...parts } = Object.fromEntries(new URLSearchParams(hash.replace(/^#/, "")));
-  const activity = SCENES.find((name) => name in parts);
-  if (activity === undefined) return null;
-  if (view !== null && !SCENE_VIEWS.includes(view)) throw new AddressFault(`"${view.slice(0, 60)}" is no view of a page`);
-  const { [activity]: id, ...given } = parts;
-  return { activity, id, given, view };
-}
-
-const START_OF_CODE = [3, 7];
-const shortLine = (line) => `${line[0]}${line.split(" ").slice(1).join(".")}`;
-const linesOfCode = (s) => s.split(",").filter((line) => /^(b\d+\.[a-z]+\.\d+|g\d+\.\d+)$/.test(line)).map(longLine);
-
-const SET_OF_CODE = { threads: 2, quota: 9 };
-
-function addressOfCode(list, opening, lines, set = SET_OF_CODE) {
-  const ofOpening = opening.join() === START_OF_CODE.join() && lines.length === 0 ? "" : `&opening=${opening.join(".")}`;
-  const ofSet = ["threads", "quota"].map((name) => (set[name] === SET_OF_CODE[name] ? "" : `&${name}=${set[name]}`)).join("");
-  return `#code=${list}${ofSet}${ofOpening}${lines.length > 0 ? `&s=${lines.map(shortLine).join()}` : ""}`;
-}
-
-function addressOfLevel({ id }, { text }) {
-  const name = levelOfNumber(id);
-  if (id === "" || text === "" || text === startOfLacking(name)) return id === "" ? "#break" : `#break=${id}`;
-  return `#break=${id}&${addressOf(text, eventsAsked(text))?.slice(1) ?? ""}`;
-}
-
-function addressOfLesson({ id }, { text }, { course }) {
-  const named = `${course === null ? "#" : `${course}&`}learn${id === "" ? "" : `=${id}`}`;
-  const own = text === "" ? null : addressOf(text, eventsAsked(text));
-  const whole = own === null ? named : `${named}&${own.slice(1)}`;
-  return whole.length <= LONGEST_ADDRESS ? whole : named;
-}
-
-const addressOfAssignment = ({ id, given }) => `#${new URLSearchParams({ assignment: id, ...given })}`.replaceAll("%2C", ",");
-
-const plainAddress = ({ activity, id }) => `#${activity}${id === "" ? "" : `=${id}`}`;
-
-const ADDRESSES = {
-  code: ({ id, given }, { text }) => text || `#${new URLSearchParams({ code: id, ...given })}`,
-  compare: (place, { text }) => text || plainAddress(place),
-  break: addressOfLevel,
-  learn: addressOfLesson,
-  assignment: addressOfAssignment,
-};
-
-const addressOfScene = ({ place, scene }, given) =>
-  `${(ADDRESSES[place.activity] ?? plainAddress)(place, scene, given)}${place.view === null ? "" : `&view=${place.view}`}`;
-return { sceneOfHash, START_OF_CODE, linesOfCode, SET_OF_CODE, addressOfCode, addressOfAssignment, addressOfScene };
-})();
-
-// page/address_of.js
-const $page_address_of = (() => {
-const { CLASSICS } = $made_classics;
-const { LISTS } = $made_rows;
-const { addressOf } = $run_address;
-const { inLetters } = $run_markup;
-const { partsOfSeed } = $run_seed;
-const { addressOfScene } = $page_scene_address;
-function ofRun(state) {
-  const { task, run } = state;
-  if (task.kind === "own") return addressOf(run.text, run.count, run.lacks);
-  return `#${task.kind}=${task.id}&event=${run.count}`;
-}
-
-function addressIn(state, given) {
-  const { place, exercise } = state;
-  if (place.screen === "scene") return addressOfScene(state, given);
-  const view = place.view === null ? "" : `&view=${place.view}`;
-  const address = ofRun(state);
-  return address === null ? null : `${address}${exercise === null ? "" : "&judge"}${view}`;
-}
-
-const WHOLE = "Why not just one lock?";
-
-function titleIn(state, titleOfScene) {
-  const { place, task, run } = state;
-  const list = run.trace === null ? "" : LISTS[run.trace.kind].name;
-  if (place.screen === "scene") return titleOfScene(place);
-  const judged = state.exercise === null ? "" : "Judge: ";
-  const ofTask = {
-    example: () => `${judged}${inLetters(CLASSICS[task.id].question)}`,
-    seed: () => `${judged}Run ${partsOfSeed(task.id).number} of ${list}`,
-    own: () => `${judged}${task.work}: ${list}`,
-  };
-  return `${ofTask[task.kind]()} · ${WHOLE}`;
-}
-return { addressIn, titleIn };
-})();
-
 // page/visit.js
 const $page_visit = (() => {
 const { warningOf } = $run_address;
@@ -7427,42 +7467,482 @@ async function copied(text) {
 return { visit, keepSoon, keepNow, linkTo, copyLink, copied };
 })();
 
-// story/kept_story.js
-const $story_kept_story = (() => {
-const { LACKING } = $made_classics;
-const { isText, keepUnder, keptUnder } = $page_kept;
-const { change } = $page_now;
-const STORY = "listset-story";
-const BROKEN = "listset-broken"; // of each list that was broken the line that is handed in
-const NAMED = "listset-named-checks"; // the lists of which the reader has said what they lack
-const NOTHING = { at: 1, done: {}, asks: {}, student: "", number: "", homework: null };
+// story/scene.js
+const $story_scene = (() => {
+const { change, dispatch, now } = $page_now;
+const { byId, setHtml } = $page_dom;
+const { copied } = $page_visit;
+const { tag } = $run_markup;
+const { isNarrow } = $story_figure_parts;
+/**
+ * @typedef {object} View
+ * @property {string} kind  the class of the place
+ * @property {(place: import("../page/state.js").Place) => string} title
+ * @property {(place: any) => string | null} [fault]  why there is no such place, or null
+ * @property {(place: import("../page/state.js").Place) => string} html
+ * @property {(place: import("../page/state.js").Place) => void} [begin]  once its parts are there: its figure, its first stage
+ * @property {(scene: import("../page/state.js").Scene) => void} [draw]  what follows from how far one is
+ * @property {() => void} [end]  before its parts go
+ * @property {Record<string, (target: any) => any>} [deeds]
+ * @property {(event: KeyboardEvent) => any} [press]  a key
+ */
 
-/** @returns {{ at: number, done: Record<string, boolean>, asks: Record<string, string>, student: string, number: string, homework: any }} */
-const keptStory = () => ({ ...NOTHING, ...keptUnder(STORY) });
-const keepStory = (change) => keepUnder(STORY, { ...keptStory(), ...change });
+/** @type {Record<string, View>} of an activity, or of one without an id its map */
+const VIEWS = {};
+const scene = { key: "", view: null, figure: null, isFirst: true, isNew: false };
 
-const isBrokenLine = ([name, line]) => Object.hasOwn(LACKING, name) && isText(line);
-const brokenLines = () => Object.entries(keptUnder(BROKEN) ?? {}).filter(isBrokenLine);
-const isBrokenOnce = (name) => brokenLines().some(([one]) => one === name);
-const keepBrokenLine = (name, line) => keepUnder(BROKEN, { ...keptUnder(BROKEN), [name]: line });
-const isNamed = (name) => (keptUnder(NAMED) ?? []).includes(name);
-const keepNamed = (name) => keepUnder(NAMED, [...new Set([...(keptUnder(NAMED) ?? []), name])]);
+const part = (selector) => byId("scene").querySelector(selector);
+const viewOf = ({ activity, id }) => (id === "" ? VIEWS[`${activity} map`] : undefined) ?? VIEWS[activity];
+const titleOfScene = (place) => viewOf(place).title(place);
+const faultOfScene = (place) => viewOf(place).fault?.(place) ?? null;
+const isScene = ({ place }) => place.screen === "scene";
+const setScene = (given) => dispatch("scene", given);
 
-function startAfresh(button) {
-  if (button.dataset.isSure !== "yes") {
-    button.dataset.isSure = "yes";
-    button.textContent = "Press again: answers, solutions and names kept here go";
-    return;
-  }
-  change("text", { text: "" }); // and is not kept anew
-  try {
-    for (const name of Object.keys(localStorage)) if (name.startsWith("listset-")) localStorage.removeItem(name);
-  } catch {
-  }
-  location.hash = "#story=1&gone=yes"; // the first screen says so
-  location.reload();
+async function copyText(text, words) {
+  part("#scene-told").textContent = (await copied(text)) ? words : `Copy this by hand: ${text}`;
 }
-return { keptStory, keepStory, brokenLines, isBrokenOnce, keepBrokenLine, isNamed, keepNamed, startAfresh };
+
+function talk(html) {
+  const box = part("#talk");
+  if (!setHtml(box, html) || scene.isNew || hiddenBelow() <= 0) return;
+  const last = box.lastElementChild;
+  const isTall = last.getBoundingClientRect().height > innerHeight / 2; // as on a phone: what comes first is to be seen
+  last.scrollIntoView({ block: isTall ? "start" : "end" });
+}
+
+function hiddenBelow() {
+  const [last, bar] = [part("#talk")?.lastElementChild, part(".foot")];
+  return last == null || bar === null ? 0 : last.getBoundingClientRect().bottom - bar.getBoundingClientRect().top;
+}
+
+function fitFigure({ spec }) {
+  const list = scene.figure.part("list").firstElementChild;
+  const over = hiddenBelow();
+  if (over <= 0 || list === null || isNarrow()) return;
+  Object.assign(spec, { high: (Number(list.getAttribute("height")) - over - 8) / innerHeight, least: 110 });
+  scene.figure.draw();
+}
+
+function takeFigure(figure) {
+  scene.figure?.end();
+  scene.figure = figure;
+  return figure;
+}
+
+function leaveScene() {
+  if (scene.view === null) return;
+  scene.view?.end?.();
+  takeFigure(null);
+  Object.assign(scene, { key: "", view: null });
+  byId("scene").innerHTML = "";
+}
+
+function renderScene({ place, scene: state }) {
+  const key = JSON.stringify([place.activity, place.id, place.given, place.view === "embed"]);
+  if (key === scene.key) return scene.view.draw?.(state);
+  scene.view?.end?.();
+  takeFigure(null);
+  const view = viewOf(place);
+  Object.assign(scene, { key, view });
+  const box = byId("scene");
+  box.className = view.kind;
+  box.innerHTML = view.html(place);
+  scrollTo(0, 0);
+  scene.isNew = true;
+  view.begin?.(place);
+  view.draw?.(now.scene);
+  if (scene.figure !== null) fitFigure(scene.figure);
+  scene.isNew = false;
+  if (!scene.isFirst && document.activeElement === document.body) box.querySelector("h1")?.focus({ preventScroll: true });
+  scene.isFirst = false; // who comes by a key goes on at the title of what is opened
+}
+
+function openScene({ activity, id = "", given = {}, view = null }) {
+  scene.key = ""; // also where it is shown already, it begins anew
+  change("view", { view });
+  dispatch("place", { activity, screen: "scene", id, given });
+}
+
+function listenToScene() {
+  byId("scene").addEventListener("click", (event) => {
+    const target = event.target.closest("[data-do]");
+    if (target !== null && byId("scene").contains(target)) scene.view?.deeds?.[target.dataset.do]?.(target);
+  });
+}
+
+const pressInScene = (event) => scene.view?.press?.(event);
+
+
+const head = (kicker, title, more = "", kind = "") =>
+  `<div class="head">${kicker === "" ? "" : `<p class="kicker">${kicker}</p>`}<h1 class="${kind}" tabindex="-1">${title}</h1>${more}</div>`;
+
+const FIGURE_AND_TALK = '<div id="figure"></div><div id="talk" class="talk" aria-live="polite"></div>';
+
+const hintAndOn = ({ href, words }) =>
+  `<button id="hint" class="primary" data-do="hint"></button>${tag("a", { id: "go-on", class: "button quiet", href, "data-words": words }, "Skip →")}`;
+
+const foot = (left, right) => tag("footer", { class: "foot" }, left, tag("span", { class: "spread" }), right);
+
+const optionButtons = (texts, wrong = []) => {
+  const button = (text, at) => {
+    const given = { class: "option", "data-do": "answer", "data-option": at, ...(wrong.includes(text) ? { "aria-disabled": "true" } : {}) };
+    return tag("button", given, `<b aria-hidden="true">${at + 1}</b> `, tag("span", {}, text));
+  };
+  return tag("div", { class: "options" }, ...texts.map(button));
+};
+
+const lowered = (text) => text[0].toLowerCase() + text.slice(1);
+
+function replyTo(options, chosen, isToCome) {
+  const option = options?.[chosen];
+  if (option === undefined) return "";
+  const { text, say, right = false } = option;
+  const said = `You said: ${lowered(text)}${text.endsWith("?") ? "" : "."}`;
+  return `<p class="you ${right ? "right" : "wrong"}"><b>${said}</b> ${say || (right && isToCome ? "Let us see." : "")}</p>`;
+}
+
+function drawLedger(run) {
+  const [promised, has] = [run.promised(), run.has()];
+  const all = [...new Set([...promised, ...has])].sort((one, other) => one - other);
+  const cell = (keys, others) => (key) => {
+    const isIn = keys.includes(key);
+    return tag("td", { class: isIn ? (others.includes(key) ? "" : "odd") : "gap" }, isIn ? key : "");
+  };
+  const row = (name, keys, others) => tag("tr", {}, tag("th", { scope: "row" }, name), ...all.map(cell(keys, others)));
+  return tag("table", { class: "ledger" }, row("What the answers promise", promised, has), row("What the list has", has, promised));
+}
+
+const isOddRun = (run) => run.promised().join() !== run.has().join();
+
+function threadOfKey({ key, ctrlKey, metaKey, altKey }) {
+  if (!now.prefs.letters || ctrlKey || metaKey || altKey || !/^[a-z]$/.test(key)) return -1;
+  return key.charCodeAt(0) - "a".charCodeAt(0);
+}
+
+const numberOfKey = ({ key }) => (now.prefs.letters && /^[1-9]$/.test(key) ? Number(key) - 1 : -1);
+
+const LIST_WORDS = { coarse: "One lock", fine: "Hand over hand", optimistic: "Optimistic", lazy: "Lazy", "lock-free": "Lock-free" };
+return { VIEWS, scene, part, titleOfScene, faultOfScene, isScene, setScene, copyText, talk, takeFigure, leaveScene, renderScene, openScene, listenToScene, pressInScene, head, FIGURE_AND_TALK, hintAndOn, foot, optionButtons, replyTo, drawLedger, isOddRun, threadOfKey, numberOfKey, LIST_WORDS };
+})();
+
+// story/assignment_view.js
+const $story_assignment_view = (() => {
+const { BOOK_NAME } = $made_book;
+const { handInText } = $course_hand_in;
+const { saveText } = $page_files;
+const { now } = $page_now;
+const { counted, escaped, tag } = $run_markup;
+const { linesDone, tasksOf } = $story_assignment;
+const { keepStory, keptStory, startAfresh } = $story_kept_story;
+const { copyText, foot, head, part } = $story_scene;
+const titleOfAssignment = ({ id }) => id || "Assignment";
+
+function doneOf(place) {
+  const { tasks, unknown } = tasksOf(place.given);
+  const lines = linesDone(tasks);
+  return { tasks, unknown, lines, done: tasks.filter(({ id }) => lines[id] !== undefined) };
+}
+
+function itemOf({ kind, title, says, href }, isDone) {
+  const tick = tag("i", { class: "tick", role: "img", "aria-label": isDone ? "done" : "open" }, isDone ? "✓" : "");
+  const words = `${tag("span", { class: "kind" }, kind)}<b>${escaped(title)}</b>${tag("span", { class: "says" }, escaped(says))}`;
+  return tag("li", { class: isDone ? "done" : "" }, tag("a", { class: "task", href }, tick, words));
+}
+
+const HAND = ({ student, number }, count) => `<section class="panel hand" id="hand"><h2>Hand in</h2>
+  <div class="line"><label>Name <input id="hand-student" autocomplete="name" value="${escaped(student)}"></label>
+  <label>Student number <input id="hand-number" inputmode="numeric" value="${escaped(number)}"></label>
+  <button data-do="copy">Copy the text</button><button data-do="save">Save as a file</button>
+  <button class="quiet" data-do="afresh">Start afresh on this computer</button></div>
+  <p class="small" id="scene-told" role="status">The text has your ${counted(count, "solution")}. Your teacher’s page runs ${count === 1 ? "it" : "each of them"} again.</p>
+  <details><summary>See the text</summary><pre id="hand-text"></pre></details></section>`;
+
+function html(place) {
+  const { tasks, unknown, lines, done } = doneOf(place);
+  const first = tasks.find(({ id }) => lines[id] === undefined);
+  const wrong = unknown.length === 0 ? "" : `<p class="again">This page does not know: ${escaped(unknown.join(", "))}. Tell your teacher.</p>`;
+  const lead = `<p class="lead">${counted(tasks.length, "task")}, ${done.length} done in this browser. Come back by the same link: what is done stays ticked.</p>
+    <progress max="${tasks.length || 1}" value="${done.length}" aria-label="${done.length} of ${tasks.length} done"></progress>${wrong}
+    <p class="small">New to this? <a href="#story=1">Why not just one lock?</a> Twenty minutes, from nothing.</p>`;
+  const verb = done.length === 0 ? "Begin" : "Go on";
+  const next = (task) => tag("a", { class: "button primary", href: task.href }, `${verb}: ${escaped(task.title)} →`);
+  const bar = first === undefined ? foot("All done.", '<button class="primary" data-do="hand">Hand in ↑</button>') : foot("", next(first));
+  const items = tasks.map((task) => itemOf(task, lines[task.id] !== undefined));
+  const title = head("Assignment", escaped(titleOfAssignment(place)), lead, "title");
+  return `${title}${tag("ol", { class: "tasks" }, ...items)}${HAND(keptStory(), done.length)}${bar}`;
+}
+
+function begin({ id, given }) {
+  keepStory({ homework: { id, given } }); // its tasks lead back to it
+  for (const name of ["student", "number"]) part(`#hand-${name}`).oninput = fill;
+  fill();
+}
+
+function textNow() {
+  const [student, number] = ["student", "number"].map((name) => part(`#hand-${name}`).value.trim());
+  keepStory({ student, number });
+  const { done, lines } = doneOf(now.place);
+  return handInText(BOOK_NAME, `${student || "?"}${number === "" ? "" : ` (${number})`}`, [], done.map(({ id }) => lines[id]));
+}
+
+const fill = () => (part("#hand-text").textContent = textNow());
+
+function isNamed() {
+  if (part("#hand-student").value.trim() !== "") return true;
+  part("#scene-told").textContent = "Your name first, please.";
+  part("#hand-student").focus();
+  return false;
+}
+
+const fileName = () => `${part("#hand-student").value.trim().toLowerCase().replace(/\W+/g, "-") || "hand-in"}.txt`;
+
+/** @type {import("./scene.js").View} */
+const assignmentView = {
+  kind: "assignment",
+  title: (place) => `${titleOfAssignment(place)} · Why not just one lock?`,
+  html,
+  begin,
+  deeds: {
+    copy: () => isNamed() && copyText(textNow(), "The text is copied: paste it where you hand in."),
+    save: () => isNamed() && saveText(fileName(), textNow()),
+    afresh: startAfresh,
+    hand: () => {
+      part("#hand").scrollIntoView({ behavior: "smooth" });
+      part("#hand-student").focus();
+    },
+  },
+};
+return { titleOfAssignment, assignmentView };
+})();
+
+// activities/watch.js
+const $activities_watch = (() => {
+const { LISTS } = $made_rows;
+const { byId } = $page_dom;
+const { examples } = $page_example;
+const { works } = $page_kept;
+const { askNow, isJudging, now } = $page_now;
+const { openTask } = $page_work;
+const { tag } = $run_markup;
+const { anotherSeed, partsOfSeed, scheduleOfSeed, seedOf } = $run_seed;
+const FIRST = { example: "marked-in-chain", event: 20 };
+
+function seedForm(id, verb) {
+  const options = Object.entries(LISTS).map(([kind, { name }]) => tag("option", { value: kind }, name));
+  const number = `<input id="${id}-number" type="number" min="1" max="999999999" placeholder="any">`;
+  const parts = [
+    tag("label", {}, "list ", tag("select", { id: `${id}-list` }, ...options)),
+    tag("label", {}, "number ", number),
+    tag("button", { id: `${id}-go`, class: "primary" }, verb),
+  ];
+  return tag("div", { class: "start-row" }, ...parts);
+}
+
+function listenToSeedForm(id, more) {
+  byId(`${id}-go`).onclick = () => {
+    const kind = byId(`${id}-list`).value;
+    const number = Number(byId(`${id}-number`).value);
+    location.hash = `#seed=${number > 0 ? seedOf(kind, number) : anotherSeed(now.task.kind === "seed" ? now.task.id : null, kind)}${more}`;
+  };
+}
+
+function openSeed(seed, count) {
+  const text = scheduleOfSeed(askNow, seed);
+  openTask({ kind: "seed", id: seed, work: works.newName(`run ${partsOfSeed(seed).number}`) }, text, count);
+}
+
+function taskOfWatch() {
+  const more = isJudging() ? "&judge" : "";
+  if (now.task.kind === "seed") drawSeedBox(now.task.id, more);
+  const names = examples().map(({ name }) => name);
+  const at = now.task.kind === "example" ? names.indexOf(now.task.id) : -1;
+  const to = (index) => (at >= 0 && names[index] !== undefined ? `#example=${names[index]}${more}` : null);
+  return { before: to(at - 1), all: more === "" ? ["#ask", "All questions"] : ["#judge", "All runs"], next: to(at + 1) };
+}
+
+function drawSeedBox(seed, more) {
+  const { kind, number } = partsOfSeed(seed);
+  byId("seed-number").textContent = number;
+  if (document.activeElement !== byId("seed-input")) byId("seed-input").value = number;
+  byId("seed-another").href = `#seed=${anotherSeed(seed, kind)}${more}`;
+  byId("seed-judge").href = `#seed=${seed}&judge`;
+  byId("seed-judge").hidden = more !== "";
+  byId("seed-open").onclick = () => {
+    const wanted = Number(byId("seed-input").value);
+    if (wanted > 0) location.hash = `#seed=${seedOf(kind, wanted)}${more}`;
+  };
+}
+return { FIRST, seedForm, listenToSeedForm, openSeed, taskOfWatch };
+})();
+
+// activities/place.js
+const $activities_place = (() => {
+const { titleIn } = $page_address_of;
+const { byId } = $page_dom;
+const { held, now } = $page_now;
+const { addressOfAssignment, addressOfCode } = $page_scene_address;
+const { scheduleOfTrace } = $run_schedule_text;
+const { homeworkOf } = $story_assignment;
+const { titleOfAssignment } = $story_assignment_view;
+const { linesOf } = $story_live_run;
+const { titleOfScene } = $story_scene;
+const { taskOfWatch } = $activities_watch;
+function showHome() {
+  const homework = now.place.view === null ? homeworkOf(now.place, now.task) : null;
+  byId("home").hidden = homework === null;
+  if (homework === null) return;
+  byId("home").textContent = `← Back to ${titleOfAssignment(homework)}`;
+  byId("home").href = addressOfAssignment(homework);
+}
+
+function aimGoOn() {
+  const { trace, count } = now.run;
+  byId("go-on-here").hash = addressOfCode(trace.kind, trace.opening, linesOf(scheduleOfTrace(trace, count)), trace);
+}
+
+function showPlace() {
+  document.title = titleIn(held.state, titleOfScene);
+  showHome();
+  if (now.place.screen !== "stage") return;
+  const links = taskOfWatch();
+  for (const name of ["before", "next"]) {
+    byId(`task-${name}`).hidden = links[name] === null;
+    if (links[name] !== null) byId(`task-${name}`).href = links[name];
+  }
+  [byId("task-all").hash, byId("task-all").textContent] = links.all;
+}
+return { aimGoOn, showPlace };
+})();
+
+// activities/bench.js
+const $activities_bench = (() => {
+const { LISTS } = $made_rows;
+const { drawOrder } = $draw_contents;
+const { HISTORY_LEFT } = $draw_history;
+const { drawListing } = $draw_listing;
+const { drawTable } = $draw_table;
+const { drawThreads, MOST_ROWS } = $draw_threads;
+const { byId, setAble, setHtml } = $page_dom;
+const { scrollToLine } = $page_editor;
+const { hiddenOutcomes, isJudging, now, show, tell } = $page_now;
+const { goByHand, isPlaying } = $page_play;
+const { escaped } = $run_markup;
+const { sentenceOf } = $run_sentences;
+const { ShownRun } = $story_live_run;
+const { StillFigure } = $story_still_figure;
+const { aimGoOn } = $activities_place;
+const bench = { key: "", figure: null };
+const LACKING = "The code of the correct list. The list that runs here lacks one of its checks.";
+
+function figureOfTask(run) {
+  const { kind, lacks } = run.trace;
+  const key = [now.task.kind, now.task.id, now.task.work, kind, lacks].join();
+  if (bench.figure !== null && bench.key === key) return bench.figure;
+  bench.figure?.end();
+  bench.key = key;
+  const box = document.createElement("div");
+  byId("run-figure").replaceChildren(box);
+  const codeNote = lacks === null ? "" : LACKING;
+  const sentence = (moment) => sentenceOf(moment, hiddenOutcomes());
+  bench.figure = new StillFigure(box, { list: kind, run, sentence, codeTitle: LISTS[kind].name, codeNote, roomFor: 560 });
+  return bench.figure;
+}
+
+function showRun(moment) {
+  const { trace, state, count } = now.run;
+  const run = new ShownRun(trace, state, count);
+  const figure = figureOfTask(run);
+  figure.box.classList.toggle("judged", isJudging());
+  figure.part("tale").setAttribute("aria-live", isPlaying() ? "off" : "polite");
+  figure.spec.high = isJudging() ? 0.24 : now.place.view === "lecture" ? 0.3 : 0.36;
+  figure.take(run, moment, now.prefs.hides);
+  setHtml(byId("order"), drawOrder(trace, count, now.prefs.hides));
+  showThreads(moment.event);
+  showTable(moment);
+  showListing(moment);
+  scrollToLine(moment.event);
+}
+
+function showBar() {
+  const { trace, count, source } = now.run;
+  const { total } = trace;
+  const name = `${LISTS[trace.kind].name}${trace.lacks === null ? "" : " without one check"}`;
+  byId("title").textContent = `${name}, ${trace.threads} thread${trace.threads > 1 ? "s" : ""}`;
+  byId("source").textContent = source;
+  const where = `event ${count} of ${total}`;
+  Object.assign(byId("slider"), { max: total, value: count });
+  byId("slider").setAttribute("aria-valuetext", where);
+  byId("where").textContent = where;
+  setAble("back", count > 0);
+  setAble("next", count < total);
+}
+
+function showThreads(event) {
+  if (!byId("threads-box").open) return;
+  byId("threads").innerHTML = drawThreads(now.run.state, event, now.prefs.allThreads, hiddenOutcomes().includes("reply"));
+  byId("all-threads").hidden = now.run.trace.threads <= MOST_ROWS;
+  byId("all-threads").textContent = now.prefs.allThreads ? "show only those with a pending call" : `show all ${now.run.trace.threads}`;
+}
+
+function showTable(moment) {
+  const which = now.run.lacks === null ? "" : "the correct ";
+  byId("table-title").textContent = `Step table of ${which}${LISTS[now.run.trace.kind].name}`;
+  if (byId("table-box").open) byId("table").innerHTML = drawTable(moment);
+}
+
+function showListing(moment) {
+  if (!byId("listing-box").open) return;
+  const box = byId("listing");
+  box.innerHTML = drawListing(moment);
+  const line = box.querySelector(".moved") ?? box.querySelector(".here");
+  if (line === null) return;
+  const y = line.offsetTop - box.offsetTop;
+  if (y < box.scrollTop + 40 || y > box.scrollTop + box.clientHeight - 80) box.scrollTop = y - box.clientHeight / 2;
+}
+
+function pressPicture({ target, clientX }) {
+  const calls = target.closest(".calls svg");
+  const said = target.closest("g, svg")?.querySelector(":scope > title")?.textContent ?? "";
+  if (calls !== null) {
+    const { first, step } = bench.figure.scale;
+    goByHand(first - 1 + Math.ceil((clientX - calls.getBoundingClientRect().left - HISTORY_LEFT) / step));
+  }
+  if (said !== "") tell(escaped(said));
+}
+
+function listenToBench() {
+  byId("run-figure").addEventListener("click", pressPicture);
+  byId("go-on-here").onpointerdown = byId("go-on-here").onclick = aimGoOn;
+  byId("turns").onclick = ({ target }) => target.dataset.event && goByHand(Number(target.dataset.event));
+  for (const name of ["table-box", "listing-box", "threads-box", "turns-box"]) byId(name).ontoggle = show;
+}
+return { showRun, showBar, listenToBench };
+})();
+
+// course/course_link.js
+const $course_course_link = (() => {
+const { AddressFault, LONGEST_ADDRESS } = $run_address;
+async function passed(bytes, stream) {
+  return new Uint8Array(await new Response(new Blob([bytes]).stream().pipeThrough(stream)).arrayBuffer());
+}
+
+async function courseAddress(text) {
+  const lines = text.split("\n").filter((line) => line.trim() !== "" && !line.startsWith("#"));
+  const bytes = await passed(new TextEncoder().encode(`${lines.join("\n")}\n`), new CompressionStream("deflate-raw"));
+  const letters = btoa(Array.from(bytes, (byte) => String.fromCharCode(byte)).join(""));
+  const address = `#course=${letters.replaceAll("+", "-").replaceAll("/", "_").replace(/=+$/, "")}`;
+  return address.length <= LONGEST_ADDRESS ? address : null;
+}
+
+async function courseOfAddress(letters) {
+  try {
+    const bytes = Uint8Array.from(atob(letters.replaceAll("-", "+").replaceAll("_", "/")), (letter) => letter.charCodeAt(0));
+    return new TextDecoder().decode(await passed(bytes, new DecompressionStream("deflate-raw")));
+  } catch {
+    throw new AddressFault("the course of the address cannot be unpacked: the link is cut");
+  }
+}
+return { courseAddress, courseOfAddress };
 })();
 
 // story/ask.js
@@ -7689,164 +8169,6 @@ const APPENDIX = [
 return { APPENDIX };
 })();
 
-// story/scene.js
-const $story_scene = (() => {
-const { change, dispatch, now } = $page_now;
-const { byId, setHtml } = $page_dom;
-const { copied } = $page_visit;
-const { tag } = $run_markup;
-const { isNarrow } = $story_figure_parts;
-/**
- * @typedef {object} View
- * @property {string} kind  the class of the place
- * @property {(place: import("../page/state.js").Place) => string} title
- * @property {(place: any) => string | null} [fault]  why there is no such place, or null
- * @property {(place: import("../page/state.js").Place) => string} html
- * @property {(place: import("../page/state.js").Place) => void} [begin]  once its parts are there: its figure, its first stage
- * @property {(scene: import("../page/state.js").Scene) => void} [draw]  what follows from how far one is
- * @property {() => void} [end]  before its parts go
- * @property {Record<string, (target: any) => any>} [deeds]
- * @property {(event: KeyboardEvent) => any} [press]  a key
- */
-
-/** @type {Record<string, View>} of an activity, or of one without an id its map */
-const VIEWS = {};
-const scene = { key: "", view: null, figure: null, isFirst: true, isNew: false };
-
-const part = (selector) => byId("scene").querySelector(selector);
-const viewOf = ({ activity, id }) => (id === "" ? VIEWS[`${activity} map`] : undefined) ?? VIEWS[activity];
-const titleOfScene = (place) => viewOf(place).title(place);
-const faultOfScene = (place) => viewOf(place).fault?.(place) ?? null;
-const isScene = ({ place }) => place.screen === "scene";
-const setScene = (given) => dispatch("scene", given);
-
-async function copyText(text, words) {
-  part("#scene-told").textContent = (await copied(text)) ? words : `Copy this by hand: ${text}`;
-}
-
-function talk(html) {
-  const box = part("#talk");
-  if (!setHtml(box, html) || scene.isNew || hiddenBelow() <= 0) return;
-  const last = box.lastElementChild;
-  const isTall = last.getBoundingClientRect().height > innerHeight / 2; // as on a phone: what comes first is to be seen
-  last.scrollIntoView({ block: isTall ? "start" : "end" });
-}
-
-function hiddenBelow() {
-  const [last, bar] = [part("#talk")?.lastElementChild, part(".foot")];
-  return last == null || bar === null ? 0 : last.getBoundingClientRect().bottom - bar.getBoundingClientRect().top;
-}
-
-function fitFigure({ spec }) {
-  const list = scene.figure.part("list").firstElementChild;
-  const over = hiddenBelow();
-  if (over <= 0 || list === null || isNarrow()) return;
-  Object.assign(spec, { high: (Number(list.getAttribute("height")) - over - 8) / innerHeight, least: 110 });
-  scene.figure.draw();
-}
-
-function takeFigure(figure) {
-  scene.figure?.end();
-  scene.figure = figure;
-  return figure;
-}
-
-function leaveScene() {
-  if (scene.view === null) return;
-  scene.view?.end?.();
-  takeFigure(null);
-  Object.assign(scene, { key: "", view: null });
-  byId("scene").innerHTML = "";
-}
-
-function renderScene({ place, scene: state }) {
-  const key = JSON.stringify([place.activity, place.id, place.given, place.view === "embed"]);
-  if (key === scene.key) return scene.view.draw?.(state);
-  scene.view?.end?.();
-  takeFigure(null);
-  const view = viewOf(place);
-  Object.assign(scene, { key, view });
-  const box = byId("scene");
-  box.className = view.kind;
-  box.innerHTML = view.html(place);
-  scrollTo(0, 0);
-  scene.isNew = true;
-  view.begin?.(place);
-  view.draw?.(now.scene);
-  if (scene.figure !== null) fitFigure(scene.figure);
-  scene.isNew = false;
-  if (!scene.isFirst && document.activeElement === document.body) box.querySelector("h1")?.focus({ preventScroll: true });
-  scene.isFirst = false; // who comes by a key goes on at the title of what is opened
-}
-
-function openScene({ activity, id = "", given = {}, view = null }) {
-  scene.key = ""; // also where it is shown already, it begins anew
-  change("view", { view });
-  dispatch("place", { activity, screen: "scene", id, given });
-}
-
-function listenToScene() {
-  byId("scene").addEventListener("click", (event) => {
-    const target = event.target.closest("[data-do]");
-    if (target !== null && byId("scene").contains(target)) scene.view?.deeds?.[target.dataset.do]?.(target);
-  });
-}
-
-const pressInScene = (event) => scene.view?.press?.(event);
-
-
-const head = (kicker, title, more = "", kind = "") =>
-  `<div class="head">${kicker === "" ? "" : `<p class="kicker">${kicker}</p>`}<h1 class="${kind}" tabindex="-1">${title}</h1>${more}</div>`;
-
-const FIGURE_AND_TALK = '<div id="figure"></div><div id="talk" class="talk" aria-live="polite"></div>';
-
-const hintAndOn = ({ href, words }) =>
-  `<button id="hint" class="primary" data-do="hint"></button>${tag("a", { id: "go-on", class: "button quiet", href, "data-words": words }, "Skip →")}`;
-
-const foot = (left, right) => tag("footer", { class: "foot" }, left, tag("span", { class: "spread" }), right);
-
-const optionButtons = (texts, wrong = []) => {
-  const button = (text, at) => {
-    const given = { class: "option", "data-do": "answer", "data-option": at, ...(wrong.includes(text) ? { "aria-disabled": "true" } : {}) };
-    return tag("button", given, `<b aria-hidden="true">${at + 1}</b> `, tag("span", {}, text));
-  };
-  return tag("div", { class: "options" }, ...texts.map(button));
-};
-
-const lowered = (text) => text[0].toLowerCase() + text.slice(1);
-
-function replyTo(options, chosen, isToCome) {
-  const option = options?.[chosen];
-  if (option === undefined) return "";
-  const { text, say, right = false } = option;
-  const said = `You said: ${lowered(text)}${text.endsWith("?") ? "" : "."}`;
-  return `<p class="you ${right ? "right" : "wrong"}"><b>${said}</b> ${say || (right && isToCome ? "Let us see." : "")}</p>`;
-}
-
-function drawLedger(run) {
-  const [promised, has] = [run.promised(), run.has()];
-  const all = [...new Set([...promised, ...has])].sort((one, other) => one - other);
-  const cell = (keys, others) => (key) => {
-    const isIn = keys.includes(key);
-    return tag("td", { class: isIn ? (others.includes(key) ? "" : "odd") : "gap" }, isIn ? key : "");
-  };
-  const row = (name, keys, others) => tag("tr", {}, tag("th", { scope: "row" }, name), ...all.map(cell(keys, others)));
-  return tag("table", { class: "ledger" }, row("What the answers promise", promised, has), row("What the list has", has, promised));
-}
-
-const isOddRun = (run) => run.promised().join() !== run.has().join();
-
-function threadOfKey({ key, ctrlKey, metaKey, altKey }) {
-  if (!now.prefs.letters || ctrlKey || metaKey || altKey || !/^[a-z]$/.test(key)) return -1;
-  return key.charCodeAt(0) - "a".charCodeAt(0);
-}
-
-const numberOfKey = ({ key }) => (now.prefs.letters && /^[1-9]$/.test(key) ? Number(key) - 1 : -1);
-
-const LIST_WORDS = { coarse: "One lock", fine: "Hand over hand", optimistic: "Optimistic", lazy: "Lazy", "lock-free": "Lock-free" };
-return { VIEWS, scene, part, titleOfScene, faultOfScene, isScene, setScene, copyText, talk, takeFigure, leaveScene, renderScene, openScene, listenToScene, pressInScene, head, FIGURE_AND_TALK, hintAndOn, foot, optionButtons, replyTo, drawLedger, isOddRun, threadOfKey, numberOfKey, LIST_WORDS };
-})();
-
 // story/ask_map.js
 const $story_ask_map = (() => {
 const { tag } = $run_markup;
@@ -7884,119 +8206,6 @@ function html() {
 /** @type {import("./scene.js").View} */
 const askMapView = { kind: "asks", title: () => "Guess, then see · Why not just one lock?", html };
 return { drawCard, askMapView };
-})();
-
-// story/assignment.js
-const $story_assignment = (() => {
-const { BOOK, BOOK_NAME } = $made_book;
-const { LACKING } = $made_classics;
-const { LISTS } = $made_rows;
-const { triedCourse } = $course_lesson;
-const { BREAK_LEVELS, levelOfNumber, numberOfLevel } = $data_levels;
-const { keptUnder } = $page_kept;
-const { askNow } = $page_now;
-const { addressOfAssignment } = $page_scene_address;
-const { AddressFault, addressOf, readAddress } = $run_address;
-const { NO_TASK } = $run_broken;
-const { inLetters } = $run_markup;
-const { eventsAsked } = $run_schedule_text;
-const { partsOfSeed, scheduleOfSeed } = $run_seed;
-const { brokenLines, keptStory } = $story_kept_story;
-const known = { course: null };
-
-const bookCourse = () => (known.course ??= triedCourse(askNow, BOOK));
-
-const allLevels = () => Object.keys(BREAK_LEVELS).filter((name) => name !== NO_TASK).map((name) => ({ name, number: numberOfLevel(name) }));
-
-const wordsIn = (text, sign = ".") => (text ?? "").split(sign).filter((word) => word !== "");
-const isSeed = (word) => /^(coarse|fine|optimistic|lazy|lock-free)\.\d{1,2}\.\d{1,2}\.\d{1,2}\.\d{1,9}$/.test(word);
-
-function addressOfTasks(title, { learn, levels, seeds }) {
-  const parts = Object.entries({ learn: learn.join("."), break: levels.join("."), judge: seeds.join(",") });
-  return addressOfAssignment({ id: title, given: Object.fromEntries(parts.filter(([, value]) => value !== "")) });
-}
-
-/** @typedef {{ id: string, kind: "Solve" | "Break" | "Judge", title: string, says: string, href: string, seed?: string }} Task */
-
-/** @returns {Task | null} */
-function lessonTask(name) {
-  const lesson = bookCourse().lessons.find((one) => one.name === name);
-  return lesson === undefined ? null : { id: name, kind: "Solve", title: lesson.title, says: inLetters(lesson.question), href: `#learn=${name}` };
-}
-
-/** @returns {Task | null} */
-function levelTask(number) {
-  const name = levelOfNumber(number);
-  if (name === undefined || name === NO_TASK) return null;
-  const title = `Level ${number}, ${LISTS[LACKING[name]].name}`;
-  return { id: `break ${name}`, kind: "Break", title, says: BREAK_LEVELS[name].story, href: `#break=${number}` };
-}
-
-/** @returns {Task | null} */
-function seedTask(seed) {
-  if (!isSeed(seed)) return null;
-  const { kind, number, calls } = partsOfSeed(seed);
-  const says = `${calls} calls: what does each answer, and where does it take effect?`;
-  return { id: `judge ${seed}`, kind: "Judge", title: `Run ${number}, ${LISTS[kind].name}`, says, href: `#seed=${seed}&judge`, seed };
-}
-
-function homeworkOf({ activity, id }, task = { kind: "", id: "" }) {
-  const { homework } = keptStory();
-  const isRun = activity === "judge" && task.kind === "seed";
-  if (homework === null || !(isRun || ["learn", "break"].includes(activity))) return null;
-  return wordsIn(homework.given[activity], isRun ? "," : ".").includes(isRun ? task.id : id) ? homework : null;
-}
-
-function wayOn({ activity, id }, own) {
-  const homework = homeworkOf({ activity, id });
-  if (homework === null) return own;
-  const { tasks } = tasksOf(homework.given);
-  const next = tasks[tasks.findIndex(({ href }) => href === `#${activity}=${id}`) + 1];
-  return next === undefined ? { href: addressOfAssignment(homework), words: "All tasks →" } : { href: next.href, words: "Next task →" };
-}
-
-function tasksOf(given) {
-  const unknown = [];
-  const taken = (words, taskOf, what) =>
-    words.flatMap((word) => {
-      const task = taskOf(word);
-      if (task === null) unknown.push(`${what} ${word.slice(0, 40)}`);
-      return task === null ? [] : [task];
-    });
-  const learn = taken(wordsIn(given.learn), lessonTask, "lesson");
-  const levels = taken(wordsIn(given.break), levelTask, "level");
-  return { tasks: [...learn, ...levels, ...taken(wordsIn(given.judge, ","), seedTask, "run")], unknown };
-}
-
-
-function textOfRun(run) {
-  try {
-    return run.includes("#") ? readAddress(run.slice(run.indexOf("#"))).text : null;
-  } catch (fault) {
-    if (fault instanceof AddressFault) return null;
-    throw fault;
-  }
-}
-
-function taskOfJudged(line, tasks) {
-  const [, run = "", level] = line.split(" ");
-  if (level === "claim") return null;
-  const text = textOfRun(run);
-  return tasks.find(({ seed }) => seed !== undefined && text === scheduleOfSeed(askNow, seed)) ?? null;
-}
-
-function linesDone(tasks) {
-  const lessons = keptUnder("listset-lessons-2")?.of?.[BOOK_NAME]?.solutions ?? {};
-  const broken = Object.fromEntries(brokenLines());
-  const judged = Object.values(keptUnder("listset-judged") ?? {}).filter((line) => typeof line === "string");
-  const lineOf = {
-    Solve: ({ id }) => (typeof lessons[id] === "string" ? `${id} ${addressOf(lessons[id], eventsAsked(lessons[id]))}` : undefined),
-    Break: ({ id }) => broken[id.slice("break ".length)],
-    Judge: (task) => judged.find((line) => taskOfJudged(line, [task]) !== null),
-  };
-  return Object.fromEntries(tasks.map((task) => [task.id, lineOf[task.kind](task)]));
-}
-return { bookCourse, allLevels, addressOfTasks, homeworkOf, wayOn, tasksOf, taskOfJudged, linesDone };
 })();
 
 // story/kept_lessons.js
@@ -8875,66 +9084,6 @@ function listenToRecorded() {
 return { drawRecordedBox, showRecorded, listenToRecorded };
 })();
 
-// activities/watch.js
-const $activities_watch = (() => {
-const { LISTS } = $made_rows;
-const { byId } = $page_dom;
-const { examples } = $page_example;
-const { works } = $page_kept;
-const { askNow, isJudging, now } = $page_now;
-const { openTask } = $page_work;
-const { tag } = $run_markup;
-const { anotherSeed, partsOfSeed, scheduleOfSeed, seedOf } = $run_seed;
-const FIRST = { example: "marked-in-chain", event: 20 };
-
-function seedForm(id, verb) {
-  const options = Object.entries(LISTS).map(([kind, { name }]) => tag("option", { value: kind }, name));
-  const number = `<input id="${id}-number" type="number" min="1" max="999999999" placeholder="any">`;
-  const parts = [
-    tag("label", {}, "list ", tag("select", { id: `${id}-list` }, ...options)),
-    tag("label", {}, "number ", number),
-    tag("button", { id: `${id}-go`, class: "primary" }, verb),
-  ];
-  return tag("div", { class: "start-row" }, ...parts);
-}
-
-function listenToSeedForm(id, more) {
-  byId(`${id}-go`).onclick = () => {
-    const kind = byId(`${id}-list`).value;
-    const number = Number(byId(`${id}-number`).value);
-    location.hash = `#seed=${number > 0 ? seedOf(kind, number) : anotherSeed(now.task.kind === "seed" ? now.task.id : null, kind)}${more}`;
-  };
-}
-
-function openSeed(seed, count) {
-  const text = scheduleOfSeed(askNow, seed);
-  openTask({ kind: "seed", id: seed, work: works.newName(`run ${partsOfSeed(seed).number}`) }, text, count);
-}
-
-function taskOfWatch() {
-  const more = isJudging() ? "&judge" : "";
-  if (now.task.kind === "seed") drawSeedBox(now.task.id, more);
-  const names = examples().map(({ name }) => name);
-  const at = now.task.kind === "example" ? names.indexOf(now.task.id) : -1;
-  const to = (index) => (at >= 0 && names[index] !== undefined ? `#example=${names[index]}${more}` : null);
-  return { before: to(at - 1), all: more === "" ? ["#ask", "All questions"] : ["#judge", "All runs"], next: to(at + 1) };
-}
-
-function drawSeedBox(seed, more) {
-  const { kind, number } = partsOfSeed(seed);
-  byId("seed-number").textContent = number;
-  if (document.activeElement !== byId("seed-input")) byId("seed-input").value = number;
-  byId("seed-another").href = `#seed=${anotherSeed(seed, kind)}${more}`;
-  byId("seed-judge").href = `#seed=${seed}&judge`;
-  byId("seed-judge").hidden = more !== "";
-  byId("seed-open").onclick = () => {
-    const wanted = Number(byId("seed-input").value);
-    if (wanted > 0) location.hash = `#seed=${seedOf(kind, wanted)}${more}`;
-  };
-}
-return { FIRST, seedForm, listenToSeedForm, openSeed, taskOfWatch };
-})();
-
 // activities/open.js
 const $activities_open = (() => {
 const { TRACES } = $made_traces;
@@ -9103,132 +9252,6 @@ function bringBack() {
   showMarks();
 }
 return { openRecorded, openCourseFile, followAddress, showBeforehand, openFirst };
-})();
-
-// story/assignment_view.js
-const $story_assignment_view = (() => {
-const { BOOK_NAME } = $made_book;
-const { handInText } = $course_hand_in;
-const { saveText } = $page_files;
-const { now } = $page_now;
-const { counted, escaped, tag } = $run_markup;
-const { linesDone, tasksOf } = $story_assignment;
-const { keepStory, keptStory, startAfresh } = $story_kept_story;
-const { copyText, foot, head, part } = $story_scene;
-const titleOfAssignment = ({ id }) => id || "Assignment";
-
-function doneOf(place) {
-  const { tasks, unknown } = tasksOf(place.given);
-  const lines = linesDone(tasks);
-  return { tasks, unknown, lines, done: tasks.filter(({ id }) => lines[id] !== undefined) };
-}
-
-function itemOf({ kind, title, says, href }, isDone) {
-  const tick = tag("i", { class: "tick", role: "img", "aria-label": isDone ? "done" : "open" }, isDone ? "✓" : "");
-  const words = `${tag("span", { class: "kind" }, kind)}<b>${escaped(title)}</b>${tag("span", { class: "says" }, escaped(says))}`;
-  return tag("li", { class: isDone ? "done" : "" }, tag("a", { class: "task", href }, tick, words));
-}
-
-const HAND = ({ student, number }, count) => `<section class="panel hand" id="hand"><h2>Hand in</h2>
-  <div class="line"><label>Name <input id="hand-student" autocomplete="name" value="${escaped(student)}"></label>
-  <label>Student number <input id="hand-number" inputmode="numeric" value="${escaped(number)}"></label>
-  <button data-do="copy">Copy the text</button><button data-do="save">Save as a file</button>
-  <button class="quiet" data-do="afresh">Start afresh on this computer</button></div>
-  <p class="small" id="scene-told" role="status">The text has your ${counted(count, "solution")}. Your teacher’s page runs ${count === 1 ? "it" : "each of them"} again.</p>
-  <details><summary>See the text</summary><pre id="hand-text"></pre></details></section>`;
-
-function html(place) {
-  const { tasks, unknown, lines, done } = doneOf(place);
-  const first = tasks.find(({ id }) => lines[id] === undefined);
-  const wrong = unknown.length === 0 ? "" : `<p class="again">This page does not know: ${escaped(unknown.join(", "))}. Tell your teacher.</p>`;
-  const lead = `<p class="lead">${counted(tasks.length, "task")}, ${done.length} done in this browser. Come back by the same link: what is done stays ticked.</p>
-    <progress max="${tasks.length || 1}" value="${done.length}" aria-label="${done.length} of ${tasks.length} done"></progress>${wrong}
-    <p class="small">New to this? <a href="#story=1">Why not just one lock?</a> Twenty minutes, from nothing.</p>`;
-  const verb = done.length === 0 ? "Begin" : "Go on";
-  const next = (task) => tag("a", { class: "button primary", href: task.href }, `${verb}: ${escaped(task.title)} →`);
-  const bar = first === undefined ? foot("All done.", '<button class="primary" data-do="hand">Hand in ↑</button>') : foot("", next(first));
-  const items = tasks.map((task) => itemOf(task, lines[task.id] !== undefined));
-  const title = head("Assignment", escaped(titleOfAssignment(place)), lead, "title");
-  return `${title}${tag("ol", { class: "tasks" }, ...items)}${HAND(keptStory(), done.length)}${bar}`;
-}
-
-function begin({ id, given }) {
-  keepStory({ homework: { id, given } }); // its tasks lead back to it
-  for (const name of ["student", "number"]) part(`#hand-${name}`).oninput = fill;
-  fill();
-}
-
-function textNow() {
-  const [student, number] = ["student", "number"].map((name) => part(`#hand-${name}`).value.trim());
-  keepStory({ student, number });
-  const { done, lines } = doneOf(now.place);
-  return handInText(BOOK_NAME, `${student || "?"}${number === "" ? "" : ` (${number})`}`, [], done.map(({ id }) => lines[id]));
-}
-
-const fill = () => (part("#hand-text").textContent = textNow());
-
-function isNamed() {
-  if (part("#hand-student").value.trim() !== "") return true;
-  part("#scene-told").textContent = "Your name first, please.";
-  part("#hand-student").focus();
-  return false;
-}
-
-const fileName = () => `${part("#hand-student").value.trim().toLowerCase().replace(/\W+/g, "-") || "hand-in"}.txt`;
-
-/** @type {import("./scene.js").View} */
-const assignmentView = {
-  kind: "assignment",
-  title: (place) => `${titleOfAssignment(place)} · Why not just one lock?`,
-  html,
-  begin,
-  deeds: {
-    copy: () => isNamed() && copyText(textNow(), "The text is copied: paste it where you hand in."),
-    save: () => isNamed() && saveText(fileName(), textNow()),
-    afresh: startAfresh,
-    hand: () => {
-      part("#hand").scrollIntoView({ behavior: "smooth" });
-      part("#hand-student").focus();
-    },
-  },
-};
-return { titleOfAssignment, assignmentView };
-})();
-
-// activities/place.js
-const $activities_place = (() => {
-const { titleIn } = $page_address_of;
-const { byId } = $page_dom;
-const { held, now } = $page_now;
-const { addressOfAssignment, addressOfCode } = $page_scene_address;
-const { scheduleOfTrace } = $run_schedule_text;
-const { homeworkOf } = $story_assignment;
-const { titleOfAssignment } = $story_assignment_view;
-const { linesOf } = $story_live_run;
-const { titleOfScene } = $story_scene;
-const { taskOfWatch } = $activities_watch;
-function showHome() {
-  const homework = now.place.view === null ? homeworkOf(now.place, now.task) : null;
-  byId("home").hidden = homework === null;
-  if (homework === null) return;
-  byId("home").textContent = `← Back to ${titleOfAssignment(homework)}`;
-  byId("home").href = addressOfAssignment(homework);
-}
-
-function showPlace() {
-  document.title = titleIn(held.state, titleOfScene);
-  showHome();
-  if (now.place.screen !== "stage") return;
-  const { trace, count } = now.run;
-  byId("go-on-here").hash = addressOfCode(trace.kind, trace.opening, linesOf(scheduleOfTrace(trace, count)), trace);
-  const links = taskOfWatch();
-  for (const name of ["before", "next"]) {
-    byId(`task-${name}`).hidden = links[name] === null;
-    if (links[name] !== null) byId(`task-${name}`).href = links[name];
-  }
-  [byId("task-all").hash, byId("task-all").textContent] = links.all;
-}
-return { showPlace };
 })();
 
 // story/ask_figure.js
@@ -11366,9 +11389,8 @@ function render(state, moment) {
     return keepSoon();
   }
   leaveScene();
-  for (const draw of [showBar, showQuestion, drawJudging, showPlace]) draw();
   showRun(moment);
-  showMarks();
+  for (const draw of [showBar, showQuestion, drawJudging, showPlace, showMarks]) draw();
   keepSoon();
 }
 
@@ -11418,5 +11440,5 @@ if (typeof document !== "undefined") startPage(); // in node there is none
 return {  };
 })();
 
-return Object.assign({}, $made_rows, $run_markup, $run_trace, $run_state, $draw_labels, $draw_history, $draw_contents, $made_code, $draw_listing, $draw_table, $draw_threads, $page_dom, $engine_answers, $run_faults, $run_judged, $run_schedule_text, $run_outcomes, $run_sentences, $page_state, $page_now, $page_editor, $made_classics, $page_play, $run_broken, $run_draft, $story_phases, $story_live_run, $draw_glide, $draw_places, $draw_arrows, $draw_list, $data_book_code, $story_code, $story_tale, $story_dock, $story_figure_parts, $story_figure_press, $story_figure, $story_still_figure, $activities_bench, $made_book, $run_address, $course_course_link, $run_moments, $course_goal_words, $course_course_text, $course_lesson, $course_hand_in, $run_check_trace, $run_recorded, $engine_engine, $engine_worker, $page_long_run, $made_traces, $page_example, $page_kept, $page_work, $page_files, $run_seed, $data_levels, $page_scene_address, $page_address_of, $page_visit, $story_kept_story, $story_ask, $story_ask_more, $story_scene, $story_ask_map, $story_assignment, $story_kept_lessons, $story_learning, $story_learn_map, $draw_judged, $activities_judging, $activities_courses, $page_menu, $page_seen, $page_places, $activities_recorded, $activities_watch, $activities_open, $story_assignment_view, $activities_place, $story_ask_figure, $story_ask_branches, $story_ask_view, $story_break_map, $story_break_view, $story_code_view, $story_learn_view, $story_path, $story_path_parts, $story_path_view, $data_own_course, $story_handins, $story_handins_view, $story_homework_view, $story_teach_view, $page_keys, $run_sides, $activities_compare, $activities_judge_map, $activities_read, $activities_views, $page_save_picture, $page_controls);
+return Object.assign({}, $made_rows, $run_markup, $run_trace, $run_state, $draw_labels, $draw_history, $draw_contents, $made_code, $draw_listing, $draw_table, $draw_threads, $page_dom, $engine_answers, $run_faults, $run_judged, $run_schedule_text, $run_outcomes, $run_sentences, $page_state, $page_now, $page_editor, $made_classics, $page_play, $run_broken, $run_draft, $story_phases, $story_live_run, $draw_glide, $draw_places, $draw_arrows, $draw_list, $data_book_code, $story_code, $story_tale, $story_dock, $story_figure_parts, $story_figure_press, $story_figure, $story_still_figure, $run_address, $run_seed, $data_levels, $page_scene_address, $page_address_of, $made_book, $run_moments, $course_goal_words, $course_course_text, $course_lesson, $page_kept, $story_kept_story, $story_assignment, $course_hand_in, $run_check_trace, $run_recorded, $engine_engine, $engine_worker, $page_long_run, $made_traces, $page_example, $page_work, $page_files, $page_visit, $story_scene, $story_assignment_view, $activities_watch, $activities_place, $activities_bench, $course_course_link, $story_ask, $story_ask_more, $story_ask_map, $story_kept_lessons, $story_learning, $story_learn_map, $draw_judged, $activities_judging, $activities_courses, $page_menu, $page_seen, $page_places, $activities_recorded, $activities_open, $story_ask_figure, $story_ask_branches, $story_ask_view, $story_break_map, $story_break_view, $story_code_view, $story_learn_view, $story_path, $story_path_parts, $story_path_view, $data_own_course, $story_handins, $story_handins_view, $story_homework_view, $story_teach_view, $page_keys, $run_sides, $activities_compare, $activities_judge_map, $activities_read, $activities_views, $page_save_picture, $page_controls);
 })();

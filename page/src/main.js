@@ -49,9 +49,8 @@ function render(state, moment) {
     return keepSoon();
   }
   leaveScene();
-  for (const draw of [showBar, showQuestion, drawJudging, showPlace]) draw();
   showRun(moment);
-  showMarks();
+  for (const draw of [showBar, showQuestion, drawJudging, showPlace, showMarks]) draw();
   keepSoon();
 }
 

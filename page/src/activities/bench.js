@@ -14,6 +14,7 @@ import { escaped } from "../run/markup.js";
 import { sentenceOf } from "../run/sentences.js";
 import { ShownRun } from "../story/live_run.js";
 import { StillFigure } from "../story/still_figure.js";
+import { aimGoOn } from "./place.js";
 
 const bench = { key: "", figure: null };
 const LACKING = "The code of the correct list. The list that runs here lacks one of its checks.";
@@ -100,6 +101,7 @@ function pressPicture({ target, clientX }) {
 
 export function listenToBench() {
   byId("run-figure").addEventListener("click", pressPicture);
+  byId("go-on-here").onpointerdown = byId("go-on-here").onclick = aimGoOn;
   byId("turns").onclick = ({ target }) => target.dataset.event && goByHand(Number(target.dataset.event));
   for (const name of ["table-box", "listing-box", "threads-box", "turns-box"]) byId(name).ontoggle = show;
 }

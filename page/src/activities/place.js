@@ -19,13 +19,17 @@ function showHome() {
   byId("home").href = addressOfAssignment(homework);
 }
 
+// The link that goes on from the event that is shown has its address when it is pressed: a long run has a long one.
+export function aimGoOn() {
+  const { trace, count } = now.run;
+  byId("go-on-here").hash = addressOfCode(trace.kind, trace.opening, linesOf(scheduleOfTrace(trace, count)), trace);
+}
+
 // After each time that the run was drawn: the task, the title.
 export function showPlace() {
   document.title = titleIn(held.state, titleOfScene);
   showHome();
   if (now.place.screen !== "stage") return;
-  const { trace, count } = now.run;
-  byId("go-on-here").hash = addressOfCode(trace.kind, trace.opening, linesOf(scheduleOfTrace(trace, count)), trace);
   const links = taskOfWatch();
   for (const name of ["before", "next"]) {
     byId(`task-${name}`).hidden = links[name] === null;

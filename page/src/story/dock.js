@@ -59,20 +59,22 @@ function chooser(figure, thread, own) {
 }
 
 // The calls as bars, and what is in the set at each time.
-export function showStrip(figure, given) {
+export function showStrip(figure) {
   const { run } = figure;
-  const box = figure.part("strip");
-  const wide = Math.max(280, given);
+  const wide = Math.max(280, figure.stripWide);
   const room = 26 + 9 * `{${run.promised().join(", ")}}`.length; // right of the last event, for what is in the set then
   const scale = scaleOf(run.trace, run.count, wide - room, figure.hides);
   Object.assign(scale, { edge: scale.edge + room, width: wide });
   figure.scale = scale;
-  setHtml(box, tag("div", { class: "calls" }, drawCalls(run.trace, scale)) + drawContents(run.trace, scale));
-  if (scale.height > MOST_CALLS && run.count > 0) scrollToLane(box.firstElementChild, scale.y(run.trace.event(run.count).thread));
+  setHtml(figure.part("strip"), tag("div", { class: "calls" }, drawCalls(run.trace, scale)) + drawContents(run.trace, scale));
 }
 const MOST_CALLS = 400; // pixels: of more threads the bars scroll
 
-function scrollToLane(box, y) {
+export function scrollToLane(figure) {
+  const { run, scale } = figure;
+  if (scale.height <= MOST_CALLS || run.count === 0) return;
+  const box = figure.part("calls");
+  const y = scale.y(run.trace.event(run.count).thread);
   if (y < box.scrollTop + 20 || y > box.scrollTop + box.clientHeight - 20) box.scrollTop = y - box.clientHeight / 2;
 }
 

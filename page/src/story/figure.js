@@ -27,7 +27,9 @@ export class Figure {
   isGuess = false; // what would tell the answer is not shown
   isLost = false; // the nodes that are lost are lit
   hides = true; // of the history, what comes later
-  wide = 0;
+  wide = 0; // of the list, in pixels
+  stripWide = 0;
+  scroll = 0;
   told = null;
   onStep = null;
   onFork = null;
@@ -45,9 +47,15 @@ export class Figure {
     box.addEventListener("click", (event) => pressed(this, event));
     box.addEventListener("input", ({ target }) => target.closest(".choose") !== null && chooseCall(this, target.closest("[data-thread]")));
     this.stretch = new ResizeObserver(() => {
-      if (this.part("list").clientWidth !== this.wide) requestAnimationFrame(() => this.isEnded || this.draw());
+      if (this.part("list").clientWidth !== this.wide) requestAnimationFrame(() => this.isEnded || this.fit());
     });
     this.stretch.observe(this.part("list"));
+    this.fit();
+  }
+
+  // Draws in the room that there is now.
+  fit() {
+    [this.wide, this.stripWide] = ["list", "strip"].map((name) => this.part(name).clientWidth);
     this.draw();
   }
 
