@@ -1527,30 +1527,10 @@ function drawListing({ trace, state, event }) {
 return { codeOf, stepOf, drawListing };
 })();
 
-// draw/table.js
-const $draw_table = (() => {
+// draw/tables.js
+const $draw_tables = (() => {
 const { LISTS } = $made_rows;
-const { chipOf, escaped, tag } = $run_markup;
-function drawTable({ trace, state, event, before }) {
-  const made = event === null || event.deed === "begin" ? null : before.pc;
-  const at = new Map();
-  state.threads.forEach((held, thread) => at.set(held.pc, [...(at.get(held.pc) ?? []), thread]));
-  const lines = Object.entries(LISTS[trace.kind].rows).map(([number, row]) => {
-    const here = (at.get(Number(number)) ?? []).map(chipOf).join(" ");
-    const by = made === Number(number) ? ` <small>made by</small> ${chipOf(event.thread)}` : "";
-    const cells = [here, `<b>${number}</b>${by}`, escaped(row.step), escaped(row.then), `<small>${escaped(row.book)}</small>`];
-    return tag("tr", by === "" ? {} : { class: "moved" }, ...cells.map((text) => tag("td", {}, text)));
-  });
-  const heads = ["next", "row", "step", "then", "in the book"].map((text) => tag("th", { scope: "col" }, text));
-  return tag("table", {}, tag("thead", {}, tag("tr", {}, ...heads)), tag("tbody", {}, ...lines));
-}
-return { drawTable };
-})();
-
-// draw/threads.js
-const $draw_threads = (() => {
-const { LISTS } = $made_rows;
-const { callText, chipOf, keyText, tag } = $run_markup;
+const { callText, chipOf, escaped, keyText, tag } = $run_markup;
 const MOST_ROWS = 8; // of more threads only those with an open call are shown at first
 
 function threadsShown(state, event, all) {
@@ -1602,7 +1582,22 @@ function drawThreads(state, event, all, hidesReplies = false) {
   const head = tag("tr", {}, ...heads.map((text) => tag("th", { scope: "col" }, text)));
   return tag("table", {}, tag("thead", {}, head), tag("tbody", {}, ...rows));
 }
-return { MOST_ROWS, drawThreads };
+
+
+function drawTable({ trace, state, event, before }) {
+  const made = event === null || event.deed === "begin" ? null : before.pc;
+  const at = new Map();
+  state.threads.forEach((held, thread) => at.set(held.pc, [...(at.get(held.pc) ?? []), thread]));
+  const lines = Object.entries(LISTS[trace.kind].rows).map(([number, row]) => {
+    const here = (at.get(Number(number)) ?? []).map(chipOf).join(" ");
+    const by = made === Number(number) ? ` <small>made by</small> ${chipOf(event.thread)}` : "";
+    const cells = [here, `<b>${number}</b>${by}`, escaped(row.step), escaped(row.then), `<small>${escaped(row.book)}</small>`];
+    return tag("tr", by === "" ? {} : { class: "moved" }, ...cells.map((text) => tag("td", {}, text)));
+  });
+  const heads = ["next", "row", "step", "then", "in the book"].map((text) => tag("th", { scope: "col" }, text));
+  return tag("table", {}, tag("thead", {}, tag("tr", {}, ...heads)), tag("tbody", {}, ...lines));
+}
+return { MOST_ROWS, drawThreads, drawTable };
 })();
 
 // page/dom.js
@@ -1638,6 +1633,702 @@ function setHtml(box, html) {
 }
 const texts = new WeakMap();
 return { byId, redraw, setAble, setHidden, setHtml };
+})();
+
+// made/traces.js
+const $made_traces = (() => {
+// What the engine prints of the classic examples, by make_traces.js: shown where a browser cannot run it.
+
+const EXAMPLES = `
+failed-tries              coarse      two adds of one key: the second's tries of the lock fail
+full                      coarse      an add beyond its thread's quota; a remove gives no slot back
+hand-over-hand            fine        a remover waits for an adder before it, then goes hand over hand
+same-gap                  optimistic  two adds into one gap: the second sees the changed link and walks again
+stale-pred                optimistic  pred is taken out after the walk: the second walk does not find it
+marked-in-chain           lazy        contains answers false, and the key's node is still in the chain
+marked-pred               lazy        pred is marked after the walk: its link gives it away
+read-in-anothers-step     lazy        contains stands in the step of the thread that removed its key
+ceiling-in-anothers-step  lazy        the answer of ceiling fits after steps of the other thread, and after none of its own
+opens-with-keys           lazy        two opening keys take no slot, and the remove of one gives none back
+two-removers              lock-free   two removes of one key: one marks, the other walks again and answers false
+snip                      lock-free   an add takes out the node that a remove has marked
+tries-again               lock-free   an exchange fails, and the add walks again with the same slot
+left-in-chain             lock-free   a remove has ended, and its node is still in the chain: contains answers false
+ceiling-meets-mark        lock-free   the node at which ceiling stops is marked: it walks again and answers nothing
+ceiling-left-in-chain     lock-free   ceiling stops at the node of a remove that has ended: it may not answer that key
+behind-the-walk           lock-free   a key comes in behind the walk of ceiling, which answers the key above it
+nothing-in-anothers-step  lock-free   ceiling answers nothing, and a key is there just after each of its own steps
+`.slice(1);
+
+const TRACES = {
+  "failed-tries": `
+listset-trace 1
+list coarse
+threads 2
+quota 4
+event 1 line 5 thread 0 begin add 5 call 0 pc 1
+event 2 line 6 thread 1 begin add 5 call 1 pc 1
+event 3 line 7 thread 0 exchange list.lock from free to t0 saw free pc 2
+event 4 line 8 thread 1 exchange list.lock from free to t1 saw t0 pc 1
+event 5 line 8 thread 1 exchange list.lock from free to t1 saw t0 pc 1
+event 6 line 8 thread 1 exchange list.lock from free to t1 saw t0 pc 1
+event 7 line 9 thread 0 load head.link saw tail pc 3 curr tail
+event 8 line 9 thread 0 load tail.key saw +inf pc 5 ckey +inf
+event 9 line 9 thread 0 store n2.key 5 pc 6
+event 10 line 9 thread 0 store n2.link tail pc 7
+event 11 line 9 thread 0 store head.link n2 pc 10 used 1 reply true put 5
+event 12 line 9 thread 0 store list.lock free pc 0 answer true call 0 at 11
+event 13 line 10 thread 1 exchange list.lock from free to t1 saw free pc 2
+event 14 line 10 thread 1 load head.link saw n2 pc 3 curr n2
+event 15 line 10 thread 1 load n2.key saw 5 pc 10 ckey 5 reply false
+event 16 line 10 thread 1 store list.lock free pc 0 answer false call 1 at 11
+end
+`.slice(1),
+  "full": `
+listset-trace 1
+list coarse
+threads 1
+quota 1
+event 1 line 5 thread 0 begin add 5 call 0 pc 1
+event 2 line 6 thread 0 exchange list.lock from free to t0 saw free pc 2
+event 3 line 6 thread 0 load head.link saw tail pc 3 curr tail
+event 4 line 6 thread 0 load tail.key saw +inf pc 5 ckey +inf
+event 5 line 6 thread 0 store n2.key 5 pc 6
+event 6 line 6 thread 0 store n2.link tail pc 7
+event 7 line 6 thread 0 store head.link n2 pc 10 used 1 reply true put 5
+event 8 line 6 thread 0 store list.lock free pc 0 answer true call 0 at 7
+event 9 line 7 thread 0 begin remove 5 call 1 pc 1
+event 10 line 8 thread 0 exchange list.lock from free to t0 saw free pc 2
+event 11 line 8 thread 0 load head.link saw n2 pc 3 curr n2
+event 12 line 8 thread 0 load n2.key saw 5 pc 8 ckey 5
+event 13 line 8 thread 0 load n2.link saw tail pc 9 succ tail
+event 14 line 8 thread 0 store head.link tail pc 10 reply true took 5
+event 15 line 8 thread 0 store list.lock free pc 0 answer true call 1 at 14
+event 16 line 9 thread 0 begin add 7 call 2 pc 1
+event 17 line 10 thread 0 exchange list.lock from free to t0 saw free pc 2
+event 18 line 10 thread 0 load head.link saw tail pc 3 curr tail
+event 19 line 10 thread 0 load tail.key saw +inf pc 10 ckey +inf reply full
+event 20 line 10 thread 0 store list.lock free pc 0 answer full call 2 at 16
+end
+`.slice(1),
+  "hand-over-hand": `
+listset-trace 1
+list fine
+threads 2
+quota 4
+event 1 line 5 thread 1 begin add 9 call 0 pc 1
+event 2 line 6 thread 1 exchange head.lock from free to t1 saw free pc 2
+event 3 line 6 thread 1 load head.link saw tail pc 3 curr tail
+event 4 line 6 thread 1 exchange tail.lock from free to t1 saw free pc 4
+event 5 line 6 thread 1 load tail.key saw +inf pc 7 ckey +inf
+event 6 line 6 thread 1 store n6.key 9 pc 8
+event 7 line 6 thread 1 store n6.link tail pc 9
+event 8 line 6 thread 1 store head.link n6 pc 12 used 1 reply true put 9
+event 9 line 6 thread 1 store tail.lock free pc 13
+event 10 line 6 thread 1 store head.lock free pc 0 answer true call 0 at 8
+event 11 line 7 thread 0 begin add 5 call 1 pc 1
+event 12 line 8 thread 1 begin remove 9 call 2 pc 1
+event 13 line 9 thread 0 exchange head.lock from free to t0 saw free pc 2
+event 14 line 9 thread 0 load head.link saw n6 pc 3 curr n6
+event 15 line 9 thread 0 exchange n6.lock from free to t0 saw free pc 4
+event 16 line 9 thread 0 load n6.key saw 9 pc 7 ckey 9
+event 17 line 10 thread 1 exchange head.lock from free to t1 saw t0 pc 1
+event 18 line 10 thread 1 exchange head.lock from free to t1 saw t0 pc 1
+event 19 line 11 thread 0 store n2.key 5 pc 8
+event 20 line 11 thread 0 store n2.link n6 pc 9
+event 21 line 11 thread 0 store head.link n2 pc 12 used 1 reply true put 5
+event 22 line 11 thread 0 store n6.lock free pc 13
+event 23 line 11 thread 0 store head.lock free pc 0 answer true call 1 at 21
+event 24 line 12 thread 1 exchange head.lock from free to t1 saw free pc 2
+event 25 line 12 thread 1 load head.link saw n2 pc 3 curr n2
+event 26 line 12 thread 1 exchange n2.lock from free to t1 saw free pc 4
+event 27 line 12 thread 1 load n2.key saw 5 pc 5 ckey 5
+event 28 line 12 thread 1 store head.lock free pc 6
+event 29 line 12 thread 1 load n2.link saw n6 pc 3 pred n2 curr n6
+event 30 line 12 thread 1 exchange n6.lock from free to t1 saw free pc 4
+event 31 line 12 thread 1 load n6.key saw 9 pc 10 ckey 9
+event 32 line 12 thread 1 load n6.link saw tail pc 11 succ tail
+event 33 line 12 thread 1 store n2.link tail pc 12 reply true took 9
+event 34 line 12 thread 1 store n6.lock free pc 13
+event 35 line 12 thread 1 store n2.lock free pc 0 answer true call 2 at 33
+end
+`.slice(1),
+  "same-gap": `
+listset-trace 1
+list optimistic
+threads 2
+quota 4
+event 1 line 5 thread 0 begin add 5 call 0 pc 1
+event 2 line 6 thread 1 begin add 7 call 1 pc 1
+event 3 line 7 thread 0 load head.link saw tail pc 2 curr tail
+event 4 line 7 thread 0 load tail.key saw +inf pc 4 ckey +inf
+event 5 line 8 thread 1 load head.link saw tail pc 2 curr tail
+event 6 line 8 thread 1 load tail.key saw +inf pc 4 ckey +inf
+event 7 line 9 thread 1 exchange head.lock from free to t1 saw free pc 5
+event 8 line 9 thread 1 exchange tail.lock from free to t1 saw free pc 8
+event 9 line 9 thread 1 load head.link saw tail pc 9
+event 10 line 9 thread 1 store n6.key 7 pc 10
+event 11 line 9 thread 1 store n6.link tail pc 11
+event 12 line 9 thread 1 store head.link n6 pc 14 used 1 reply true put 7
+event 13 line 9 thread 1 store head.lock free pc 15
+event 14 line 9 thread 1 store tail.lock free pc 0 answer true call 1 at 12
+event 15 line 10 thread 0 exchange head.lock from free to t0 saw free pc 5
+event 16 line 10 thread 0 exchange tail.lock from free to t0 saw free pc 8
+event 17 line 10 thread 0 load head.link saw n6 pc 14
+event 18 line 10 thread 0 store head.lock free pc 15
+event 19 line 10 thread 0 store tail.lock free pc 1
+event 20 line 10 thread 0 load head.link saw n6 pc 2 curr n6
+event 21 line 10 thread 0 load n6.key saw 7 pc 4 ckey 7
+event 22 line 10 thread 0 exchange head.lock from free to t0 saw free pc 5
+event 23 line 10 thread 0 exchange n6.lock from free to t0 saw free pc 8
+event 24 line 10 thread 0 load head.link saw n6 pc 9
+event 25 line 10 thread 0 store n2.key 5 pc 10
+event 26 line 10 thread 0 store n2.link n6 pc 11
+event 27 line 10 thread 0 store head.link n2 pc 14 used 1 reply true put 5
+event 28 line 10 thread 0 store head.lock free pc 15
+event 29 line 10 thread 0 store n6.lock free pc 0 answer true call 0 at 27
+end
+`.slice(1),
+  "stale-pred": `
+listset-trace 1
+list optimistic
+threads 2
+quota 4
+event 1 line 5 thread 1 begin add 3 call 0 pc 1
+event 2 line 6 thread 1 load head.link saw tail pc 2 curr tail
+event 3 line 6 thread 1 load tail.key saw +inf pc 4 ckey +inf
+event 4 line 6 thread 1 exchange head.lock from free to t1 saw free pc 5
+event 5 line 6 thread 1 exchange tail.lock from free to t1 saw free pc 8
+event 6 line 6 thread 1 load head.link saw tail pc 9
+event 7 line 6 thread 1 store n6.key 3 pc 10
+event 8 line 6 thread 1 store n6.link tail pc 11
+event 9 line 6 thread 1 store head.link n6 pc 14 used 1 reply true put 3
+event 10 line 6 thread 1 store head.lock free pc 15
+event 11 line 6 thread 1 store tail.lock free pc 0 answer true call 0 at 9
+event 12 line 7 thread 0 begin add 5 call 1 pc 1
+event 13 line 8 thread 0 load head.link saw n6 pc 2 curr n6
+event 14 line 8 thread 0 load n6.key saw 3 pc 3 ckey 3
+event 15 line 8 thread 0 load n6.link saw tail pc 2 pred n6 curr tail pkey 3
+event 16 line 8 thread 0 load tail.key saw +inf pc 4 ckey +inf
+event 17 line 9 thread 1 begin remove 3 call 2 pc 1
+event 18 line 10 thread 1 load head.link saw n6 pc 2 curr n6
+event 19 line 10 thread 1 load n6.key saw 3 pc 4 ckey 3
+event 20 line 10 thread 1 exchange head.lock from free to t1 saw free pc 5
+event 21 line 10 thread 1 exchange n6.lock from free to t1 saw free pc 8
+event 22 line 10 thread 1 load head.link saw n6 pc 12
+event 23 line 10 thread 1 load n6.link saw tail pc 13 succ tail
+event 24 line 10 thread 1 store head.link tail pc 14 reply true took 3
+event 25 line 10 thread 1 store head.lock free pc 15
+event 26 line 10 thread 1 store n6.lock free pc 0 answer true call 2 at 24
+event 27 line 11 thread 0 exchange n6.lock from free to t0 saw free pc 5
+event 28 line 11 thread 0 exchange tail.lock from free to t0 saw free pc 6
+event 29 line 11 thread 0 load head.link saw tail pc 7 node tail
+event 30 line 11 thread 0 load tail.key saw +inf pc 14
+event 31 line 11 thread 0 store n6.lock free pc 15
+event 32 line 11 thread 0 store tail.lock free pc 1
+event 33 line 11 thread 0 load head.link saw tail pc 2 pred head pkey -inf
+event 34 line 11 thread 0 load tail.key saw +inf pc 4
+event 35 line 11 thread 0 exchange head.lock from free to t0 saw free pc 5
+event 36 line 11 thread 0 exchange tail.lock from free to t0 saw free pc 8 node head
+event 37 line 11 thread 0 load head.link saw tail pc 9
+event 38 line 11 thread 0 store n2.key 5 pc 10
+event 39 line 11 thread 0 store n2.link tail pc 11
+event 40 line 11 thread 0 store head.link n2 pc 14 used 1 reply true put 5
+event 41 line 11 thread 0 store head.lock free pc 15
+event 42 line 11 thread 0 store tail.lock free pc 0 answer true call 1 at 40
+end
+`.slice(1),
+  "marked-in-chain": `
+listset-trace 1
+list lazy
+threads 2
+quota 4
+event 1 line 5 thread 1 begin add 5 call 0 pc 1
+event 2 line 6 thread 1 load head.link saw tail pc 2 curr tail
+event 3 line 6 thread 1 load tail.key saw +inf pc 4 ckey +inf
+event 4 line 6 thread 1 exchange head.lock from free to t1 saw free pc 5
+event 5 line 6 thread 1 exchange tail.lock from free to t1 saw free pc 6
+event 6 line 6 thread 1 load head.link saw tail pc 7
+event 7 line 6 thread 1 load tail.link saw tail pc 8 succ tail
+event 8 line 6 thread 1 store n6.key 5 pc 9
+event 9 line 6 thread 1 store n6.link tail pc 10
+event 10 line 6 thread 1 store head.link n6 pc 13 used 1 reply true put 5
+event 11 line 6 thread 1 store tail.lock free pc 14
+event 12 line 6 thread 1 store head.lock free pc 0 answer true call 0 at 10
+event 13 line 7 thread 1 begin remove 5 call 1 pc 1
+event 14 line 8 thread 1 load head.link saw n6 pc 2 curr n6
+event 15 line 8 thread 1 load n6.key saw 5 pc 4 ckey 5
+event 16 line 8 thread 1 exchange head.lock from free to t1 saw free pc 5
+event 17 line 8 thread 1 exchange n6.lock from free to t1 saw free pc 6
+event 18 line 8 thread 1 load head.link saw n6 pc 7
+event 19 line 8 thread 1 load n6.link saw tail pc 11 succ tail
+event 20 line 8 thread 1 store n6.link tail* pc 12 took 5
+event 21 line 9 thread 0 begin contains 5 call 2 pc 20
+event 22 line 10 thread 0 load head.link saw n6 pc 21 curr n6
+event 23 line 10 thread 0 load n6.key saw 5 pc 22
+event 24 line 10 thread 0 load n6.link saw tail* pc 0 answer false call 2 at 21
+event 25 line 11 thread 1 store head.link tail pc 13 reply true
+event 26 line 11 thread 1 store n6.lock free pc 14
+event 27 line 11 thread 1 store head.lock free pc 0 answer true call 1 at 20
+end
+`.slice(1),
+  "marked-pred": `
+listset-trace 1
+list lazy
+threads 2
+quota 4
+event 1 line 5 thread 1 begin add 3 call 0 pc 1
+event 2 line 6 thread 1 load head.link saw tail pc 2 curr tail
+event 3 line 6 thread 1 load tail.key saw +inf pc 4 ckey +inf
+event 4 line 6 thread 1 exchange head.lock from free to t1 saw free pc 5
+event 5 line 6 thread 1 exchange tail.lock from free to t1 saw free pc 6
+event 6 line 6 thread 1 load head.link saw tail pc 7
+event 7 line 6 thread 1 load tail.link saw tail pc 8 succ tail
+event 8 line 6 thread 1 store n6.key 3 pc 9
+event 9 line 6 thread 1 store n6.link tail pc 10
+event 10 line 6 thread 1 store head.link n6 pc 13 used 1 reply true put 3
+event 11 line 6 thread 1 store tail.lock free pc 14
+event 12 line 6 thread 1 store head.lock free pc 0 answer true call 0 at 10
+event 13 line 7 thread 0 begin add 5 call 1 pc 1
+event 14 line 8 thread 0 load head.link saw n6 pc 2 curr n6
+event 15 line 8 thread 0 load n6.key saw 3 pc 3 ckey 3
+event 16 line 8 thread 0 load n6.link saw tail pc 2 pred n6 curr tail
+event 17 line 8 thread 0 load tail.key saw +inf pc 4 ckey +inf
+event 18 line 9 thread 1 begin remove 3 call 2 pc 1
+event 19 line 10 thread 1 load head.link saw n6 pc 2 curr n6
+event 20 line 10 thread 1 load n6.key saw 3 pc 4 ckey 3
+event 21 line 10 thread 1 exchange head.lock from free to t1 saw free pc 5
+event 22 line 10 thread 1 exchange n6.lock from free to t1 saw free pc 6
+event 23 line 10 thread 1 load head.link saw n6 pc 7
+event 24 line 10 thread 1 load n6.link saw tail pc 11 succ tail
+event 25 line 10 thread 1 store n6.link tail* pc 12 took 3
+event 26 line 10 thread 1 store head.link tail pc 13 reply true
+event 27 line 10 thread 1 store n6.lock free pc 14
+event 28 line 10 thread 1 store head.lock free pc 0 answer true call 2 at 25
+event 29 line 11 thread 0 exchange n6.lock from free to t0 saw free pc 5
+event 30 line 11 thread 0 exchange tail.lock from free to t0 saw free pc 6
+event 31 line 11 thread 0 load n6.link saw tail* pc 13
+event 32 line 11 thread 0 store tail.lock free pc 14
+event 33 line 11 thread 0 store n6.lock free pc 1
+event 34 line 11 thread 0 load head.link saw tail pc 2 pred head
+event 35 line 11 thread 0 load tail.key saw +inf pc 4
+event 36 line 11 thread 0 exchange head.lock from free to t0 saw free pc 5
+event 37 line 11 thread 0 exchange tail.lock from free to t0 saw free pc 6
+event 38 line 11 thread 0 load head.link saw tail pc 7
+event 39 line 11 thread 0 load tail.link saw tail pc 8 succ tail
+event 40 line 11 thread 0 store n2.key 5 pc 9
+event 41 line 11 thread 0 store n2.link tail pc 10
+event 42 line 11 thread 0 store head.link n2 pc 13 used 1 reply true put 5
+event 43 line 11 thread 0 store tail.lock free pc 14
+event 44 line 11 thread 0 store head.lock free pc 0 answer true call 1 at 42
+end
+`.slice(1),
+  "read-in-anothers-step": `
+listset-trace 1
+list lazy
+threads 2
+quota 4
+event 1 line 5 thread 1 begin add 5 call 0 pc 1
+event 2 line 6 thread 1 load head.link saw tail pc 2 curr tail
+event 3 line 6 thread 1 load tail.key saw +inf pc 4 ckey +inf
+event 4 line 6 thread 1 exchange head.lock from free to t1 saw free pc 5
+event 5 line 6 thread 1 exchange tail.lock from free to t1 saw free pc 6
+event 6 line 6 thread 1 load head.link saw tail pc 7
+event 7 line 6 thread 1 load tail.link saw tail pc 8 succ tail
+event 8 line 6 thread 1 store n6.key 5 pc 9
+event 9 line 6 thread 1 store n6.link tail pc 10
+event 10 line 6 thread 1 store head.link n6 pc 13 used 1 reply true put 5
+event 11 line 6 thread 1 store tail.lock free pc 14
+event 12 line 6 thread 1 store head.lock free pc 0 answer true call 0 at 10
+event 13 line 7 thread 0 begin contains 5 call 1 pc 20
+event 14 line 8 thread 0 load head.link saw n6 pc 21 curr n6
+event 15 line 8 thread 0 load n6.key saw 5 pc 22
+event 16 line 9 thread 1 begin remove 5 call 2 pc 1
+event 17 line 10 thread 1 load head.link saw n6 pc 2 curr n6
+event 18 line 10 thread 1 load n6.key saw 5 pc 4 ckey 5
+event 19 line 10 thread 1 exchange head.lock from free to t1 saw free pc 5
+event 20 line 10 thread 1 exchange n6.lock from free to t1 saw free pc 6
+event 21 line 10 thread 1 load head.link saw n6 pc 7
+event 22 line 10 thread 1 load n6.link saw tail pc 11 succ tail
+event 23 line 10 thread 1 store n6.link tail* pc 12 took 5
+event 24 line 10 thread 1 store head.link tail pc 13 reply true
+event 25 line 10 thread 1 store n6.lock free pc 14
+event 26 line 10 thread 1 store head.lock free pc 0 answer true call 2 at 23
+event 27 line 11 thread 1 begin add 5 call 3 pc 1
+event 28 line 12 thread 1 load head.link saw tail pc 2 curr tail
+event 29 line 12 thread 1 load tail.key saw +inf pc 4 ckey +inf
+event 30 line 12 thread 1 exchange head.lock from free to t1 saw free pc 5
+event 31 line 12 thread 1 exchange tail.lock from free to t1 saw free pc 6
+event 32 line 12 thread 1 load head.link saw tail pc 7
+event 33 line 12 thread 1 load tail.link saw tail pc 8 succ tail
+event 34 line 12 thread 1 store n7.key 5 pc 9
+event 35 line 12 thread 1 store n7.link tail pc 10
+event 36 line 12 thread 1 store head.link n7 pc 13 used 2 reply true put 5
+event 37 line 12 thread 1 store tail.lock free pc 14
+event 38 line 12 thread 1 store head.lock free pc 0 answer true call 3 at 36
+event 39 line 13 thread 0 load n6.link saw tail* pc 0 answer false call 1 at 23
+end
+`.slice(1),
+  "ceiling-in-anothers-step": `
+listset-trace 1
+list lazy
+threads 2
+quota 2
+opening 5
+event 1 line 6 thread 0 begin ceiling 6 call 0 pc 23
+event 2 line 7 thread 0 load head.link saw n6 pc 24 curr n6
+event 3 line 7 thread 0 load n6.key saw 5 pc 23 ckey 5
+event 4 line 8 thread 1 begin add 9 call 1 pc 1
+event 5 line 9 thread 1 load head.link saw n6 pc 2 curr n6
+event 6 line 9 thread 1 load n6.key saw 5 pc 3 ckey 5
+event 7 line 9 thread 1 load n6.link saw tail pc 2 pred n6 curr tail
+event 8 line 9 thread 1 load tail.key saw +inf pc 4 ckey +inf
+event 9 line 9 thread 1 exchange n6.lock from free to t1 saw free pc 5
+event 10 line 9 thread 1 exchange tail.lock from free to t1 saw free pc 6
+event 11 line 9 thread 1 load n6.link saw tail pc 7
+event 12 line 9 thread 1 load tail.link saw tail pc 8 succ tail
+event 13 line 9 thread 1 store n4.key 9 pc 9
+event 14 line 9 thread 1 store n4.link tail pc 10
+event 15 line 9 thread 1 store n6.link n4 pc 13 used 1 reply true put 9
+event 16 line 9 thread 1 store tail.lock free pc 14
+event 17 line 9 thread 1 store n6.lock free pc 0 answer true call 1 at 15
+event 18 line 10 thread 1 begin remove 5 call 2 pc 1
+event 19 line 11 thread 1 load head.link saw n6 pc 2 curr n6
+event 20 line 11 thread 1 load n6.key saw 5 pc 4 ckey 5
+event 21 line 11 thread 1 exchange head.lock from free to t1 saw free pc 5
+event 22 line 11 thread 1 exchange n6.lock from free to t1 saw free pc 6
+event 23 line 11 thread 1 load head.link saw n6 pc 7
+event 24 line 11 thread 1 load n6.link saw n4 pc 11 succ n4
+event 25 line 11 thread 1 store n6.link n4* pc 12 took 5
+event 26 line 11 thread 1 store head.link n4 pc 13 reply true
+event 27 line 11 thread 1 store n6.lock free pc 14
+event 28 line 11 thread 1 store head.lock free pc 0 answer true call 2 at 25
+event 29 line 12 thread 1 begin add 7 call 3 pc 1
+event 30 line 13 thread 1 load head.link saw n4 pc 2 curr n4
+event 31 line 13 thread 1 load n4.key saw 9 pc 4 ckey 9
+event 32 line 13 thread 1 exchange head.lock from free to t1 saw free pc 5
+event 33 line 13 thread 1 exchange n4.lock from free to t1 saw free pc 6
+event 34 line 13 thread 1 load head.link saw n4 pc 7
+event 35 line 13 thread 1 load n4.link saw tail pc 8 succ tail
+event 36 line 13 thread 1 store n5.key 7 pc 9
+event 37 line 13 thread 1 store n5.link n4 pc 10
+event 38 line 13 thread 1 store head.link n5 pc 13 used 2 reply true put 7
+event 39 line 13 thread 1 store n4.lock free pc 14
+event 40 line 13 thread 1 store head.lock free pc 0 answer true call 3 at 38
+event 41 line 14 thread 0 load n6.link saw n4* pc 24 curr n4
+event 42 line 14 thread 0 load n4.key saw 9 pc 25 ckey 9
+event 43 line 14 thread 0 load n4.link saw tail pc 0 answer at-9 call 0 at 15
+end
+`.slice(1),
+  "opens-with-keys": `
+listset-trace 1
+list lazy
+threads 1
+quota 1
+opening 5
+opening 9
+event 1 line 7 thread 0 begin remove 5 call 0 pc 1
+event 2 line 8 thread 0 load head.link saw n3 pc 2 curr n3
+event 3 line 8 thread 0 load n3.key saw 5 pc 4 ckey 5
+event 4 line 8 thread 0 exchange head.lock from free to t0 saw free pc 5
+event 5 line 8 thread 0 exchange n3.lock from free to t0 saw free pc 6
+event 6 line 8 thread 0 load head.link saw n3 pc 7
+event 7 line 8 thread 0 load n3.link saw n4 pc 11 succ n4
+event 8 line 8 thread 0 store n3.link n4* pc 12 took 5
+event 9 line 8 thread 0 store head.link n4 pc 13 reply true
+event 10 line 8 thread 0 store n3.lock free pc 14
+event 11 line 8 thread 0 store head.lock free pc 0 answer true call 0 at 8
+event 12 line 9 thread 0 begin ceiling 0 call 1 pc 23
+event 13 line 10 thread 0 load head.link saw n4 pc 24 curr n4
+event 14 line 10 thread 0 load n4.key saw 9 pc 25 ckey 9
+event 15 line 10 thread 0 load n4.link saw tail pc 0 answer at-9 call 1 at 12
+event 16 line 11 thread 0 begin add 7 call 2 pc 1
+event 17 line 12 thread 0 load head.link saw n4 pc 2 curr n4
+event 18 line 12 thread 0 load n4.key saw 9 pc 4 ckey 9
+event 19 line 12 thread 0 exchange head.lock from free to t0 saw free pc 5
+event 20 line 12 thread 0 exchange n4.lock from free to t0 saw free pc 6
+event 21 line 12 thread 0 load head.link saw n4 pc 7
+event 22 line 12 thread 0 load n4.link saw tail pc 8 succ tail
+event 23 line 12 thread 0 store n2.key 7 pc 9
+event 24 line 12 thread 0 store n2.link n4 pc 10
+event 25 line 12 thread 0 store head.link n2 pc 13 used 1 reply true put 7
+event 26 line 12 thread 0 store n4.lock free pc 14
+event 27 line 12 thread 0 store head.lock free pc 0 answer true call 2 at 25
+event 28 line 13 thread 0 begin add 8 call 3 pc 1
+event 29 line 14 thread 0 load head.link saw n2 pc 2 curr n2
+event 30 line 14 thread 0 load n2.key saw 7 pc 3 ckey 7
+event 31 line 14 thread 0 load n2.link saw n4 pc 2 pred n2 curr n4
+event 32 line 14 thread 0 load n4.key saw 9 pc 4 ckey 9
+event 33 line 14 thread 0 exchange n2.lock from free to t0 saw free pc 5
+event 34 line 14 thread 0 exchange n4.lock from free to t0 saw free pc 6
+event 35 line 14 thread 0 load n2.link saw n4 pc 7
+event 36 line 14 thread 0 load n4.link saw tail pc 13 succ tail reply full
+event 37 line 14 thread 0 store n4.lock free pc 14
+event 38 line 14 thread 0 store n2.lock free pc 0 answer full call 3 at 28
+end
+`.slice(1),
+  "two-removers": `
+listset-trace 1
+list lock-free
+threads 2
+quota 4
+event 1 line 5 thread 0 begin add 5 call 0 pc 1
+event 2 line 6 thread 0 load head.link saw tail pc 2 curr tail
+event 3 line 6 thread 0 load tail.link saw tail pc 4 succ tail
+event 4 line 6 thread 0 load tail.key saw +inf pc 5
+event 5 line 6 thread 0 store n2.key 5 pc 6
+event 6 line 6 thread 0 store n2.link tail pc 7
+event 7 line 6 thread 0 exchange head.link from tail to n2 saw tail pc 0 used 1 put 5 answer true call 0 at 7
+event 8 line 7 thread 0 begin remove 5 call 1 pc 1
+event 9 line 8 thread 1 begin remove 5 call 2 pc 1
+event 10 line 9 thread 0 load head.link saw n2 pc 2 curr n2
+event 11 line 9 thread 0 load n2.link saw tail pc 4 succ tail
+event 12 line 9 thread 0 load n2.key saw 5 pc 8
+event 13 line 9 thread 0 load n2.link saw tail pc 9
+event 14 line 10 thread 1 load head.link saw n2 pc 2 curr n2
+event 15 line 10 thread 1 load n2.link saw tail pc 4 succ tail
+event 16 line 10 thread 1 load n2.key saw 5 pc 8
+event 17 line 10 thread 1 load n2.link saw tail pc 9
+event 18 line 11 thread 1 exchange n2.link from tail to tail* saw tail pc 10 took 5
+event 19 line 11 thread 1 exchange head.link from n2 to tail saw n2 pc 0 answer true call 2 at 18
+event 20 line 12 thread 0 exchange n2.link from tail to tail* saw tail* pc 1
+event 21 line 12 thread 0 load head.link saw tail pc 2 curr tail
+event 22 line 12 thread 0 load tail.link saw tail pc 4
+event 23 line 12 thread 0 load tail.key saw +inf pc 0 reply false answer false call 1 at 18
+end
+`.slice(1),
+  "snip": `
+listset-trace 1
+list lock-free
+threads 2
+quota 4
+event 1 line 5 thread 0 begin add 5 call 0 pc 1
+event 2 line 6 thread 0 load head.link saw tail pc 2 curr tail
+event 3 line 6 thread 0 load tail.link saw tail pc 4 succ tail
+event 4 line 6 thread 0 load tail.key saw +inf pc 5
+event 5 line 6 thread 0 store n2.key 5 pc 6
+event 6 line 6 thread 0 store n2.link tail pc 7
+event 7 line 6 thread 0 exchange head.link from tail to n2 saw tail pc 0 used 1 put 5 answer true call 0 at 7
+event 8 line 7 thread 0 begin remove 5 call 1 pc 1
+event 9 line 8 thread 0 load head.link saw n2 pc 2 curr n2
+event 10 line 8 thread 0 load n2.link saw tail pc 4 succ tail
+event 11 line 8 thread 0 load n2.key saw 5 pc 8
+event 12 line 8 thread 0 load n2.link saw tail pc 9
+event 13 line 8 thread 0 exchange n2.link from tail to tail* saw tail pc 10 took 5
+event 14 line 9 thread 1 begin add 7 call 2 pc 1
+event 15 line 10 thread 1 load head.link saw n2 pc 2 curr n2
+event 16 line 10 thread 1 load n2.link saw tail* pc 3 succ tail
+event 17 line 10 thread 1 exchange head.link from n2 to tail saw n2 pc 2 curr tail
+event 18 line 10 thread 1 load tail.link saw tail pc 4
+event 19 line 10 thread 1 load tail.key saw +inf pc 5
+event 20 line 10 thread 1 store n6.key 7 pc 6
+event 21 line 10 thread 1 store n6.link tail pc 7
+event 22 line 10 thread 1 exchange head.link from tail to n6 saw tail pc 0 used 1 put 7 answer true call 2 at 22
+event 23 line 11 thread 0 exchange head.link from n2 to tail saw n6 pc 0 answer true call 1 at 13
+end
+`.slice(1),
+  "tries-again": `
+listset-trace 1
+list lock-free
+threads 2
+quota 4
+event 1 line 5 thread 0 begin add 5 call 0 pc 1
+event 2 line 6 thread 1 begin add 7 call 1 pc 1
+event 3 line 7 thread 0 load head.link saw tail pc 2 curr tail
+event 4 line 7 thread 0 load tail.link saw tail pc 4 succ tail
+event 5 line 7 thread 0 load tail.key saw +inf pc 5
+event 6 line 7 thread 0 store n2.key 5 pc 6
+event 7 line 7 thread 0 store n2.link tail pc 7
+event 8 line 8 thread 1 load head.link saw tail pc 2 curr tail
+event 9 line 8 thread 1 load tail.link saw tail pc 4 succ tail
+event 10 line 8 thread 1 load tail.key saw +inf pc 5
+event 11 line 8 thread 1 store n6.key 7 pc 6
+event 12 line 8 thread 1 store n6.link tail pc 7
+event 13 line 8 thread 1 exchange head.link from tail to n6 saw tail pc 0 used 1 put 7 answer true call 1 at 13
+event 14 line 9 thread 0 exchange head.link from tail to n2 saw n6 pc 1
+event 15 line 9 thread 0 load head.link saw n6 pc 2 curr n6
+event 16 line 9 thread 0 load n6.link saw tail pc 4
+event 17 line 9 thread 0 load n6.key saw 7 pc 5
+event 18 line 9 thread 0 store n2.key 5 pc 6
+event 19 line 9 thread 0 store n2.link n6 pc 7
+event 20 line 9 thread 0 exchange head.link from n6 to n2 saw n6 pc 0 used 1 put 5 answer true call 0 at 20
+end
+`.slice(1),
+  "left-in-chain": `
+listset-trace 1
+list lock-free
+threads 2
+quota 4
+event 1 line 5 thread 0 begin add 5 call 0 pc 1
+event 2 line 6 thread 0 load head.link saw tail pc 2 curr tail
+event 3 line 6 thread 0 load tail.link saw tail pc 4 succ tail
+event 4 line 6 thread 0 load tail.key saw +inf pc 5
+event 5 line 6 thread 0 store n2.key 5 pc 6
+event 6 line 6 thread 0 store n2.link tail pc 7
+event 7 line 6 thread 0 exchange head.link from tail to n2 saw tail pc 0 used 1 put 5 answer true call 0 at 7
+event 8 line 7 thread 0 begin add 3 call 1 pc 1
+event 9 line 8 thread 0 load head.link saw n2 pc 2 curr n2
+event 10 line 8 thread 0 load n2.link saw tail pc 4 succ tail
+event 11 line 8 thread 0 load n2.key saw 5 pc 5
+event 12 line 8 thread 0 store n3.key 3 pc 6
+event 13 line 8 thread 0 store n3.link n2 pc 7
+event 14 line 9 thread 1 begin remove 5 call 2 pc 1
+event 15 line 10 thread 1 load head.link saw n2 pc 2 curr n2
+event 16 line 10 thread 1 load n2.link saw tail pc 4 succ tail
+event 17 line 10 thread 1 load n2.key saw 5 pc 8
+event 18 line 10 thread 1 load n2.link saw tail pc 9
+event 19 line 10 thread 1 exchange n2.link from tail to tail* saw tail pc 10 took 5
+event 20 line 11 thread 0 exchange head.link from n2 to n3 saw n2 pc 0 used 2 put 3 answer true call 1 at 20
+event 21 line 12 thread 1 exchange head.link from n2 to tail saw n3 pc 0 answer true call 2 at 19
+event 22 line 13 thread 0 begin contains 5 call 3 pc 20
+event 23 line 14 thread 0 load head.link saw n3 pc 21 curr n3
+event 24 line 14 thread 0 load n3.key saw 3 pc 20
+event 25 line 14 thread 0 load n3.link saw n2 pc 21 curr n2
+event 26 line 14 thread 0 load n2.key saw 5 pc 22
+event 27 line 14 thread 0 load n2.link saw tail* pc 0 answer false call 3 at 22
+end
+`.slice(1),
+  "ceiling-meets-mark": `
+listset-trace 1
+list lock-free
+threads 2
+quota 4
+event 1 line 5 thread 1 begin add 5 call 0 pc 1
+event 2 line 6 thread 1 load head.link saw tail pc 2 curr tail
+event 3 line 6 thread 1 load tail.link saw tail pc 4 succ tail
+event 4 line 6 thread 1 load tail.key saw +inf pc 5
+event 5 line 6 thread 1 store n6.key 5 pc 6
+event 6 line 6 thread 1 store n6.link tail pc 7
+event 7 line 6 thread 1 exchange head.link from tail to n6 saw tail pc 0 used 1 put 5 answer true call 0 at 7
+event 8 line 7 thread 0 begin ceiling 3 call 1 pc 23
+event 9 line 8 thread 0 load head.link saw n6 pc 24 curr n6
+event 10 line 8 thread 0 load n6.key saw 5 pc 25 ckey 5
+event 11 line 9 thread 1 begin remove 5 call 2 pc 1
+event 12 line 10 thread 1 load head.link saw n6 pc 2 curr n6
+event 13 line 10 thread 1 load n6.link saw tail pc 4 succ tail
+event 14 line 10 thread 1 load n6.key saw 5 pc 8
+event 15 line 10 thread 1 load n6.link saw tail pc 9
+event 16 line 10 thread 1 exchange n6.link from tail to tail* saw tail pc 10 took 5
+event 17 line 10 thread 1 exchange head.link from n6 to tail saw n6 pc 0 answer true call 2 at 16
+event 18 line 11 thread 0 load n6.link saw tail* pc 23 curr head
+event 19 line 11 thread 0 load head.link saw tail pc 24 curr tail
+event 20 line 11 thread 0 load tail.key saw +inf pc 0 ckey +inf answer nothing call 1 at 16
+end
+`.slice(1),
+  "ceiling-left-in-chain": `
+listset-trace 1
+list lock-free
+threads 2
+quota 4
+event 1 line 5 thread 0 begin add 5 call 0 pc 1
+event 2 line 6 thread 0 load head.link saw tail pc 2 curr tail
+event 3 line 6 thread 0 load tail.link saw tail pc 4 succ tail
+event 4 line 6 thread 0 load tail.key saw +inf pc 5
+event 5 line 6 thread 0 store n2.key 5 pc 6
+event 6 line 6 thread 0 store n2.link tail pc 7
+event 7 line 6 thread 0 exchange head.link from tail to n2 saw tail pc 0 used 1 put 5 answer true call 0 at 7
+event 8 line 7 thread 0 begin add 3 call 1 pc 1
+event 9 line 8 thread 0 load head.link saw n2 pc 2 curr n2
+event 10 line 8 thread 0 load n2.link saw tail pc 4 succ tail
+event 11 line 8 thread 0 load n2.key saw 5 pc 5
+event 12 line 8 thread 0 store n3.key 3 pc 6
+event 13 line 8 thread 0 store n3.link n2 pc 7
+event 14 line 9 thread 1 begin remove 5 call 2 pc 1
+event 15 line 10 thread 1 load head.link saw n2 pc 2 curr n2
+event 16 line 10 thread 1 load n2.link saw tail pc 4 succ tail
+event 17 line 10 thread 1 load n2.key saw 5 pc 8
+event 18 line 10 thread 1 load n2.link saw tail pc 9
+event 19 line 10 thread 1 exchange n2.link from tail to tail* saw tail pc 10 took 5
+event 20 line 11 thread 0 exchange head.link from n2 to n3 saw n2 pc 0 used 2 put 3 answer true call 1 at 20
+event 21 line 12 thread 1 exchange head.link from n2 to tail saw n3 pc 0 answer true call 2 at 19
+event 22 line 13 thread 0 begin ceiling 4 call 3 pc 23
+event 23 line 14 thread 0 load head.link saw n3 pc 24 curr n3
+event 24 line 14 thread 0 load n3.key saw 3 pc 23 ckey 3
+event 25 line 14 thread 0 load n3.link saw n2 pc 24 curr n2
+event 26 line 14 thread 0 load n2.key saw 5 pc 25 ckey 5
+event 27 line 14 thread 0 load n2.link saw tail* pc 23 curr head
+event 28 line 15 thread 1 begin add 7 call 4 pc 1
+event 29 line 16 thread 1 load head.link saw n3 pc 2 curr n3
+event 30 line 16 thread 1 load n3.link saw n2 pc 4 succ n2
+event 31 line 16 thread 1 load n3.key saw 3 pc 2 pred n3 curr n2
+event 32 line 16 thread 1 load n2.link saw tail* pc 3 succ tail
+event 33 line 16 thread 1 exchange n3.link from n2 to tail saw n2 pc 2 curr tail
+event 34 line 16 thread 1 load tail.link saw tail pc 4
+event 35 line 16 thread 1 load tail.key saw +inf pc 5
+event 36 line 16 thread 1 store n6.key 7 pc 6
+event 37 line 16 thread 1 store n6.link tail pc 7
+event 38 line 16 thread 1 exchange n3.link from tail to n6 saw tail pc 0 used 1 put 7 answer true call 4 at 38
+event 39 line 17 thread 0 load head.link saw n3 pc 24 curr n3
+event 40 line 17 thread 0 load n3.key saw 3 pc 23 ckey 3
+event 41 line 17 thread 0 load n3.link saw n6 pc 24 curr n6
+event 42 line 17 thread 0 load n6.key saw 7 pc 25 ckey 7
+event 43 line 17 thread 0 load n6.link saw tail pc 0 answer at-7 call 3 at 38
+end
+`.slice(1),
+  "behind-the-walk": `
+listset-trace 1
+list lock-free
+threads 2
+quota 4
+event 1 line 5 thread 1 begin add 9 call 0 pc 1
+event 2 line 6 thread 1 load head.link saw tail pc 2 curr tail
+event 3 line 6 thread 1 load tail.link saw tail pc 4 succ tail
+event 4 line 6 thread 1 load tail.key saw +inf pc 5
+event 5 line 6 thread 1 store n6.key 9 pc 6
+event 6 line 6 thread 1 store n6.link tail pc 7
+event 7 line 6 thread 1 exchange head.link from tail to n6 saw tail pc 0 used 1 put 9 answer true call 0 at 7
+event 8 line 7 thread 0 begin ceiling 3 call 1 pc 23
+event 9 line 8 thread 0 load head.link saw n6 pc 24 curr n6
+event 10 line 9 thread 1 begin add 5 call 2 pc 1
+event 11 line 10 thread 1 load head.link saw n6 pc 2 curr n6
+event 12 line 10 thread 1 load n6.link saw tail pc 4 succ tail
+event 13 line 10 thread 1 load n6.key saw 9 pc 5
+event 14 line 10 thread 1 store n7.key 5 pc 6
+event 15 line 10 thread 1 store n7.link n6 pc 7
+event 16 line 10 thread 1 exchange head.link from n6 to n7 saw n6 pc 0 used 2 put 5 answer true call 2 at 16
+event 17 line 11 thread 0 load n6.key saw 9 pc 25 ckey 9
+event 18 line 11 thread 0 load n6.link saw tail pc 0 answer at-9 call 1 at 8
+end
+`.slice(1),
+  "nothing-in-anothers-step": `
+listset-trace 1
+list lock-free
+threads 2
+quota 1
+opening 5
+opening 7
+event 1 line 7 thread 0 begin ceiling 6 call 0 pc 23
+event 2 line 8 thread 0 load head.link saw n4 pc 24 curr n4
+event 3 line 8 thread 0 load n4.key saw 5 pc 23 ckey 5
+event 4 line 9 thread 1 begin remove 7 call 1 pc 1
+event 5 line 10 thread 1 load head.link saw n4 pc 2 curr n4
+event 6 line 10 thread 1 load n4.link saw n5 pc 4 succ n5
+event 7 line 10 thread 1 load n4.key saw 5 pc 2 pred n4 curr n5
+event 8 line 10 thread 1 load n5.link saw tail pc 4 succ tail
+event 9 line 10 thread 1 load n5.key saw 7 pc 8
+event 10 line 10 thread 1 load n5.link saw tail pc 9
+event 11 line 10 thread 1 exchange n5.link from tail to tail* saw tail pc 10 took 7
+event 12 line 10 thread 1 exchange n4.link from n5 to tail saw n5 pc 0 answer true call 1 at 11
+event 13 line 11 thread 1 begin remove 5 call 2 pc 1
+event 14 line 12 thread 1 load head.link saw n4 pc 2 curr n4
+event 15 line 12 thread 1 load n4.link saw tail pc 4 succ tail
+event 16 line 12 thread 1 load n4.key saw 5 pc 8
+event 17 line 12 thread 1 load n4.link saw tail pc 9
+event 18 line 12 thread 1 exchange n4.link from tail to tail* saw tail pc 10 took 5
+event 19 line 12 thread 1 exchange head.link from n4 to tail saw n4 pc 0 answer true call 2 at 18
+event 20 line 13 thread 1 begin add 7 call 3 pc 1
+event 21 line 14 thread 1 load head.link saw tail pc 2 curr tail
+event 22 line 14 thread 1 load tail.link saw tail pc 4 succ tail
+event 23 line 14 thread 1 load tail.key saw +inf pc 5
+event 24 line 14 thread 1 store n3.key 7 pc 6
+event 25 line 14 thread 1 store n3.link tail pc 7
+event 26 line 14 thread 1 exchange head.link from tail to n3 saw tail pc 0 used 1 put 7 answer true call 3 at 26
+event 27 line 15 thread 0 load n4.link saw tail* pc 24 curr tail
+event 28 line 15 thread 0 load tail.key saw +inf pc 0 ckey +inf answer nothing call 0 at 11
+end
+`.slice(1),
+};
+return { EXAMPLES, TRACES };
 })();
 
 // engine/answers.js
@@ -1729,11 +2420,8 @@ function orderIn([fault, ...values], keys) {
   if (fault === undefined) return null;
   return { fault, set: `{${keys.join(", ")}}`, ...Object.fromEntries((FAULT_VALUES[fault] ?? ["call"]).map((name, at) => [name, values[at]])) };
 }
-return { readReport, callsOfRecording, leavesKey, readExamples, readFault, readVerdict };
-})();
 
-// run/faults.js
-const $run_faults = (() => {
+
 function sentenceOn(ask, cause, ...kinds) {
   if (!cause) return null;
   const told = ask("listset_faults").text;
@@ -1741,7 +2429,159 @@ function sentenceOn(ask, cause, ...kinds) {
   const [, said] = new RegExp(`^  ${cause} +((?:.|\n {12})+)`, "m").exec(parts.join("\n")) ?? [];
   return said === undefined ? null : said[0].toLowerCase() + said.slice(1).replace(/\n +/g, " ").replace(/\.( .*)?$/, "");
 }
-return { sentenceOn };
+return { readReport, callsOfRecording, leavesKey, readExamples, readFault, readVerdict, sentenceOn };
+})();
+
+// made/classics.js
+const $made_classics = (() => {
+// What docs/CLASSIC.md says, by page/build: of each example its question, the answer, the events that decide it, what goes
+// wrong without it, and which lists of its kind lack that check; and the kind of each list that lacks one.
+
+const CLASSICS = {
+  "failed-tries": {
+    "question": "Two threads add one key at the same time. Which of them adds it?",
+    "turnsOn": "The one that takes the lock. A failed attempt is a step too, and leaves the thread at its row. Thread 1 stays at row 1 until the lock is released, and then finds the key.",
+    "without": "Both walk over one old link, and the second write loses the node of the first (lock).",
+    "turns": [4, 15],
+    "lacks": ["lock"]
+  },
+  "full": {
+    "question": "A thread with one slot adds 5, removes it and adds 7. Is there a slot for 7?",
+    "turnsOn": "No: each slot is used once, so no thread ever reaches a node that holds another key than before. full changes nothing, and is correct from the begin of its call.",
+    "without": "A slot that is used again changes the key of a node at which other threads may be (new-slot).",
+    "turns": [14, 19],
+    "lacks": []
+  },
+  "hand-over-hand": {
+    "question": "Thread 0 has locked the head and 9, to add 5 between them. Thread 1 wants to remove 9. How far does it get?",
+    "turnsOn": "Not even to the head, until thread 0 releases the head's lock. Then it goes hand over hand: it releases the head's lock only when it holds that of 5.",
+    "without": "A walk that holds no lock can be at an unlinked node, and lose the key that it adds behind that node (hand-over-hand). So can a walk beside a remove that locks only pred (second-lock).",
+    "turns": [17, 28],
+    "lacks": ["hand-over-hand", "second-lock"]
+  },
+  "same-gap": {
+    "question": "Both threads have walked without locks to the gap between head and tail. Thread 1 adds its key first. What does thread 0 do once it has its two locks?",
+    "turnsOn": "It looks at pred again: the head leads to the node of 7 now. So it releases its locks and walks again.",
+    "without": "A validation that only finds pred, and does not look where it leads, links 5 to the tail, and 7 is lost.",
+    "turns": [12, 17],
+    "lacks": []
+  },
+  "stale-pred": {
+    "question": "Thread 0 has found pred = 3 and curr = tail. Thread 1 removes 3, whose node still leads to the tail. May thread 0 write?",
+    "turnsOn": "No: an unlinked node keeps its link. Thread 0 walks once more from the head, and gets past the key of pred without reaching pred.",
+    "without": "5 is added behind an unlinked node (second-walk). A walk that looks for the key of pred, and not for the node, may find another node with that key (same-node).",
+    "turns": [24, 30],
+    "lacks": ["second-walk", "same-node"]
+  },
+  "marked-in-chain": {
+    "question": "Thread 1 has marked the node of 5 and has not unlinked it yet. Thread 0 walks to that node. What does its contains(5) answer?",
+    "turnsOn": "false: the mark removes the key from the set. That the node is still in the chain does not matter. contains reads its link, sees the mark, and takes no lock for it.",
+    "without": "true is correct at none of its moments (mark-in-contains). But the remove is still pending, and an order with the contains before it explains both. No history of that broken list is known that no order explains.",
+    "turns": [20, 24],
+    "lacks": ["mark-in-contains"]
+  },
+  "marked-pred": {
+    "question": "As in stale-pred, but this list has no second walk. What warns thread 0?",
+    "turnsOn": "The mark in the link of pred, which a remove sets before it unlinks the node. One load does the work of OptimisticList's second walk.",
+    "without": "5 is added behind the node of 3, which is unlinked (marks-in-validation).",
+    "turns": [25, 31],
+    "lacks": ["marks-in-validation"]
+  },
+  "read-in-anothers-step": {
+    "question": "Just after each of thread 0's own events, 5 is in the set. Its contains(5) answers false. Is that right?",
+    "turnsOn": "Yes: between two of its events thread 1 removed 5, and added it again in another node. The call takes effect at event 23, a step of thread 1.",
+    "without": "A proof that looks for the linearization point among the call's own steps finds none, though the list is correct. check refuses the order that puts the contains last.",
+    "turns": [23, 36, 39],
+    "lacks": []
+  },
+  "ceiling-in-anothers-step": {
+    "question": "Just after each of thread 0's own events, the smallest key from 6 on is 7, or there is none. Its ceiling(6) answers 9. Is that right?",
+    "turnsOn": "Yes: it was 9 from event 15 until event 38, and all events between are steps of thread 1. The walk was at the node of 5 when that was unlinked, and its link still leads to 9.",
+    "without": "A ceiling that started again at each mark would answer 7 here, which is no better, and removes of smaller keys could send it back.",
+    "turns": [15, 38, 43],
+    "lacks": []
+  },
+  "opens-with-keys": {
+    "question": "Two keys are there at the start, one is removed, one is added. Why does the last add answer full?",
+    "turnsOn": "The thread's one slot is n2. The opening keys have nodes of their own and count as nobody's adds, and a remove frees no slot.",
+    "without": "A set that counts opening keys as adds answers full to the add of 7; one that uses slots again adds 8. check refuses either reply.",
+    "turns": [25, 36],
+    "lacks": []
+  },
+  "two-removers": {
+    "question": "Two threads have found the node of 5, unmarked, and want to remove it. Which of them does?",
+    "turnsOn": "The one whose exchange sets the mark. The exchange of the other compares link and mark together, and fails. That thread walks again and answers false.",
+    "without": "A remove that marks a marked node answers true too, and 5 is removed twice (mark-in-remove).",
+    "turns": [18, 20],
+    "lacks": ["mark-in-remove"]
+  },
+  "snip": {
+    "question": "Thread 0 has marked the node of 5 and stops there. Thread 1 wants to add 7 behind it. Does it have to wait?",
+    "turnsOn": "No: thread 1 unlinks the marked node itself. The exchange of thread 0 fails then, and thread 0 still answers true, since it has set the mark.",
+    "without": "An add that ignores the mark links 7 behind the node of 5, and 7 is unlinked with it (mark-in-add). Without marks no add could know (mark).",
+    "turns": [17, 23],
+    "lacks": ["mark-in-add", "mark"]
+  },
+  "tries-again": {
+    "question": "Both threads are at the gap between head and tail, each with a node ready. Thread 1 is first. What happens to thread 0's node?",
+    "turnsOn": "The exchange of thread 0 expects the tail, sees the node of 7, and fails. Thread 0 walks again and writes the same slot anew: no other thread has seen it, so it is not used up.",
+    "without": "With a store in place of the exchange, the head would lead to 5, and 7 would be lost.",
+    "turns": [14, 20],
+    "lacks": []
+  },
+  "left-in-chain": {
+    "question": "Thread 1's remove of 5 has answered. Which nodes are in the chain, and what does a contains(5) answer that begins only then?",
+    "turnsOn": "The node of 5 is still there, marked: the head led to 3 when the remover tried to unlink it. The next add or remove that walks there unlinks it. contains sees the mark: false.",
+    "without": "It answers true (mark-at-key). The remove had ended before, and nobody adds 5 again, so no order explains these calls.",
+    "turns": [21, 27],
+    "lacks": ["mark-at-key"]
+  },
+  "ceiling-meets-mark": {
+    "question": "Thread 0's ceiling(3) has come to the node of 5. Before it looks at the mark, thread 1 removes 5. What does it answer, and when is that correct?",
+    "turnsOn": "The mark is looked at last (row 25). The call finds one, starts again at the head, and comes to the tail: nothing, which is correct from the mark on.",
+    "without": "Here 5 would be right too, since the remove began after the ceiling. In the next example it would not.",
+    "turns": [18, 20],
+    "lacks": []
+  },
+  "ceiling-left-in-chain": {
+    "question": "The remove of 5 has ended, and its node is still in the chain. What may a ceiling(4) answer, and how often may it walk?",
+    "turnsOn": "Not 5: the mark sends it back to the head, each time it comes to that node. Thread 1's walk unlinks the node; the second walk of the ceiling answers 7, which was added after the call had begun.",
+    "without": "It answers 5, which nobody adds again, so no order explains these calls. LazyList's ceiling needs the same look at the mark (mark-in-ceiling).",
+    "turns": [27, 33, 43],
+    "lacks": []
+  },
+  "behind-the-walk": {
+    "question": "Thread 0 has read the link of the head, which leads to 9. Thread 1 adds 5 in between. May the ceiling(3) of thread 0 answer 9?",
+    "turnsOn": "Yes: at the moment of that read there was no key between. The call takes effect at its begin, so before the add, although the add ended first.",
+    "without": "No broken list lacks this. Each node of the walk was in the chain, with the link that was read, at some moment of the call. Along other links the walk could miss a key that was always there.",
+    "turns": [9, 16],
+    "lacks": []
+  },
+  "nothing-in-anothers-step": {
+    "question": "Just after each of thread 0's own events, 7 is in the set. Its ceiling(6) answers that there is no key. Is that right?",
+    "turnsOn": "Yes: between two of its events thread 1 removed 7 and then 5, and added 7 again. The link of the node of 5 led to the tail when the node was marked, and no exchange changes a marked link.",
+    "without": "No broken list lacks this either: the link beside the mark was in the chain during the call.",
+    "turns": [11, 28],
+    "lacks": []
+  }
+};
+
+const LACKING = {
+  "lock": "coarse",
+  "second-lock": "fine",
+  "hand-over-hand": "fine",
+  "second-walk": "optimistic",
+  "same-node": "optimistic",
+  "marks-in-validation": "lazy",
+  "mark-in-contains": "lazy",
+  "mark-in-ceiling": "lazy",
+  "mark": "lock-free",
+  "mark-in-add": "lock-free",
+  "mark-in-remove": "lock-free",
+  "mark-at-key": "lock-free",
+  "new-slot": "lock-free"
+};
+return { CLASSICS, LACKING };
 })();
 
 // run/judged.js
@@ -1895,13 +2735,11 @@ return { MOST_JUDGED, LEVELS, exerciseOf, nameOfCall, lastMoment, repliesOf, Own
 
 // run/schedule_text.js
 const $run_schedule_text = (() => {
-const { HEADER_LINES } = $run_trace;
-const MOST_STEPS = 10000; // of one line
-
+const { HEADER_LINES, isTrace, Trace } = $run_trace;
 const titleOf = (version) => `listset-schedule ${version}`;
 const versionOf = (schedule) => (schedule.startsWith(`${titleOf(2)}\n`) ? 2 : 1);
 
-function scheduleLines(trace, count) {
+function scheduleOfTrace(trace, count = trace.total) {
   const lines = [titleOf(trace.version), `list ${trace.kind}`, `threads ${trace.threads}`, `quota ${trace.quota}`];
   for (const key of trace.opening) lines.push(`opening ${key}`);
   let [steps, before] = [0, null];
@@ -1914,22 +2752,7 @@ function scheduleLines(trace, count) {
     else lines.push(`go ${event.thread} ${steps}`);
     before = event.line;
   }
-  return lines;
-}
-
-const scheduleOfTrace = (trace, count = trace.total) => [...scheduleLines(trace, count), ""].join("\n");
-
-function scheduleAndLine(trace, count, line, text = null) {
-  const isWhole = text !== null && count === trace.total && trace.refused === null;
-  const lines = isWhole ? text.trimEnd().split("\n") : scheduleLines(trace, count);
-  const last = lines[lines.length - 1].split(" ");
-  const added = line.split(" ");
-  const isPlain = last[0] === "go" && added[0] === "go" && last[1] === added[1] && Number(added[2]) > 0;
-  const joins = isPlain && Number(last[2]) + Number(added[2]) <= MOST_STEPS;
-  if (added[2] === "ceiling") lines[0] = titleOf(2);
-  if (joins) lines[lines.length - 1] = `go ${last[1]} ${Number(last[2]) + Number(added[2])}`;
-  else lines.push(line);
-  return lines.join("\n") + "\n";
+  return [...lines, ""].join("\n");
 }
 
 function openingIn(schedule) {
@@ -1950,7 +2773,605 @@ function eventsAsked(text) {
   for (const [, steps] of text.matchAll(/^(?:begin |go \d+ (\d+)$)/gm)) count += Number(steps ?? 1);
   return count;
 }
-return { titleOf, versionOf, scheduleOfTrace, scheduleAndLine, openingIn, withOpening, eventsAsked };
+
+
+const MOST_TRIED = 1000; // steps of a thread that does not come to where it is sent, to see for what it waits
+const DRAFT_LINE = /^go \d+ (?:out|to \d+)$/m;
+
+function scheduleOfDraft(ask, text, lacks = null) {
+  if (!DRAFT_LINE.test(text)) return { text, fault: null };
+  if (lacks !== null) return scheduleOfLackingDraft(ask, lacks, text);
+  const made = ask("listset_draft", text.replace(/^listset-(?:schedule|draft) [12]$/m, "listset-draft 2"));
+  return made.status === 0 ? { text: made.text, fault: null } : { text: null, fault: made.text.trim() };
+}
+
+function stepsOfLacking(ask, lacks, lines, thread, row) {
+  const fault = (cause) => ({ count: null, fault: `listset: line ${lines.length + 1}: ${cause}` });
+  const { text } = ask("listset_lacking", lacks, `${[...lines, `go ${thread} ${MOST_TRIED}`].join("\n")}\n`, "trace");
+  if (!isTrace(text)) return { count: null, fault: text.trim() };
+  const steps = new Trace(text).events().filter(({ line }) => line === lines.length + 1);
+  const end = steps.findIndex(({ answer }) => answer !== undefined);
+  const at = row === undefined ? end : steps.findIndex(({ answer, changes }) => answer === undefined && changes.pc === Number(row));
+  if (at !== -1) return { count: at + 1, fault: null };
+  return fault(end !== -1 || steps.length === 0 ? "Idle" : "Waits");
+}
+
+function scheduleOfLackingDraft(ask, lacks, text) {
+  const lines = [];
+  for (const line of text.split("\n").slice(0, -1)) {
+    const asked = /^go (\d+) (?:out|to (\d+))$/.exec(line);
+    const { count, fault } = asked === null ? { count: null, fault: null } : stepsOfLacking(ask, lacks, lines, asked[1], asked[2]);
+    if (fault !== null) return { text: null, fault };
+    lines.push(asked === null ? line : `go ${asked[1]} ${count}`);
+  }
+  return { text: [...lines, ""].join("\n"), fault: null };
+}
+return { titleOf, versionOf, scheduleOfTrace, openingIn, withOpening, eventsAsked, scheduleOfDraft };
+})();
+
+// run/broken.js
+const $run_broken = (() => {
+const { LACKING } = $made_classics;
+const { readReport, readVerdict } = $engine_answers;
+const { nameOfCall } = $run_judged;
+const { scheduleOfTrace, titleOf } = $run_schedule_text;
+const { eventsInCommon, isTrace, Trace } = $run_trace;
+const LACKING_THREADS = 2;
+const LACKING_QUOTA = 2;
+const LACKING_OPENING = [3, 7]; // what such a list opens with, until the reader changes that
+const EXPLAINED = "Not broken yet: some order explains this run.";
+const BY_POINTS = "Not by its linearization points: check refuses that order.";
+const OTHER = "Another order explains these replies.";
+const UNKNOWN = "Whether another order explains these replies is not known.";
+const UNEXPLAINED = "No order of these calls explains that (proved).";
+const TO_BREAK = "No order explains what the calls answer (proved)."; // the condition of a lesson
+
+const NO_TASK = "mark-in-contains";
+const isTaskDone = (lacks, { kind }) => kind === "broken" && lacks !== NO_TASK;
+
+const askList = (ask, name, lacks, text) =>
+  lacks === null ? ask(name, text) : ask("listset_lacking", lacks, text, name.slice("listset_".length));
+
+function startOfLacking(name) {
+  const set = [titleOf(2), `list ${LACKING[name]}`, `threads ${LACKING_THREADS}`, `quota ${LACKING_QUOTA}`];
+  return [...set, ...LACKING_OPENING.map((key) => `opening ${key}`), ""].join("\n");
+}
+
+function verdictOnLacking(ask, lacks, schedule) {
+  const { status, text } = askList(ask, "listset_replay", lacks, schedule);
+  if (status !== 0) return { kind: "refused", says: `The schedule is refused: ${text.trim()}`, report: null };
+  const verdict = readVerdict(ask("listset_check_record", text));
+  if (verdict.kind === "fault") return { kind: "refused", says: `The run is not judged: ${verdict.fault.says}.`, report: null };
+  if (verdict.kind === "own") return { kind: "explained", says: EXPLAINED, report: text };
+  if (verdict.kind === "none") {
+    const why = whyNone(text, verdict.why);
+    return { kind: "broken", why, says: `Broken: ${why}. ${UNEXPLAINED}`, report: text };
+  }
+  return { kind: "points", says: `${BY_POINTS} ${verdict.kind === "another" ? OTHER : UNKNOWN}`, report: text };
+}
+
+function whyNone(text, { key, moment, since, isThere, calls }) {
+  if (key === null) return "no order leaves these keys, which do not increase";
+  const isLeft = moment === null;
+  const exercise = readReport(text);
+  if (isLeft && isLost(exercise, key)) return `${key} was added once and never removed, and at the end the set does not have it`;
+  const left = exercise.keys.includes(key) ? "has it" : "does not have it";
+  const then = [...calls.map((call) => callInWords(exercise, call)), ...(isLeft ? [`at the end the set ${left}`] : [])].join(", ");
+  if (since === null) return then === "" ? `the calls of key ${key} have no order` : then;
+  return `${key} is ${isThere ? "there" : "not there"} ${since === "0" ? "at first" : `after event ${since}`}, and then ${then}`;
+}
+
+function isLost({ calls, opening, keys }, key) {
+  const count = (operation) => calls.filter((call) => call.operation === operation && call.reply === "true" && call.key === key).length;
+  const isThere = opening.includes(key) || keys.includes(key);
+  return count("add") === 1 && count("remove") === 0 && !isThere;
+}
+
+function callInWords({ calls }, { thread, begun }) {
+  const call = calls.find((one) => one.thread === thread && one.begun === Number(begun));
+  return `${nameOfCall(call)} ${call.ended === null ? "is open" : `answers ${call.reply}`}`;
+}
+
+function departureOf(ask, trace) {
+  const { text } = ask("listset_trace", scheduleOfTrace(trace));
+  const event = isTrace(text) ? eventsInCommon(trace, new Trace(text, trace.version)) + 1 : Infinity;
+  return event > trace.total ? null : event;
+}
+return { EXPLAINED, TO_BREAK, NO_TASK, isTaskDone, askList, startOfLacking, verdictOnLacking, departureOf };
+})();
+
+// made/book.js
+const $made_book = (() => {
+// The lessons of book.course, by page/build.
+
+const BOOK_NAME = "The twelve lessons of the five lists";
+const BOOK = [
+  "listset-course 1",
+  "# A course of lessons, as text. Copy this file, change it, and open it on the page (Learn, Open a course) or try it with",
+  "#     node page/check_lessons.js FILE",
+  "# A line that begins with # is a comment. The lessons follow after \"course NAME\". The words of a lesson, in this order:",
+  "#   lesson      a name of its own, of small letters, digits and -",
+  "#   title       as the student reads it",
+  "#   list        coarse, fine, optimistic, lazy or lock-free",
+  "#   lacks       the name of a check that the list lacks (docs/CLASSIC.md): a solution breaks it. It needs no goal",
+  "#   threads, quota   as in a schedule",
+  "#   opening     the initial keys, with a space between; none if the line is missing",
+  "#   start       the schedule's lines with which the student begins",
+  "#   question    what is asked; teaches: what it shows, once it is solved; hint; answer: the lines that solve it, after the start",
+  "#   goal        what the run of a solution shows; dead-ends: runs that cannot reach it, and what to say of them",
+  "# The lines of start, question, teaches, hint, answer, goal and dead-ends come below these words, each after two spaces. All of",
+  "# these but question and goal may be missing. In start and answer, \"go 0 to 4\" means steps until thread 0 is at row 4, and",
+  "# \"go 1 out\" steps until the call of thread 1 has ended. A course is checked when it is read: the start of a lesson must not reach",
+  "# its goal, its answer must.",
+  "#",
+  "# A goal is a list of lines. Each finds something in the run and gives it a name, or asks for more of what has a name:",
+  "#   call C of 0: contains, answers false      a call of thread 0 (\"call C: ..\" one of any thread)",
+  "#   step S in C: last, sees a mark            a step of that call (\"step S of 0: ..\", \"step S: ..\")",
+  "#   rest R of 0: holding 2                    a time in which thread 0 makes no step, and holds two locks",
+  "#   5 steps of 1: tries in vain a lock of 0   at least five such steps; \"3 calls of 1: ..\" three such calls",
+  "#   all calls ended                           no call is pending",
+  "#   say ..                                    a condition as the student reads it: all lines above it hold together",
+  "# Of a call: add, remove, contains, ceiling, key K, answers true (false, full, nothing, at-K), answers a key, ended, open,",
+  "#   begins after X, takes effect after X, ends during X, within R, its key always in the set, a smaller key always in the set,",
+  "#   its node in the chain at its end",
+  "# Of a step: row N (it makes this row), to row N (and goes to that), without a reply, fails, tries in vain a lock of T,",
+  "#   sees a mark, reads a link, in the chain, out of the chain (its node is), holding N (its thread holds N locks), last,",
+  "#   pred leads to curr, at another node than S, after X, by another thread than X, in R, takes out the node of C",
+  "# Of a rest: holding N",
+  "# Dead ends are goals, one below another, each up to its line \"say ..\", which is shown if a wrong run meets it.",
+  "",
+  "course The twelve lessons of the five lists",
+  "",
+  "lesson one-lock",
+  "title The one lock",
+  "list coarse",
+  "threads 3",
+  "quota 4",
+  "start",
+  "  begin 0 add 5",
+  "  begin 1 add 6",
+  "  begin 2 add 7",
+  "question",
+  "  Three adds have begun: first that of thread 0, last that of thread 2. Let them take effect in the",
+  "  opposite order. While thread 2 holds the lock, thread 0 must try to take it; again while thread 1",
+  "  holds it. All three adds answer true.",
+  "teaches",
+  "  Coarse-grained synchronization: one lock for the whole list, held from the first read to the last",
+  "  write. A failed attempt is a step too. Linearizability requires that each call takes effect at one",
+  "  moment between its begin and its end, its linearization point: of two calls that overlap either",
+  "  may come first, whichever began first.",
+  "hint",
+  "  A call takes effect while its thread holds the lock. Thread 0 has begun, but it has made no step yet.",
+  "answer",
+  "  go 2 1",
+  "  go 0 1",
+  "  go 2 6",
+  "  go 1 1",
+  "  go 0 1",
+  "  go 1 6",
+  "  go 0 7",
+  "goal",
+  "  call A of 0: add",
+  "  call B of 1: add, begins after A",
+  "  call C of 2: add, begins after B",
+  "  say The threads 0, 1 and 2 begin an add each, in this order.",
+  "  1 steps in A: tries in vain a lock of 2",
+  "  say Thread 0 tries to lock the list while thread 2 holds the lock.",
+  "  1 steps in A: tries in vain a lock of 1",
+  "  say Thread 0 tries to lock the list while thread 1 holds the lock.",
+  "  call B: takes effect after C",
+  "  call A: takes effect after B",
+  "  say The add of thread 2 takes effect first, that of thread 0 last.",
+  "  call A: answers true",
+  "  call B: answers true",
+  "  call C: answers true",
+  "  say All three answer true.",
+  "dead-ends",
+  "  call A of 0: add, key 5, ended",
+  "  call B of 1: add, open",
+  "  say The add of thread 0 has ended before that of thread 1. Undo to where thread 0 does not hold the lock.",
+  "  call A of 0: add, key 5, ended",
+  "  call B of 1: add, takes effect after A",
+  "  say The add of thread 0 has taken effect before that of thread 1. Undo, or press Start over.",
+  "",
+  "lesson hand-over-hand",
+  "title Hand over hand",
+  "list fine",
+  "threads 2",
+  "quota 4",
+  "opening 3 6 9",
+  "start",
+  "  begin 0 contains 9",
+  "  begin 1 contains 9",
+  "question",
+  "  Both threads look for 9. Let thread 1 follow thread 0 so closely that it has to wait at two",
+  "  different nodes, each time holding one lock and waiting for one that thread 0 holds. Then let both",
+  "  calls end.",
+  "teaches",
+  "  Fine-grained synchronization, hand over hand: a thread releases the lock of pred only when it",
+  "  holds that of curr. So the threads stay in the order in which they entered the list: none overtakes",
+  "  another, and none changes a node at which another is.",
+  "hint",
+  "  Thread 0 holds two locks when it is at row 4 or 5. Let it move one node further after each failed",
+  "  attempt of thread 1.",
+  "answer",
+  "  go 0 8",
+  "  go 1 3",
+  "  go 0 3",
+  "  go 1 5",
+  "  go 0 3",
+  "  go 1 8",
+  "goal",
+  "  call C of 1",
+  "  step S in C: tries in vain a lock of 0, holding 1",
+  "  say Thread 1 holds one lock, and waits for another one that thread 0 holds.",
+  "  step T in C: tries in vain a lock of 0, holding 1, at another node than S",
+  "  say It does so at two different nodes in one call.",
+  "  all calls ended",
+  "  say Both calls have ended.",
+  "dead-ends",
+  "  call A of 0: contains, key 9, ended",
+  "  call B of 1: contains, key 9, ended",
+  "  say Both calls have ended, and thread 1 did not wait twice. Undo, or press Start over.",
+  "",
+  "lesson two-at-once",
+  "title Two at once",
+  "list fine",
+  "threads 2",
+  "quota 4",
+  "opening 3 6 9",
+  "start",
+  "  begin 0 remove 9",
+  "question",
+  "  Thread 0 removes 9. Stop it when it holds two locks; then let thread 1 begin an add and end it",
+  "  with true, while thread 0 makes no step.",
+  "teaches",
+  "  What many locks gain over one: calls in different parts of the list go on at the same time. What",
+  "  they do not gain: nobody passes the thread that stands still, so only the part before it is free.",
+  "hint",
+  "  Thread 1 passes all nodes before the gap of its key, and locks the one behind the gap too. Which",
+  "  nodes are free?",
+  "answer",
+  "  go 0 12",
+  "  begin 1 add 1",
+  "  go 1 9",
+  "goal",
+  "  call A of 1: add, answers true",
+  "  say Thread 1 has an add that answers true.",
+  "  rest R of 0: holding 2",
+  "  call A: within R",
+  "  say From its begin to its end thread 0 holds two locks and makes no step.",
+  "dead-ends",
+  "  call R of 0: remove, key 9, ended",
+  "  say The remove has ended: thread 0 holds no locks any more. Undo, or let it begin another call.",
+  "  call A of 1: add, answers true",
+  "  rest R of 0: holding 1",
+  "  call A: within R",
+  "  say While that add began and ended, thread 0 held only one lock. Let it step on until it holds two.",
+  "",
+  "lesson changed-link",
+  "title The changed link",
+  "list optimistic",
+  "threads 2",
+  "quota 4",
+  "opening 3 9",
+  "start",
+  "  begin 0 remove 9",
+  "question",
+  "  Thread 0 removes 9. Let its validation fail because pred does not lead to curr any more, and",
+  "  let its remove answer true in the end.",
+  "teaches",
+  "  Optimistic synchronization: walk without locks, lock pred and curr, and then validate, that is, look",
+  "  whether what the walk found still holds. If it does not, release the locks and start again.",
+  "  Here it is the last part of the validation that fails: pred.next == curr.",
+  "hint",
+  "  Thread 0 has found 3 and 9 when it comes to row 4. What can thread 1 put between them before thread",
+  "  0 has its locks?",
+  "answer",
+  "  go 0 4",
+  "  begin 1 add 5",
+  "  go 1 14",
+  "  go 0 24",
+  "goal",
+  "  call C of 0",
+  "  step S in C: row 8, to row 14, without a reply",
+  "  say A validation of thread 0 fails: pred does not lead to curr.",
+  "  call C: remove, answers true",
+  "  say The call in which it fails is a remove that answers true.",
+  "dead-ends",
+  "  call R of 0: remove, answers true",
+  "  say The remove has answered true without such a failure. Undo to where it has not taken its locks yet.",
+  "  call R of 0: remove, answers false",
+  "  say The remove has answered false: its key is gone. Undo, or let it remove another key.",
+  "",
+  "lesson lost-pred",
+  "title The lost predecessor",
+  "list optimistic",
+  "threads 2",
+  "quota 4",
+  "opening 3 9",
+  "start",
+  "  begin 0 add 5",
+  "question",
+  "  Thread 0 adds 5. Let its second walk miss pred, at a moment at which the link of pred still leads",
+  "  to curr; and let its add answer true in the end.",
+  "teaches",
+  "  Why OptimisticList walks twice. A removed node keeps its link, so pred.next == curr alone does not",
+  "  tell whether pred is still reachable from the head. A validation by the link alone would insert 5",
+  "  behind a removed node, and the key would be lost.",
+  "hint",
+  "  pred must be a node that thread 1 can remove. When is the last moment for that?",
+  "answer",
+  "  go 0 4",
+  "  begin 1 remove 3",
+  "  go 1 9",
+  "  go 0 16",
+  "goal",
+  "  call C of 0",
+  "  step S in C: row 7, to row 14, without a reply",
+  "  say The second walk of a call of thread 0 goes past the key of pred and has not met pred.",
+  "  step S: pred leads to curr",
+  "  say At that moment the link of pred leads to curr.",
+  "  call C: add, answers true",
+  "  say The call is an add that answers true.",
+  "dead-ends",
+  "  call A of 0: add, answers true",
+  "  say The add has answered true, and its second walk did not miss pred in this way. Undo to where it has found its place.",
+  "",
+  "lesson marked-in-chain",
+  "title Marked, and still in the chain",
+  "list lazy",
+  "threads 2",
+  "quota 4",
+  "opening 5",
+  "start",
+  "  begin 1 remove 5",
+  "question",
+  "  Let a contains of thread 0 find the node of its key in the chain, and answer false.",
+  "teaches",
+  "  Lazy synchronization: a remove marks the node (the logical removal), and then unlinks it (the",
+  "  physical removal). The mark is its linearization point: a key is in the set exactly as long as an",
+  "  unmarked node of the chain has it.",
+  "hint",
+  "  Between which two rows of its remove has thread 1 marked the node and not unlinked it yet?",
+  "answer",
+  "  go 1 7",
+  "  begin 0 contains 5",
+  "  go 0 3",
+  "goal",
+  "  call C of 0: contains, answers false",
+  "  step S in C: last",
+  "  say A contains of thread 0 answers false.",
+  "  step S: sees a mark",
+  "  say Its last step reads the link of the node that has its key, and sees the mark.",
+  "  step S: in the chain",
+  "  say That node is in the chain then.",
+  "dead-ends",
+  "  call C of 0: contains, answers true",
+  "  say This contains has answered true: the node had no mark yet. Undo to where it has not looked at the mark.",
+  "  call R of 1: remove, ended",
+  "  call C of 0: contains, begins after R",
+  "  say That remove has ended, so its node is not in the chain any more. Undo to where the node is marked.",
+  "",
+  "lesson stopped-thread",
+  "title The stopped thread",
+  "list lazy",
+  "threads 3",
+  "quota 4",
+  "opening 5",
+  "start",
+  "  begin 0 remove 5",
+  "  begin 1 add 7",
+  "question",
+  "  Stop thread 0 for a while. In this time let thread 1 try five times to take a lock that thread 0",
+  "  has, and let thread 2 begin a contains and end it.",
+  "teaches",
+  "  add and remove of LazyList block: one thread that stops while it holds a lock can delay them for ever.",
+  "  contains is wait-free: it takes no lock, and ends after a bounded number of its own steps, whatever",
+  "  the other threads do.",
+  "hint",
+  "  Which two nodes does thread 1 lock to add 7? If thread 0 holds only the lock of the head, it is not in",
+  "  the way.",
+  "answer",
+  "  go 0 5",
+  "  go 1 9",
+  "  begin 2 contains 5",
+  "  go 2 3",
+  "goal",
+  "  rest R of 0",
+  "  5 steps of 1: tries in vain a lock of 0, in R",
+  "  say While thread 0 makes no step, thread 1 tries five times to take a lock that thread 0 holds.",
+  "  call C of 2: contains, within R",
+  "  say In the same time a contains of thread 2 begins and ends.",
+  "dead-ends",
+  "  call R of 0: remove, ended",
+  "  say The remove of thread 0 has ended: it holds no lock any more. Undo, or let it begin another call.",
+  "  call A of 1: add, ended",
+  "  say The add of thread 1 has ended: it did not have to wait so long. Undo to where thread 0 holds both its locks.",
+  "",
+  "lesson over-removed-nodes",
+  "title Over removed nodes",
+  "list lazy",
+  "threads 2",
+  "quota 4",
+  "opening 5 9",
+  "start",
+  "  begin 0 contains 9",
+  "  go 0 2",
+  "question",
+  "  Thread 0 looks for 9 and has reached 5. Let it read the link of a node that is not in the chain, and",
+  "  answer true.",
+  "teaches",
+  "  A walk without locks may be at a node that is removed meanwhile. That does no harm: the node",
+  "  keeps its link, which leads on to larger keys and back into the chain, and it is not used again as",
+  "  long as a thread may be there, since each slot is used once.",
+  "hint",
+  "  At which node is thread 0, and what can thread 1 do with it?",
+  "answer",
+  "  begin 1 remove 5",
+  "  go 1 10",
+  "  go 0 3",
+  "goal",
+  "  call C of 0: contains",
+  "  step S in C: reads a link, out of the chain",
+  "  say A contains of thread 0 reads the link of a node that is not in the chain.",
+  "  call C: answers true",
+  "  say It answers true.",
+  "dead-ends",
+  "  call C of 0: contains, ended",
+  "  say This contains has ended, and it read no link of a removed node on its way, or its key was gone. Undo, or press Start over.",
+  "",
+  "lesson in-anothers-step",
+  "title In the step of another thread",
+  "list lazy",
+  "threads 2",
+  "quota 4",
+  "opening 5",
+  "start",
+  "  begin 0 contains 5",
+  "question",
+  "  Let contains(5) of thread 0 answer false, although 5 is in the set just after each of its own",
+  "  events, from the begin to the answer.",
+  "teaches",
+  "  The linearization point of a contains that answers false need not be one of its own steps: here it",
+  "  is a step of thread 1. Which one it is can be told only afterwards, from what the other threads did.",
+  "hint",
+  "  Between two events of thread 0, thread 1 may end two calls.",
+  "answer",
+  "  go 0 2",
+  "  begin 1 remove 5",
+  "  go 1 10",
+  "  begin 1 add 5",
+  "  go 1 11",
+  "  go 0 1",
+  "goal",
+  "  call C of 0: contains, answers false",
+  "  say A contains of thread 0 answers false.",
+  "  call C: its key always in the set",
+  "  say Just after each of its own events its key is in the set.",
+  "dead-ends",
+  "  call C of 0: contains, answers true",
+  "  say This contains has answered true: it saw its key. Undo to where it has not looked at the mark yet.",
+  "  call C of 0: contains, answers false",
+  "  say It answers false, but just after one of its own events its key was not in the set. Add it again before that event.",
+  "",
+  "lesson left-to-others",
+  "title Left to others",
+  "list lock-free",
+  "threads 2",
+  "quota 4",
+  "opening 5",
+  "start",
+  "  begin 1 remove 5",
+  "question",
+  "  Let a remove answer true while its node is still in the chain. Then let another thread unlink this",
+  "  node.",
+  "teaches",
+  "  Non-blocking synchronization: mark and link are exchanged together, by one compareAndSet. A remove",
+  "  that has marked its node tries once to unlink it. If that fails, find does it, that is, the walk",
+  "  of a later add or remove: so nobody waits for the remover.",
+  "hint",
+  "  The one attempt of thread 1 fails if the link of its pred has changed since its walk. And a contains",
+  "  unlinks no node.",
+  "answer",
+  "  begin 0 add 3",
+  "  go 0 5",
+  "  go 1 5",
+  "  go 0 1",
+  "  go 1 1",
+  "  begin 0 add 7",
+  "  go 0 10",
+  "goal",
+  "  call C: remove, answers true",
+  "  say A remove answers true.",
+  "  call C: its node in the chain at its end",
+  "  say Just after its end its node is in the chain.",
+  "  step S: after C, by another thread than C, takes out the node of C",
+  "  say Later another thread unlinks this node.",
+  "dead-ends",
+  "  call C: remove, answers true",
+  "  step S in C: takes out the node of C",
+  "  say This remove has unlinked its node itself, by its last step. Undo to before that, and let the link of its pred change first.",
+  "",
+  "lesson not-wait-free",
+  "title Lock-free is not wait-free",
+  "list lock-free",
+  "threads 2",
+  "quota 4",
+  "start",
+  "  begin 0 add 5",
+  "question",
+  "  Let an add of thread 0 fail three times to link its node in, and let thread 1 end three calls while",
+  "  it is pending.",
+  "teaches",
+  "  Lock-free: of so many steps of add and remove, by whichever threads, one ends its call. This is",
+  "  proved here, with the number (Read, the tables, Progress). Each failed exchange of this add is owed",
+  "  to another thread, which has changed the link. Wait-free would say that every call ends after",
+  "  finitely many of its own steps. An add of this list is not: others may change the link each time.",
+  "hint",
+  "  Each time thread 0 is about to exchange the link of pred (row 7), let thread 1 change that link",
+  "  first.",
+  "answer",
+  "  go 0 5",
+  "  begin 1 add 9",
+  "  go 1 6",
+  "  go 0 6",
+  "  begin 1 add 8",
+  "  go 1 6",
+  "  go 0 6",
+  "  begin 1 add 7",
+  "  go 1 6",
+  "  go 0 1",
+  "goal",
+  "  call A of 0: add",
+  "  3 steps in A: row 7, fails",
+  "  say An add of thread 0 fails three times to link its node in.",
+  "  3 calls of 1: ended, ends during A",
+  "  say While that add is pending, thread 1 ends three calls.",
+  "dead-ends",
+  "  call A of 0: add, ended",
+  "  say That add has ended. Undo to where it is about to exchange the link of pred.",
+  "",
+  "lesson ceiling-in-anothers-step",
+  "title A ceiling in another thread's step",
+  "list lock-free",
+  "threads 2",
+  "quota 4",
+  "opening 5 7 9",
+  "start",
+  "  begin 0 ceiling 6",
+  "question",
+  "  ceiling(6) asks for the smallest key from 6 on. Let that of thread 0 answer 9, although just after each",
+  "  of its own events the set has a smaller key from 6 on.",
+  "teaches",
+  "  ceiling is a call of this project and not of the book: the walk of contains, up to the first key",
+  "  that is not below its own. It takes no lock; if the node at which it stops is marked, it starts",
+  "  again, and so it is not wait-free. Its linearization point, too, may be a step of another thread.",
+  "hint",
+  "  A removed node keeps the link that it had at its removal. At which node can thread 0 be, and",
+  "  where must that node lead?",
+  "answer",
+  "  go 0 2",
+  "  begin 1 remove 7",
+  "  go 1 8",
+  "  begin 1 remove 5",
+  "  go 1 6",
+  "  begin 1 add 7",
+  "  go 1 6",
+  "  go 0 3",
+  "goal",
+  "  call C of 0: ceiling, answers a key",
+  "  say A ceiling of thread 0 answers a key.",
+  "  call C: a smaller key always in the set",
+  "  say Just after each of its own events the set has a smaller key that is not below the one asked for.",
+  "dead-ends",
+  "  call C of 0: ceiling, answers at-7",
+  "  say This ceiling has answered 7. Undo to where it is at the node of 5.",
+  "  call C of 0: ceiling, answers at-9",
+  "  say It answers 9, but just after one of its own events no smaller key from 6 on was in the set. Add one before that event.",
+  "",
+].join("\n");
+return { BOOK_NAME, BOOK };
 })();
 
 // run/outcomes.js
@@ -2283,8 +3704,7 @@ return { stateAtFirst, exampleIn, reduce, entryOf };
 
 // page/now.js
 const $page_now = (() => {
-const { readFault } = $engine_answers;
-const { sentenceOn } = $run_faults;
+const { readFault, sentenceOn } = $engine_answers;
 const { LEVELS } = $run_judged;
 const { scheduleOfTrace } = $run_schedule_text;
 const { momentAt } = $run_sentences;
@@ -2396,197 +3816,366 @@ function tellLine(text) {
 return { NO_ENGINE, held, now, change, show, dispatch, on, announce, isJudging, hiddenOutcomes, exampleShown, goTo, tell, takeTrace, takeScheduleOfTrace, askNow, tellFault, tellTrouble, tellLine };
 })();
 
-// page/editor.js
-const $page_editor = (() => {
+// page/kept.js
+const $page_kept = (() => {
+const { BOOK_NAME } = $made_book;
+const { CLASSICS } = $made_classics;
 const { byId } = $page_dom;
-const { now } = $page_now;
-const LINE_HEIGHT = 21;
-const editor = { isSeen: false };
+const { announce, held, now } = $page_now;
+const KEPT = "listset-page-2";
+const KEPT_BEFORE = "listset-page"; // one text, as the page kept it before
+const HERE = "listset-here"; // the address of what was shown last
+const MOST_WORKS = 60; // the oldest ones go
 
-function watchEditor() {
-  /** @param {IntersectionObserverEntry[]} seen */
-  const look = ([{ isIntersecting }]) => {
-    editor.isSeen = isIntersecting;
-    if (!isIntersecting || now.run.trace === null) return;
-    scrollToLine(now.run.count > 0 ? now.run.trace.event(now.run.count) : null);
-    showMarks();
-  };
-  new IntersectionObserver(look).observe(byId("editor"));
+function keptUnder(name) {
+  try {
+    return JSON.parse(localStorage.getItem(name));
+  } catch {
+    return null;
+  }
 }
 
-function scrollToLine(event) {
-  const box = byId("schedule");
-  if (!editor.isSeen || event === null || document.activeElement === box || box.value !== now.run.text) return;
-  const y = LINE_HEIGHT * (event.line - 1);
-  if (y < box.scrollTop || y > box.scrollTop + box.clientHeight - 2 * LINE_HEIGHT) box.scrollTop = y - box.clientHeight / 2;
+function keepUnder(name, value) {
+  try {
+    localStorage.setItem(name, JSON.stringify(value));
+    return true;
+  } catch {
+    return false;
+  }
 }
 
-function showMarks() {
-  const box = byId("schedule");
-  const isStale = box.value !== now.run.text;
-  const top = editor.isSeen ? box.scrollTop : 0;
-  const mark = (line, kind) => `<div class="${kind}" style="top:${6 + LINE_HEIGHT * (line - 1) - top}px"></div>`;
-  const event = now.run.count > 0 ? now.run.trace.event(now.run.count) : null;
-  const lines = [];
-  if (event !== null && now.run.isRun) lines.push(mark(event.line, "event"));
-  if (now.run.faultLine !== null) lines.push(mark(now.run.faultLine, "bad"));
-  byId("marks").innerHTML = isStale ? "" : lines.join("");
-  byId("run").classList.toggle("stale", isStale);
-  byId("run").textContent = isStale ? "Run the changes" : "Run";
+const isText = (value) => typeof value === "string";
+const isWork = (kept) => typeof kept?.text === "string" && typeof kept.box === "string" && Number.isInteger(kept.count);
+const KINDS = ["own", "example", "lesson", "seed"];
+const isTask = (task) => KINDS.includes(task?.kind) && isText(task.id) && isText(task.course);
+
+function taskOfName(name) {
+  const [, lesson, course = BOOK_NAME] = /^lesson ([a-z0-9-]+)(?: of (.+?))?(?: \d+)?$/.exec(name) ?? [];
+  if (lesson !== undefined) return { kind: "lesson", id: lesson, course };
+  const [, example] = /^from ([a-z-]+)(?: \d+)?$/.exec(name) ?? [];
+  if (Object.hasOwn(CLASSICS, example)) return { kind: "example", id: example, course: "" };
+  return { kind: "own", id: "", course: "" };
 }
-return { watchEditor, scrollToLine, showMarks };
+
+/** @type {(entry: any[]) => [string, any]} */
+const workOf = ([name, kept]) => [name, { ...kept, task: isTask(kept.task) ? kept.task : taskOfName(name) }];
+
+const works = {
+  /** @type {Map<string, any>} */
+  byName: new Map(),
+  isKept: true,
+
+  load() {
+    const kept = keptUnder(KEPT);
+    const before = keptUnder(KEPT_BEFORE);
+    const entries = Array.isArray(kept) ? kept : isWork(before) ? [["my schedule", before]] : [];
+    const isGood = (entry) => Array.isArray(entry) && isText(entry[0]) && isWork(entry[1]);
+    this.byName = new Map(entries.filter(isGood).map(workOf));
+  },
+
+  set(name, work) {
+    this.byName.delete(name);
+    this.byName.set(name, work);
+    const names = [...this.byName.keys()];
+    for (const old of names.slice(0, Math.max(0, names.length - MOST_WORKS))) this.byName.delete(old);
+    this.isKept = keepUnder(KEPT, [...this.byName]);
+  },
+
+  last(isWanted) {
+    return [...this.byName].findLast(([, work]) => isWanted(work))?.[0] ?? null;
+  },
+
+  nameOf(text, lacks = null) {
+    return this.last((work) => work.text === text && (work.lacks ?? null) === lacks);
+  },
+
+  newName(word) {
+    for (let number = 1; ; number++) {
+      const name = number === 1 ? word : `${word} ${number}`;
+      if (!this.byName.has(name)) return name;
+    }
+  },
+};
+
+function keepWork() {
+  const box = byId("schedule").value;
+  const { run, task } = now;
+  const isLookedAt = box === run.text && run.text === task.begun;
+  if (held.engine === null || run.text === "" || isLookedAt || task.work === "") return;
+  const before = works.byName.get(task.work);
+  if (before?.text === run.text && before.box === box && before.count === run.count) return;
+  const { kind, id } = task;
+  works.set(task.work, { text: run.text, box, count: run.count, lacks: run.lacks, task: { kind, id, course: "" } });
+  announce("kept");
+}
+return { HERE, keptUnder, keepUnder, isText, works, keepWork };
 })();
 
-// made/classics.js
-const $made_classics = (() => {
-// What docs/CLASSIC.md says, by page/build: of each example its question, the answer, the events that decide it, what goes
-// wrong without it, and which lists of its kind lack that check; and the kind of each list that lacks one.
+// engine/engine.js
+const $engine_engine = (() => {
+const FIRST_ROOM = 1 << 22; // bytes handed to the engine for its answer, at first
+const LARGE_MEMORY = 1 << 28; // past so many bytes an instance is not used again
 
-const CLASSICS = {
-  "failed-tries": {
-    "question": "Two threads add one key at the same time. Which of them adds it?",
-    "turnsOn": "The one that takes the lock. A failed attempt is a step too, and leaves the thread at its row. Thread 1 stays at row 1 until the lock is released, and then finds the key.",
-    "without": "Both walk over one old link, and the second write loses the node of the first (lock).",
-    "turns": [4, 15],
-    "lacks": ["lock"]
-  },
-  "full": {
-    "question": "A thread with one slot adds 5, removes it and adds 7. Is there a slot for 7?",
-    "turnsOn": "No: each slot is used once, so no thread ever reaches a node that holds another key than before. full changes nothing, and is correct from the begin of its call.",
-    "without": "A slot that is used again changes the key of a node at which other threads may be (new-slot).",
-    "turns": [14, 19],
-    "lacks": []
-  },
-  "hand-over-hand": {
-    "question": "Thread 0 has locked the head and 9, to add 5 between them. Thread 1 wants to remove 9. How far does it get?",
-    "turnsOn": "Not even to the head, until thread 0 releases the head's lock. Then it goes hand over hand: it releases the head's lock only when it holds that of 5.",
-    "without": "A walk that holds no lock can be at an unlinked node, and lose the key that it adds behind that node (hand-over-hand). So can a walk beside a remove that locks only pred (second-lock).",
-    "turns": [17, 28],
-    "lacks": ["hand-over-hand", "second-lock"]
-  },
-  "same-gap": {
-    "question": "Both threads have walked without locks to the gap between head and tail. Thread 1 adds its key first. What does thread 0 do once it has its two locks?",
-    "turnsOn": "It looks at pred again: the head leads to the node of 7 now. So it releases its locks and walks again.",
-    "without": "A validation that only finds pred, and does not look where it leads, links 5 to the tail, and 7 is lost.",
-    "turns": [12, 17],
-    "lacks": []
-  },
-  "stale-pred": {
-    "question": "Thread 0 has found pred = 3 and curr = tail. Thread 1 removes 3, whose node still leads to the tail. May thread 0 write?",
-    "turnsOn": "No: an unlinked node keeps its link. Thread 0 walks once more from the head, and gets past the key of pred without reaching pred.",
-    "without": "5 is added behind an unlinked node (second-walk). A walk that looks for the key of pred, and not for the node, may find another node with that key (same-node).",
-    "turns": [24, 30],
-    "lacks": ["second-walk", "same-node"]
-  },
-  "marked-in-chain": {
-    "question": "Thread 1 has marked the node of 5 and has not unlinked it yet. Thread 0 walks to that node. What does its contains(5) answer?",
-    "turnsOn": "false: the mark removes the key from the set. That the node is still in the chain does not matter. contains reads its link, sees the mark, and takes no lock for it.",
-    "without": "true is correct at none of its moments (mark-in-contains). But the remove is still pending, and an order with the contains before it explains both. No history of that broken list is known that no order explains.",
-    "turns": [20, 24],
-    "lacks": ["mark-in-contains"]
-  },
-  "marked-pred": {
-    "question": "As in stale-pred, but this list has no second walk. What warns thread 0?",
-    "turnsOn": "The mark in the link of pred, which a remove sets before it unlinks the node. One load does the work of OptimisticList's second walk.",
-    "without": "5 is added behind the node of 3, which is unlinked (marks-in-validation).",
-    "turns": [25, 31],
-    "lacks": ["marks-in-validation"]
-  },
-  "read-in-anothers-step": {
-    "question": "Just after each of thread 0's own events, 5 is in the set. Its contains(5) answers false. Is that right?",
-    "turnsOn": "Yes: between two of its events thread 1 removed 5, and added it again in another node. The call takes effect at event 23, a step of thread 1.",
-    "without": "A proof that looks for the linearization point among the call's own steps finds none, though the list is correct. check refuses the order that puts the contains last.",
-    "turns": [23, 36, 39],
-    "lacks": []
-  },
-  "ceiling-in-anothers-step": {
-    "question": "Just after each of thread 0's own events, the smallest key from 6 on is 7, or there is none. Its ceiling(6) answers 9. Is that right?",
-    "turnsOn": "Yes: it was 9 from event 15 until event 38, and all events between are steps of thread 1. The walk was at the node of 5 when that was unlinked, and its link still leads to 9.",
-    "without": "A ceiling that started again at each mark would answer 7 here, which is no better, and removes of smaller keys could send it back.",
-    "turns": [15, 38, 43],
-    "lacks": []
-  },
-  "opens-with-keys": {
-    "question": "Two keys are there at the start, one is removed, one is added. Why does the last add answer full?",
-    "turnsOn": "The thread's one slot is n2. The opening keys have nodes of their own and count as nobody's adds, and a remove frees no slot.",
-    "without": "A set that counts opening keys as adds answers full to the add of 7; one that uses slots again adds 8. check refuses either reply.",
-    "turns": [25, 36],
-    "lacks": []
-  },
-  "two-removers": {
-    "question": "Two threads have found the node of 5, unmarked, and want to remove it. Which of them does?",
-    "turnsOn": "The one whose exchange sets the mark. The exchange of the other compares link and mark together, and fails. That thread walks again and answers false.",
-    "without": "A remove that marks a marked node answers true too, and 5 is removed twice (mark-in-remove).",
-    "turns": [18, 20],
-    "lacks": ["mark-in-remove"]
-  },
-  "snip": {
-    "question": "Thread 0 has marked the node of 5 and stops there. Thread 1 wants to add 7 behind it. Does it have to wait?",
-    "turnsOn": "No: thread 1 unlinks the marked node itself. The exchange of thread 0 fails then, and thread 0 still answers true, since it has set the mark.",
-    "without": "An add that ignores the mark links 7 behind the node of 5, and 7 is unlinked with it (mark-in-add). Without marks no add could know (mark).",
-    "turns": [17, 23],
-    "lacks": ["mark-in-add", "mark"]
-  },
-  "tries-again": {
-    "question": "Both threads are at the gap between head and tail, each with a node ready. Thread 1 is first. What happens to thread 0's node?",
-    "turnsOn": "The exchange of thread 0 expects the tail, sees the node of 7, and fails. Thread 0 walks again and writes the same slot anew: no other thread has seen it, so it is not used up.",
-    "without": "With a store in place of the exchange, the head would lead to 5, and 7 would be lost.",
-    "turns": [14, 20],
-    "lacks": []
-  },
-  "left-in-chain": {
-    "question": "Thread 1's remove of 5 has answered. Which nodes are in the chain, and what does a contains(5) answer that begins only then?",
-    "turnsOn": "The node of 5 is still there, marked: the head led to 3 when the remover tried to unlink it. The next add or remove that walks there unlinks it. contains sees the mark: false.",
-    "without": "It answers true (mark-at-key). The remove had ended before, and nobody adds 5 again, so no order explains these calls.",
-    "turns": [21, 27],
-    "lacks": ["mark-at-key"]
-  },
-  "ceiling-meets-mark": {
-    "question": "Thread 0's ceiling(3) has come to the node of 5. Before it looks at the mark, thread 1 removes 5. What does it answer, and when is that correct?",
-    "turnsOn": "The mark is looked at last (row 25). The call finds one, starts again at the head, and comes to the tail: nothing, which is correct from the mark on.",
-    "without": "Here 5 would be right too, since the remove began after the ceiling. In the next example it would not.",
-    "turns": [18, 20],
-    "lacks": []
-  },
-  "ceiling-left-in-chain": {
-    "question": "The remove of 5 has ended, and its node is still in the chain. What may a ceiling(4) answer, and how often may it walk?",
-    "turnsOn": "Not 5: the mark sends it back to the head, each time it comes to that node. Thread 1's walk unlinks the node; the second walk of the ceiling answers 7, which was added after the call had begun.",
-    "without": "It answers 5, which nobody adds again, so no order explains these calls. LazyList's ceiling needs the same look at the mark (mark-in-ceiling).",
-    "turns": [27, 33, 43],
-    "lacks": []
-  },
-  "behind-the-walk": {
-    "question": "Thread 0 has read the link of the head, which leads to 9. Thread 1 adds 5 in between. May the ceiling(3) of thread 0 answer 9?",
-    "turnsOn": "Yes: at the moment of that read there was no key between. The call takes effect at its begin, so before the add, although the add ended first.",
-    "without": "No broken list lacks this. Each node of the walk was in the chain, with the link that was read, at some moment of the call. Along other links the walk could miss a key that was always there.",
-    "turns": [9, 16],
-    "lacks": []
-  },
-  "nothing-in-anothers-step": {
-    "question": "Just after each of thread 0's own events, 7 is in the set. Its ceiling(6) answers that there is no key. Is that right?",
-    "turnsOn": "Yes: between two of its events thread 1 removed 7 and then 5, and added 7 again. The link of the node of 5 led to the tail when the node was marked, and no exchange changes a marked link.",
-    "without": "No broken list lacks this either: the link beside the mark was in the chain during the call.",
-    "turns": [11, 28],
-    "lacks": []
+class Engine {
+  /** @param {(input: bigint, room: Uint8Array) => number} read */
+  constructor(module, read = () => -1) {
+    this.module = module;
+    /** @type {any} */
+    this.instance = null;
+    this.host = { env: { read: (input, at, count) => BigInt(read(input, this.piece(Number(at), Number(count)))) } };
   }
+
+  piece(at, count) {
+    return new Uint8Array(this.instance.exports.memory.buffer, at, count);
+  }
+
+  static async start() {
+    const bytes = await engineBytes();
+    return new Engine(await WebAssembly.compile(bytes));
+  }
+
+  ask(name, ...texts) {
+    const encoder = new TextEncoder();
+    return this.askBytes(name, ...texts.map((text) => encoder.encode(text)));
+  }
+
+  askBytes(name, ...given) {
+    return this.answered((exports) => answerOf(exports, name, given));
+  }
+
+  judgeFrom(input) {
+    return this.answered((exports) => answerInRoom(exports, "listset_judge_from", [[input]], FIRST_ROOM));
+  }
+
+  answered(answer) {
+    if (this.instance === null || this.instance.exports.memory.buffer.byteLength > LARGE_MEMORY) {
+      this.instance = new WebAssembly.Instance(this.module, this.host);
+    }
+    try {
+      return answer(this.instance.exports);
+    } catch (fault) {
+      this.instance = null; // after a trap the memory is not looked at again
+      throw new Error(`the engine stopped: ${fault.message}`);
+    }
+  }
+}
+
+async function engineBytes() {
+  if (typeof ENGINE === "undefined" && location.protocol === "file:") await loadScript("engine.js");
+  if (typeof ENGINE !== "undefined") return Uint8Array.from(atob(ENGINE), (letter) => letter.charCodeAt(0));
+  const answer = await fetch("listset.wasm");
+  if (!answer.ok) throw new Error(`listset.wasm: ${answer.status} ${answer.statusText}`);
+  return answer.arrayBuffer();
+}
+
+function loadScript(src) {
+  return new Promise((done, fail) => {
+    const onerror = () => fail(new Error(`${src} is not beside the page`));
+    document.head.append(Object.assign(document.createElement("script"), { src, onload: done, onerror }));
+  });
+}
+
+function answerOf(engine, name, given) {
+  const texts = textsOf(engine, engine[name].length, given);
+  let answer = answerInRoom(engine, name, texts, FIRST_ROOM);
+  if (answer.bytes === null) answer = answerInRoom(engine, name, texts, answer.length);
+  texts.forEach(([block]) => engine.page_free(block));
+  if (answer.bytes === null) throw new Error("two answers to one text");
+  return { status: answer.status, text: new TextDecoder().decode(answer.bytes), bytes: answer.bytes };
+}
+
+function textsOf(engine, parameters, given) {
+  return Array.from({ length: (parameters - 3) / 2 }, (_, at) => {
+    const text = given[at] ?? new Uint8Array(0);
+    const block = blockOf(engine, text.length);
+    new Uint8Array(engine.memory.buffer, Number(block), text.length).set(text);
+    return [block, BigInt(text.length)];
+  });
+}
+
+function answerInRoom(engine, name, texts, room) {
+  const out = blockOf(engine, room);
+  const status = blockOf(engine, 1);
+  const count = Number(engine[name](...texts.flat(), out, BigInt(room), status));
+  const memory = engine.memory.buffer;
+  const bytes = count <= room ? new Uint8Array(memory, Number(out), count).slice() : null;
+  const said = new Uint8Array(memory, Number(status), 1)[0];
+  engine.page_free(out);
+  engine.page_free(status);
+  return { bytes, length: count, status: said };
+}
+
+function blockOf(engine, length) {
+  const block = engine.page_alloc(BigInt(Math.max(length, 1)));
+  if (!block) throw new Error("no memory");
+  return block;
+}
+return { FIRST_ROOM, LARGE_MEMORY, Engine, answerOf, textsOf, answerInRoom, blockOf };
+})();
+
+// engine/worker.js
+const $engine_worker = (() => {
+const { answerInRoom, answerOf, blockOf, Engine, FIRST_ROOM, LARGE_MEMORY, textsOf } = $engine_engine;
+const EVENT_ROOM = 96; // bytes of a trace's line, so that the engine is asked once
+
+const workerText = (room) => `"use strict";
+const FIRST_ROOM = ${room};
+const LARGE_MEMORY = ${LARGE_MEMORY};
+${[Engine, answerOf, textsOf, answerInRoom, blockOf].join("\n")}
+onmessage = ({ data: { module, name, given } }) => {
+  try {
+    const { status, bytes } = new Engine(module).askBytes(name, given);
+    postMessage({ status, bytes }, [bytes.buffer]);
+  } catch (fault) {
+    postMessage({ status: 1, bytes: new TextEncoder().encode(fault.message) });
+  }
+};`;
+
+function askInWorker(module, name, text, events) {
+  const place = URL.createObjectURL(new Blob([workerText(FIRST_ROOM + EVENT_ROOM * events)], { type: "text/javascript" }));
+  const worker = new Worker(place);
+  const came = new Promise((done) => {
+    worker.onerror = () => done(null);
+    worker.onmessage = ({ data }) => done({ status: data.status, text: new TextDecoder().decode(data.bytes) });
+    worker.postMessage({ module, name, given: new TextEncoder().encode(text) });
+  });
+  const answer = came.finally(() => {
+    worker.terminate();
+    URL.revokeObjectURL(place);
+  });
+  return { worker, answer };
+}
+return { askInWorker };
+})();
+
+// page/long_run.js
+const $page_long_run = (() => {
+const { askInWorker } = $engine_worker;
+const { eventsAsked } = $run_schedule_text;
+const { byId } = $page_dom;
+const { askNow, held, now, tellFault } = $page_now;
+const MANY_EVENTS = 20000; // so many run beside the page, with a button to cancel that
+const LONG_TEXT = 200000; // characters of a report that has no picture here
+const longRun = { worker: null, timer: 0 };
+
+async function askLong(name, text, isOfRun = true) {
+  const events = eventsAsked(text);
+  if (text.length < LONG_TEXT && events < MANY_EVENTS) return askNow(name, text);
+  try {
+    const { worker, answer } = askInWorker(held.engine.module, name, text, events);
+    if (isOfRun) longRun.worker = worker;
+    const came = await answer;
+    if (came !== null) return came;
+  } catch {
+  }
+  await new Promise((done) => requestAnimationFrame(() => setTimeout(done)));
+  return askNow(name, text);
+}
+
+async function runLong(text, asked, take) {
+  stopLong();
+  const begun = Date.now();
+  const tellTime = () => {
+    const seconds = Math.round((Date.now() - begun) / 1000);
+    byId("long-said").textContent = `running ${asked.toLocaleString("en")} events: ${seconds} s`;
+  };
+  tellTime();
+  longRun.timer = setInterval(tellTime, 1000);
+  byId("long").hidden = false;
+  const answer = await askLong("listset_trace", text);
+  if (now.run.text !== text || byId("long").hidden) return;
+  stopLong();
+  take(answer);
+}
+
+function stopLong() {
+  clearInterval(longRun.timer);
+  longRun.worker?.terminate();
+  longRun.worker = null;
+  if (byId("long").contains(document.activeElement)) byId("slider").focus();
+  byId("long").hidden = true;
+}
+
+function cancelLong() {
+  stopLong();
+  tellFault(null, "", "The run was cancelled. Run begins it again.");
+}
+return { MANY_EVENTS, LONG_TEXT, askLong, runLong, stopLong, cancelLong };
+})();
+
+// page/seen.js
+const $page_seen = (() => {
+const { byId, setHidden } = $page_dom;
+const { change } = $page_now;
+const isStage = ({ screen }) => screen === "stage";
+
+function factsOf(state, { hasEngine }) {
+  const { place, run, task, exercise } = state;
+  return {
+    ...place,
+    hasEngine,
+    kind: task.kind,
+    isJudging: exercise !== null,
+    isClaim: exercise?.level === "claim",
+    isBroken: run.lacks !== null,
+  };
+}
+
+const isFull = ({ view }) => view === null;
+const isSlide = ({ view }) => view === "lecture";
+const isFree = ({ isClaim }) => !isClaim; // of a claim there is no run to step through
+
+const SEEN = {
+  top: isFull,
+  leave: ({ view }) => view !== null && view !== "embed",
+  scene: ({ screen }) => screen === "scene",
+  bench: ({ screen }) => screen !== "scene",
+  task: (facts) => isStage(facts) && (isFull(facts) || isSlide(facts)),
+  stage: isStage,
+  workshop: (facts) => isStage(facts) && isFull(facts),
+  "question-box": ({ kind, isJudging }) => kind === "example" && !isJudging,
+  "own-head": ({ kind }) => kind === "own",
+  "seed-box": ({ kind }) => kind === "seed",
+  "judge-head": ({ activity }) => activity === "judge",
+  "go-on-here": (facts) => facts.activity !== "judge" && isFull(facts) && facts.hasEngine,
+  past: ({ isJudging, view }) => !isJudging && view !== "list",
+  ticks: ({ isJudging }) => !isJudging,
+  judge: ({ isJudging }) => isJudging,
+  "judge-moments": ({ isClaim }) => isClaim,
+  "judge-note": isFree,
+  "judge-levels": ({ isBroken }) => !isBroken,
+  "report-box": ({ isJudging, hasEngine }) => !isJudging && hasEngine,
+  dock: (facts) => isStage(facts) && isFree(facts),
+  "run-figure": isFree,
+  "key-help-box": isFree,
+  "threads-box": isFree,
+  "table-box": isFree,
+  "listing-box": (facts) => isFree(facts) && !facts.isBroken,
+  told: isFull,
+  order: isFull,
+  "no-engine": ({ hasEngine }) => hasEngine === false,
 };
 
-const LACKING = {
-  "lock": "coarse",
-  "second-lock": "fine",
-  "hand-over-hand": "fine",
-  "second-walk": "optimistic",
-  "same-node": "optimistic",
-  "marks-in-validation": "lazy",
-  "mark-in-contains": "lazy",
-  "mark-in-ceiling": "lazy",
-  "mark": "lock-free",
-  "mark-in-add": "lock-free",
-  "mark-in-remove": "lock-free",
-  "mark-at-key": "lock-free",
-  "new-slot": "lock-free"
-};
-return { CLASSICS, LACKING };
+
+function showParts(state) {
+  const facts = factsOf(state, { hasEngine: services.hasEngine });
+  for (const [id, isSeen] of Object.entries(SEEN)) setHidden(byId(id), !isSeen(facts), byId("skip"));
+  const { activity, screen, view } = state.place;
+  const key = [activity, screen, view, facts.hasEngine].join();
+  if (key === placed.key) return;
+  placed.key = key;
+  for (const part of document.querySelectorAll(".of-engine:not([id])")) part.hidden = !facts.hasEngine;
+  Object.assign(document.body.dataset, { activity, screen, view: view ?? "" });
+  for (const link of document.querySelectorAll("nav [data-to]")) {
+    if (link.dataset.to.split(" ").includes(activity)) link.setAttribute("aria-current", "page");
+    else link.removeAttribute("aria-current");
+  }
+}
+const placed = { key: "" };
+const services = { hasEngine: true }; // until it is known that there is none
+
+const setView = (view) => change("view", { view });
+return { factsOf, SEEN, showParts, services, setView };
 })();
 
 // page/play.js
@@ -2594,6 +4183,7 @@ const $page_play = (() => {
 const { CLASSICS } = $made_classics;
 const { byId } = $page_dom;
 const { change, exampleShown, goTo, now, show, tell } = $page_now;
+const { setView } = $page_seen;
 const SPEEDS = { slow: 1600, medium: 700, fast: 200 }; // milliseconds of one event
 const NO_STOP = { event: Infinity, before: "", there: "" };
 const play = { timer: null, stop: NO_STOP }; // the event at which it stops by itself, and what is said until there, and there
@@ -2657,141 +4247,194 @@ function goToTurn(step) {
   while (count > 0 && count < now.run.trace.total && !changes(now.run.trace.event(count)) && !turns.includes(count)) count += step;
   goByHand(count);
 }
-return { wantsLessMotion, isPlaying, stopPlay, togglePlay, changeSpeed, goByHand, goToTurn };
+
+
+const keysOf = { scene: (event) => event }; // what keys do in a scene
+
+function pressKey(event) {
+  if (/^(TEXTAREA|INPUT|SELECT)$/.test(event.target.tagName) && event.target.id !== "slider") return;
+  if (event.ctrlKey || event.metaKey || event.altKey || event.target.closest("[role=slider]") !== null) return;
+  if (event.key === "Escape" && now.place.view !== null) return toggleLecture();
+  if (now.place.screen === "scene") return keysOf.scene(event);
+  const { total } = now.run.trace;
+  const far = now.place.view === "lecture" ? 1 : 10; // what a lecturer's pointer sends
+  const steps = { ArrowRight: 1, ArrowLeft: -1, PageDown: far, PageUp: -far, Home: -total, End: total };
+  if (event.key in steps) {
+    event.preventDefault();
+    if (event.shiftKey && event.key.startsWith("Arrow")) goToTurn(steps[event.key]);
+    else goByHand(now.run.count + steps[event.key]);
+  } else if (event.key === " " && !/^(BUTTON|SUMMARY|A)$/.test(event.target.tagName)) {
+    event.preventDefault();
+    togglePlay();
+  } else if (event.key === "?" || (event.key === "p" && now.prefs.letters)) ({ "?": toggleKeys, p: togglePlay })[event.key]();
+}
+
+function toggleKeys() {
+  byId("key-help").hidden = !byId("key-help").hidden;
+  byId("keys").setAttribute("aria-expanded", String(!byId("key-help").hidden));
+}
+
+function toggleLecture() {
+  const isLeft = document.activeElement === byId("leave");
+  setView(now.place.view === null ? "lecture" : null);
+  show();
+  if (isLeft) (byId("sides-lecture") ?? byId("lecture")).focus();
+}
+return { wantsLessMotion, isPlaying, stopPlay, togglePlay, changeSpeed, goByHand, keysOf, pressKey, toggleKeys, toggleLecture };
 })();
 
-// run/broken.js
-const $run_broken = (() => {
-const { LACKING } = $made_classics;
-const { LISTS } = $made_rows;
-const { readReport, readVerdict } = $engine_answers;
-const { nameOfCall } = $run_judged;
-const { escaped } = $run_markup;
-const { isFailed, isLock } = $run_outcomes;
-const { scheduleOfTrace, titleOf } = $run_schedule_text;
-const { momentAt, sentenceOf } = $run_sentences;
-const { State } = $run_state;
+// page/work.js
+const $page_work = (() => {
+const { EXAMPLES, TRACES } = $made_traces;
+const { readExamples } = $engine_answers;
+const { askList } = $run_broken;
+const { eventsAsked, openingIn, scheduleOfDraft, versionOf, withOpening } = $run_schedule_text;
 const { eventsInCommon, isTrace, Trace } = $run_trace;
-const LACKING_THREADS = 2;
-const LACKING_QUOTA = 2;
-const LACKING_OPENING = [3, 7]; // what such a list opens with, until the reader changes that
-const EXPLAINED = "Not broken yet: some order explains this run.";
-const BY_POINTS = "Not by its linearization points: check refuses that order.";
-const OTHER = "Another order explains these replies.";
-const UNKNOWN = "Whether another order explains these replies is not known.";
-const UNEXPLAINED = "No order of these calls explains that (proved).";
-const TO_BREAK = "No order explains what the calls answer (proved)."; // the condition of a lesson
-
-const NO_TASK = "mark-in-contains";
-const isTaskDone = (lacks, { kind }) => kind === "broken" && lacks !== NO_TASK;
-
-const askList = (ask, name, lacks, text) =>
-  lacks === null ? ask(name, text) : ask("listset_lacking", lacks, text, name.slice("listset_".length));
-
-function startOfLacking(name) {
-  const set = [titleOf(2), `list ${LACKING[name]}`, `threads ${LACKING_THREADS}`, `quota ${LACKING_QUOTA}`];
-  return [...set, ...LACKING_OPENING.map((key) => `opening ${key}`), ""].join("\n");
+const { byId } = $page_dom;
+const { keepWork, works } = $page_kept;
+const { MANY_EVENTS, runLong, stopLong } = $page_long_run;
+const { announce, askNow, change, held, NO_ENGINE, now, takeScheduleOfTrace, takeTrace, tell, tellFault, tellLine } = $page_now;
+const { stopPlay } = $page_play;
+function beginTask(task, lacks = null) {
+  keepWork();
+  change("task", { task, lacks });
 }
 
-function verdictOnLacking(ask, lacks, schedule) {
-  const { status, text } = askList(ask, "listset_replay", lacks, schedule);
-  if (status !== 0) return { kind: "refused", says: `The schedule is refused: ${text.trim()}`, report: null };
-  const verdict = readVerdict(ask("listset_check_record", text));
-  if (verdict.kind === "fault") return { kind: "refused", says: `The run is not judged: ${verdict.fault.says}.`, report: null };
-  if (verdict.kind === "own") return { kind: "explained", says: EXPLAINED, report: text };
-  if (verdict.kind === "none") {
-    const why = whyNone(text, verdict.why);
-    return { kind: "broken", why, says: `Broken: ${why}. ${UNEXPLAINED}`, report: text };
-  }
-  return { kind: "points", says: `${BY_POINTS} ${verdict.kind === "another" ? OTHER : UNKNOWN}`, report: text };
+function openTask(task, text, at, told = "", lacks = null) {
+  beginTask({ begun: text, ...task }, lacks);
+  runText(text, at, told);
 }
 
-function whyNone(text, { key, moment, since, isThere, calls }) {
-  if (key === null) return "no order leaves these keys, which do not increase";
-  const isLeft = moment === null;
-  const exercise = readReport(text);
-  if (isLeft && isLost(exercise, key)) return `${key} was added once and never removed, and at the end the set does not have it`;
-  const left = exercise.keys.includes(key) ? "has it" : "does not have it";
-  const then = [...calls.map((call) => callInWords(exercise, call)), ...(isLeft ? [`at the end the set ${left}`] : [])].join(", ");
-  if (since === null) return then === "" ? `the calls of key ${key} have no order` : then;
-  return `${key} is ${isThere ? "there" : "not there"} ${since === "0" ? "at first" : `after event ${since}`}, and then ${then}`;
+const ownTask = (name) => ({ kind: "own", id: "", work: works.newName(name) });
+
+function openWork(name, at = null) {
+  const { text, box, count, lacks = null, task } = works.byName.get(name);
+  const begun = task.kind === "example" ? exampleText(task.id) : "";
+  openTask({ ...task, work: name, begun }, text, at ?? count, "", lacks);
+  if (box !== text) byId("schedule").value = box;
+  showMarks();
 }
 
-function isLost({ calls, opening, keys }, key) {
-  const count = (operation) => calls.filter((call) => call.operation === operation && call.reply === "true" && call.key === key).length;
-  const isThere = opening.includes(key) || keys.includes(key);
-  return count("add") === 1 && count("remove") === 0 && !isThere;
+const openExample = (name, count) =>
+  openTask({ kind: "example", id: name, work: works.newName(`from ${name}`) }, exampleText(name), count);
+
+const newSchedule = (list, threads, quota) =>
+  openTask(ownTask("my schedule"), `listset-schedule 1\nlist ${list}\nthreads ${threads}\nquota ${quota}\n`, 0);
+
+function runBox() {
+  const box = byId("schedule").value;
+  const { text, fault } = scheduleOfDraft(askNow, box === "" || box.endsWith("\n") ? box : `${box}\n`, now.run.lacks);
+  if (fault !== null) return tellLine(fault);
+  const { trace, count } = now.run;
+  if (now.task.kind !== "own" && text !== now.run.text) leaveTask(text);
+  const at = (made) => (made.refused === null ? Math.min(count, eventsInCommon(trace, made)) : made.total);
+  runText(text, at);
 }
 
-function callInWords({ calls }, { thread, begun }) {
-  const call = calls.find((one) => one.thread === thread && one.begun === Number(begun));
-  return `${nameOfCall(call)} ${call.ended === null ? "is open" : `answers ${call.reply}`}`;
+function leaveTask(text) {
+  byId("schedule").value = now.run.text;
+  beginTask({ ...ownTask("my schedule"), begun: text }, now.run.lacks);
 }
 
-function departureOf(ask, trace) {
-  const { text } = ask("listset_trace", scheduleOfTrace(trace));
-  if (!isTrace(text)) return null;
-  const whole = new Trace(text, trace.version);
-  const event = eventsInCommon(trace, whole) + 1;
-  if (event > trace.total) return null;
-  const rows = [trace, whole].map((one) => (event > one.total ? null : one.event(event).changes.pc));
-  const told = (one) => {
-    if (event > one.total) return "makes no such event.";
-    const goesOn = rows[0] === rows[1] ? "" : rowInWords(one, event);
-    return `${sentenceOf(momentAt(new State(one), event))}${goesOn}`;
+function runWithOpening() {
+  const keys = byId("opening").value.split(/[\s,]+/).filter((key) => key !== "");
+  byId("schedule").value = withOpening(byId("schedule").value, keys);
+  runBox();
+}
+
+function showHeader(trace) {
+  byId("new-list").value = trace.kind;
+  byId("new-threads").value = trace.threads;
+  byId("new-quota").value = trace.quota;
+}
+
+function runText(text, at, told = "") {
+  stopPlay();
+  change("text", { text });
+  byId("schedule").value = text;
+  byId("opening").value = openingIn(text).join(" ");
+  if (held.engine === null) return tellFault(null, "", NO_ENGINE);
+  const asked = eventsAsked(text);
+  if (asked >= MANY_EVENTS && now.run.lacks === null) return runLong(text, asked, (answer) => takeAnswer(answer, text, at, told));
+  stopLong();
+  takeAnswer(askList(askNow, "listset_trace", now.run.lacks, text), text, at, told);
+}
+
+function takeAnswer(answer, text, at, told) {
+  const source = now.run.lacks === null ? "run by the proved replayer" : "a run of a broken list";
+  if (isTrace(answer.text)) takeTrace(new Trace(answer.text, versionOf(text), now.run.trace), at, source);
+  else tellLine(answer.text.trim());
+  tell(works.isKept ? told : `${told} This browser keeps nothing: save the schedule before you leave the page.`);
+  announce("ran");
+}
+
+
+const KEPT_BESIDE = "a trace that is kept beside the page";
+const known = { examples: null };
+
+function examples() {
+  if (held.engine === null) return readExamples(EXAMPLES);
+  known.examples ??= readExamples(askNow("listset_examples", "").text);
+  return known.examples;
+}
+
+const isExample = (name) => examples().some((one) => one.name === name);
+
+function exampleText(name) {
+  if (held.engine === null || name === "") return null;
+  const answer = askNow("listset_example", name);
+  return answer.status === 0 ? answer.text : null;
+}
+
+function openKept(name, count) {
+  change("task", { task: { kind: "example", id: name, work: "" } });
+  takeTrace(new Trace(TRACES[name]), count, KEPT_BESIDE);
+  takeScheduleOfTrace();
+  showMarks();
+}
+
+
+const LINE_HEIGHT = 21;
+const editor = { isSeen: false };
+
+function watchEditor() {
+  /** @param {IntersectionObserverEntry[]} seen */
+  const look = ([{ isIntersecting }]) => {
+    editor.isSeen = isIntersecting;
+    if (!isIntersecting || now.run.trace === null) return;
+    scrollToLine(now.run.count > 0 ? now.run.trace.event(now.run.count) : null);
+    showMarks();
   };
-  return { event, here: told(trace), whole: told(whole) };
+  new IntersectionObserver(look).observe(byId("editor"));
 }
 
-function rowInWords(trace, number) {
-  const event = trace.event(number);
-  const row = event.changes.pc;
-  const { step } = LISTS[trace.kind].rows[row] ?? { step: "which the correct list does not have" };
-  const isSaid = event.deed === "exchange" && isFailed(event) && isLock(event.word);
-  return row === 0 || isSaid ? "" : ` It continues at row ${row}, ${escaped(step)}.`;
-}
-return { EXPLAINED, TO_BREAK, NO_TASK, isTaskDone, askList, startOfLacking, verdictOnLacking, departureOf };
-})();
-
-// run/draft.js
-const $run_draft = (() => {
-const { isTrace, Trace } = $run_trace;
-const MOST_TRIED = 1000; // steps of a thread that does not come to where it is sent, to see for what it waits
-const DRAFT_LINE = /^go \d+ (?:out|to \d+)$/m;
-
-function scheduleOfDraft(ask, text, lacks = null) {
-  if (!DRAFT_LINE.test(text)) return { text, fault: null };
-  if (lacks !== null) return scheduleOfLackingDraft(ask, lacks, text);
-  const made = ask("listset_draft", text.replace(/^listset-(?:schedule|draft) [12]$/m, "listset-draft 2"));
-  return made.status === 0 ? { text: made.text, fault: null } : { text: null, fault: made.text.trim() };
+function scrollToLine(event) {
+  const box = byId("schedule");
+  if (!editor.isSeen || event === null || document.activeElement === box || box.value !== now.run.text) return;
+  const y = LINE_HEIGHT * (event.line - 1);
+  if (y < box.scrollTop || y > box.scrollTop + box.clientHeight - 2 * LINE_HEIGHT) box.scrollTop = y - box.clientHeight / 2;
 }
 
-function stepsOfLacking(ask, lacks, lines, thread, row) {
-  const fault = (cause) => ({ count: null, fault: `listset: line ${lines.length + 1}: ${cause}` });
-  const { text } = ask("listset_lacking", lacks, `${[...lines, `go ${thread} ${MOST_TRIED}`].join("\n")}\n`, "trace");
-  if (!isTrace(text)) return { count: null, fault: text.trim() };
-  const steps = new Trace(text).events().filter(({ line }) => line === lines.length + 1);
-  const end = steps.findIndex(({ answer }) => answer !== undefined);
-  const at = row === undefined ? end : steps.findIndex(({ answer, changes }) => answer === undefined && changes.pc === Number(row));
-  if (at !== -1) return { count: at + 1, fault: null };
-  return fault(end !== -1 || steps.length === 0 ? "Idle" : "Waits");
-}
-
-function scheduleOfLackingDraft(ask, lacks, text) {
+function showMarks() {
+  const box = byId("schedule");
+  const isStale = box.value !== now.run.text;
+  const top = editor.isSeen ? box.scrollTop : 0;
+  const mark = (line, kind) => `<div class="${kind}" style="top:${6 + LINE_HEIGHT * (line - 1) - top}px"></div>`;
+  const event = now.run.count > 0 ? now.run.trace.event(now.run.count) : null;
   const lines = [];
-  for (const line of text.split("\n").slice(0, -1)) {
-    const asked = /^go (\d+) (?:out|to (\d+))$/.exec(line);
-    const { count, fault } = asked === null ? { count: null, fault: null } : stepsOfLacking(ask, lacks, lines, asked[1], asked[2]);
-    if (fault !== null) return { text: null, fault };
-    lines.push(asked === null ? line : `go ${asked[1]} ${count}`);
-  }
-  return { text: [...lines, ""].join("\n"), fault: null };
+  if (event !== null && now.run.isRun) lines.push(mark(event.line, "event"));
+  if (now.run.faultLine !== null) lines.push(mark(now.run.faultLine, "bad"));
+  byId("marks").innerHTML = isStale ? "" : lines.join("");
+  byId("run").classList.toggle("stale", isStale);
+  byId("run").textContent = isStale ? "Run the changes" : "Run";
 }
-return { scheduleOfDraft };
+return { beginTask, openTask, ownTask, openWork, openExample, newSchedule, runBox, runWithOpening, showHeader, examples, isExample, openKept, watchEditor, scrollToLine, showMarks };
 })();
 
-// story/phases.js
-const $story_phases = (() => {
+// story/tale.js
+const $story_tale = (() => {
+const { callText, chipOf, keyText } = $run_markup;
+const { isLock, ownerIn } = $run_outcomes;
 const walkers = (...rows) => Object.fromEntries(rows.map((row) => [row, "walk"]));
 
 const PHASES = {
@@ -2841,19 +4484,124 @@ const WORDS = {
 };
 
 const phaseText = (phase, call) => WORDS[phase](call);
-return { phaseAt, joinedRows, phaseText };
+
+
+const bold = (text) => `<b>${text}</b>`;
+
+const nodeName = (state, name) => {
+  if (name === "head") return "the head";
+  if (name === "tail") return "the end";
+  return name in state.nodes ? keyText(state.nodes[name].key) : "";
+};
+const bare = (link) => link.replace("*", "");
+
+const answerText = (answer) => answer.replace(/^at-/, "");
+
+function taleOf(moment, { plain = false } = {}) {
+  const { event } = moment;
+  if (event === null) return "";
+  const said = toldBy(moment, plain);
+  const { call } = event;
+  const answer = event.answer === undefined ? "" : ` ${bold(`${callText(call)} answers ${answerText(event.answer)}.`)}`;
+  return `${chipOf(event.thread)} ${said}${answer}`;
+}
+
+function toldBy(moment, plain) {
+  const { trace, state, event, before, held } = moment;
+  const { kind } = trace;
+  if (event.deed === "begin") return `begins ${bold(callText(event.call))}.`;
+  const owner = ownerIn(event.word);
+  const who = nodeName(state, owner);
+  if (isLock(event.word)) return lockTold(event, who, plain, event.changes.pc === before.pc);
+  const phase = phaseAt(kind, before.pc, plain);
+  const key = event.call.key;
+  if (event.deed === "load" && event.word.endsWith(".key")) return keyTold(event, owner, key, phase, held);
+  if (event.deed === "load") return linkTold(moment, owner, who, phase);
+  if (event.deed === "store" && event.word.endsWith(".key")) return `makes a node for ${key}. Nobody else sees it yet.`;
+  return writeTold(moment, owner, who);
+}
+
+function lockTold(event, who, plain, waits) {
+  if (plain) return event.deed === "store" ? "is done." : "sets out.";
+  const what = who === undefined || event.word === "list.lock" ? "the lock" : `the lock of ${who}`;
+  if (event.deed === "store") return `gives back ${what}.`;
+  if (event.saw === event.from) return `takes ${what}.`;
+  return `wants ${what}, but ${chipOf(event.saw.slice(1))} has it. ${bold(waits ? "It waits." : "It goes on all the same.")}`;
+}
+
+function keyTold(event, owner, key, phase, held) {
+  if (phase === "again") {
+    if (held.pc === 14 && held.reply === "none") return `is past the place of its pred, and has not met it: ${bold("pred is not in the list any more.")} It lets go and starts again.`;
+    return held.node === held.pred ? "meets its pred: it is still in the list." : "walks on: this is not its pred.";
+  }
+  if (owner === "tail") return "has come to the end: here is the place.";
+  const seen = Number(event.saw);
+  if (seen < key) return `reads ${bold(seen)}: too small, it goes on.`;
+  if (event.call.operation === "ceiling") return `reads ${bold(seen)}: big enough.`;
+  if (seen === key) return `reads ${bold(seen)}: found.`;
+  return `reads ${bold(seen)}: too big. The place of ${key} is just before it.`;
+}
+
+function linkTold(moment, owner, who, phase) {
+  const { trace, state, event, held, before } = moment;
+  const isMarked = event.saw.endsWith("*");
+  const to = nodeName(state, bare(event.saw));
+  if (phase === "look" || (event.answer !== undefined && isMarked)) return isMarked ? `sees the mark: ${bold(`this ${who} has been removed.`)}` : `sees no mark: ${who} is in.`;
+  if (phase === "check") {
+    if (held.reply === "none" && held.pc === 13) {
+      if (owner === before.pred && isMarked) return `sees a mark on its pred: ${bold("it was removed meanwhile.")} It lets go and starts again.`;
+      return isMarked ? `sees a mark on ${who}. It lets go and starts again.` : `sees that ${who} points to ${to} now. It lets go and starts again.`;
+    }
+    return owner === before.pred ? "sees no mark on its pred, which still points to curr." : `sees no mark on ${who}. It may write.`;
+  }
+  if (phase === "again") {
+    if (owner === before.pred && before.pc === 8) {
+      if (held.pc === 14 && held.reply === "none") return `sees that ${who} points to ${to} now: ${bold("something came in between.")} It lets go and starts again.`;
+      return "sees that pred still points to curr.";
+    }
+    return `walks from ${who} once more.`;
+  }
+  if (phase === "unlink" || before.pc === 8) return `reads what comes after ${who}: ${to}.`;
+  if (trace.kind === "lock-free" && event.changes.curr === undefined) {
+    return isMarked ? `meets ${who}, which is marked: it will take it out on its way.` : `looks at the arrow of ${who}: no mark.`;
+  }
+  return owner === "head" ? `sets out from the head: curr is on ${to}.` : `moves on: curr is on ${to}.`;
+}
+
+function writeTold(moment, owner, who) {
+  const { state, event, before } = moment;
+  const key = event.call.key;
+  const to = nodeName(state, bare(event.to ?? ""));
+  const isDone = event.deed === "store" || event.saw === event.from;
+  if (event.to.endsWith("*")) {
+    if (isDone) return `marks ${who}: ${bold(`${key} is removed.`)}`;
+    return event.saw.endsWith("*") ? `wants to mark ${who}, but it is marked already. ${bold("It was too late")}, and looks again.` : `wants to mark ${who}, but its arrow has changed. It looks again.`;
+  }
+  if (!state.nodes[owner].reached && event.put === undefined && event.took === undefined && event.deed === "store" && owner !== before.pred) {
+    return `lets its node point to ${to}.`;
+  }
+  if (event.put !== undefined) {
+    const isIn = state.chain().includes(bare(event.to));
+    return isIn ? `lets ${who} point to ${key}: ${bold(`${key} is in.`)}` : `lets its pred point to ${key}. ${bold("But that pred is not in the list.")}`;
+  }
+  if (!isDone) {
+    const rest = event.answer !== undefined ? "That does not matter: the mark counts." : "It looks again.";
+    return `wants to change the arrow of ${who}, but it is not what it saw. ${rest}`;
+  }
+  return `lets ${who} point to ${to}: ${nodeName(state, before.curr)} is out of the chain.`;
+}
+return { phaseAt, joinedRows, phaseText, answerText, taleOf };
 })();
 
 // story/live_run.js
 const $story_live_run = (() => {
 const { askNow } = $page_now;
 const { askList, verdictOnLacking } = $run_broken;
-const { scheduleOfDraft } = $run_draft;
+const { openingIn, scheduleOfDraft, scheduleOfTrace, titleOf } = $run_schedule_text;
 const { isFailed, isLock } = $run_outcomes;
-const { openingIn, scheduleOfTrace, titleOf } = $run_schedule_text;
 const { keysInChain, promisedKeys, State } = $run_state;
 const { isTrace, Trace } = $run_trace;
-const { joinedRows, phaseAt } = $story_phases;
+const { joinedRows, phaseAt } = $story_tale;
 const MOST_STEPS = 80; // of one call, in the short lists of the story
 
 const linesOf = (schedule) => schedule.split("\n").filter((line) => /^(begin|go) /.test(line));
@@ -3585,126 +5333,13 @@ const drawOwnCode = (spec) => tag("ol", { class: "steps" }, ...linesShown(spec).
 return { drawOwnCode };
 })();
 
-// story/tale.js
-const $story_tale = (() => {
-const { isLock, ownerIn } = $run_outcomes;
-const { callText, chipOf, keyText } = $run_markup;
-const { phaseAt } = $story_phases;
-const bold = (text) => `<b>${text}</b>`;
-
-const nodeName = (state, name) => {
-  if (name === "head") return "the head";
-  if (name === "tail") return "the end";
-  return name in state.nodes ? keyText(state.nodes[name].key) : "";
-};
-const bare = (link) => link.replace("*", "");
-
-const answerText = (answer) => answer.replace(/^at-/, "");
-
-function taleOf(moment, { plain = false } = {}) {
-  const { event } = moment;
-  if (event === null) return "";
-  const said = toldBy(moment, plain);
-  const { call } = event;
-  const answer = event.answer === undefined ? "" : ` ${bold(`${callText(call)} answers ${answerText(event.answer)}.`)}`;
-  return `${chipOf(event.thread)} ${said}${answer}`;
-}
-
-function toldBy(moment, plain) {
-  const { trace, state, event, before, held } = moment;
-  const { kind } = trace;
-  if (event.deed === "begin") return `begins ${bold(callText(event.call))}.`;
-  const owner = ownerIn(event.word);
-  const who = nodeName(state, owner);
-  if (isLock(event.word)) return lockTold(event, who, plain, event.changes.pc === before.pc);
-  const phase = phaseAt(kind, before.pc, plain);
-  const key = event.call.key;
-  if (event.deed === "load" && event.word.endsWith(".key")) return keyTold(event, owner, key, phase, held);
-  if (event.deed === "load") return linkTold(moment, owner, who, phase);
-  if (event.deed === "store" && event.word.endsWith(".key")) return `makes a node for ${key}. Nobody else sees it yet.`;
-  return writeTold(moment, owner, who);
-}
-
-function lockTold(event, who, plain, waits) {
-  if (plain) return event.deed === "store" ? "is done." : "sets out.";
-  const what = who === undefined || event.word === "list.lock" ? "the lock" : `the lock of ${who}`;
-  if (event.deed === "store") return `gives back ${what}.`;
-  if (event.saw === event.from) return `takes ${what}.`;
-  return `wants ${what}, but ${chipOf(event.saw.slice(1))} has it. ${bold(waits ? "It waits." : "It goes on all the same.")}`;
-}
-
-function keyTold(event, owner, key, phase, held) {
-  if (phase === "again") {
-    if (held.pc === 14 && held.reply === "none") return `is past the place of its pred, and has not met it: ${bold("pred is not in the list any more.")} It lets go and starts again.`;
-    return held.node === held.pred ? "meets its pred: it is still in the list." : "walks on: this is not its pred.";
-  }
-  if (owner === "tail") return "has come to the end: here is the place.";
-  const seen = Number(event.saw);
-  if (seen < key) return `reads ${bold(seen)}: too small, it goes on.`;
-  if (event.call.operation === "ceiling") return `reads ${bold(seen)}: big enough.`;
-  if (seen === key) return `reads ${bold(seen)}: found.`;
-  return `reads ${bold(seen)}: too big. The place of ${key} is just before it.`;
-}
-
-function linkTold(moment, owner, who, phase) {
-  const { trace, state, event, held, before } = moment;
-  const isMarked = event.saw.endsWith("*");
-  const to = nodeName(state, bare(event.saw));
-  if (phase === "look" || (event.answer !== undefined && isMarked)) return isMarked ? `sees the mark: ${bold(`this ${who} has been removed.`)}` : `sees no mark: ${who} is in.`;
-  if (phase === "check") {
-    if (held.reply === "none" && held.pc === 13) {
-      if (owner === before.pred && isMarked) return `sees a mark on its pred: ${bold("it was removed meanwhile.")} It lets go and starts again.`;
-      return isMarked ? `sees a mark on ${who}. It lets go and starts again.` : `sees that ${who} points to ${to} now. It lets go and starts again.`;
-    }
-    return owner === before.pred ? "sees no mark on its pred, which still points to curr." : `sees no mark on ${who}. It may write.`;
-  }
-  if (phase === "again") {
-    if (owner === before.pred && before.pc === 8) {
-      if (held.pc === 14 && held.reply === "none") return `sees that ${who} points to ${to} now: ${bold("something came in between.")} It lets go and starts again.`;
-      return "sees that pred still points to curr.";
-    }
-    return `walks from ${who} once more.`;
-  }
-  if (phase === "unlink" || before.pc === 8) return `reads what comes after ${who}: ${to}.`;
-  if (trace.kind === "lock-free" && event.changes.curr === undefined) {
-    return isMarked ? `meets ${who}, which is marked: it will take it out on its way.` : `looks at the arrow of ${who}: no mark.`;
-  }
-  return owner === "head" ? `sets out from the head: curr is on ${to}.` : `moves on: curr is on ${to}.`;
-}
-
-function writeTold(moment, owner, who) {
-  const { state, event, before } = moment;
-  const key = event.call.key;
-  const to = nodeName(state, bare(event.to ?? ""));
-  const isDone = event.deed === "store" || event.saw === event.from;
-  if (event.to.endsWith("*")) {
-    if (isDone) return `marks ${who}: ${bold(`${key} is removed.`)}`;
-    return event.saw.endsWith("*") ? `wants to mark ${who}, but it is marked already. ${bold("It was too late")}, and looks again.` : `wants to mark ${who}, but its arrow has changed. It looks again.`;
-  }
-  if (!state.nodes[owner].reached && event.put === undefined && event.took === undefined && event.deed === "store" && owner !== before.pred) {
-    return `lets its node point to ${to}.`;
-  }
-  if (event.put !== undefined) {
-    const isIn = state.chain().includes(bare(event.to));
-    return isIn ? `lets ${who} point to ${key}: ${bold(`${key} is in.`)}` : `lets its pred point to ${key}. ${bold("But that pred is not in the list.")}`;
-  }
-  if (!isDone) {
-    const rest = event.answer !== undefined ? "That does not matter: the mark counts." : "It looks again.";
-    return `wants to change the arrow of ${who}, but it is not what it saw. ${rest}`;
-  }
-  return `lets ${who} point to ${to}: ${nodeName(state, before.curr)} is out of the chain.`;
-}
-return { answerText, taleOf };
-})();
-
 // story/dock.js
 const $story_dock = (() => {
+const { callText, chipOf, colourOf, letterOf, tag } = $run_markup;
 const { drawContents } = $draw_contents;
 const { drawCalls, scaleOf } = $draw_history;
 const { redraw, setHtml } = $page_dom;
-const { callText, chipOf, colourOf, letterOf, tag } = $run_markup;
-const { phaseText } = $story_phases;
-const { answerText } = $story_tale;
+const { answerText, phaseText } = $story_tale;
 const AGAIN = `<span class="again"><button data-undo class="quiet small" title="take the last press back">↶ One back</button>
   <button data-again class="quiet small">↺ Start over</button></span>`;
 
@@ -3790,7 +5425,55 @@ function showScrub(figure) {
   box.querySelector(".count").textContent = `${count} of ${trace.total}`;
   box.hidden = !figure.isOpen;
 }
-return { showDock, showStrip, scrollToLane, showScrub };
+
+
+const MOST_KEY = 999;
+
+function pressed(figure, event) {
+  const button = event.target.closest("button");
+  if (button === null || !figure.box.contains(button)) return;
+  const { step, move, begin, active } = button.dataset;
+  if (step !== undefined) figure.step(Number(step));
+  else if (button.closest("[data-rows]") !== null) pressLine(figure, button);
+  else if (active !== undefined) figure.set({ active: Number(active) });
+  else if ("again" in button.dataset) figure.again();
+  else if ("undo" in button.dataset) figure.undo();
+  else if (move !== undefined) figure.moveTo(figure.run.count + Number(move));
+  else if (begin !== undefined) beginOwn(figure, Number(begin));
+}
+
+function pressLine(figure, button) {
+  if (figure.isBusy || !figure.canStep) return;
+  const rows = button.closest("[data-rows]").dataset.rows.split(" ").map(Number);
+  const here = (button.dataset.threads ?? "").split(" ").filter((text) => text !== "").map(Number);
+  const thread = here.length === 0 || here.includes(figure.active) ? figure.active : here[0];
+  const isIdle = figure.run.isIdle(thread);
+  if (isIdle && figure.left(thread).length === 0) return figure.tell(`${chipOf(thread)} has no call under way.`);
+  figure.leaves();
+  const from = figure.run.trace.total;
+  if (isIdle) figure.run.begin(thread, figure.left(thread)[0]);
+  const isThere = ({ changes }) => rows.includes(changes.pc);
+  const isOff = (event) => !isThere(event) || event.deed === "exchange";
+  figure.play(thread, figure.run.stepsUntil(thread, here.length > 0 ? isOff : isThere), from);
+}
+
+function chooseCall(figure, row) {
+  const call = [row.querySelector("select").value, row.querySelector("input").value];
+  figure.chosen = { ...figure.chosen, [row.dataset.thread]: call };
+}
+
+function beginOwn(figure, thread) {
+  if (figure.isBusy || !figure.canStep) return;
+  chooseCall(figure, figure.box.querySelector(`[data-thread="${thread}"]`));
+  const [operation, key] = figure.chosen[thread];
+  if (!/^\d+$/.test(key) || Number(key) > MOST_KEY) return figure.tell(`A number from 0 to ${MOST_KEY}, please.`);
+  figure.leaves();
+  figure.active = thread;
+  figure.run.begin(thread, [operation, Number(key)]);
+  figure.draw(true);
+  figure.onStep?.(figure);
+}
+return { showDock, showStrip, scrollToLane, showScrub, pressed, chooseCall, beginOwn };
 })();
 
 // story/figure_parts.js
@@ -3955,63 +5638,11 @@ function scrollToLit(figure, moved) {
 return { isNarrow, frameOf, drawFigure, markLostNodes };
 })();
 
-// story/figure_press.js
-const $story_figure_press = (() => {
-const { chipOf } = $run_markup;
-const MOST_KEY = 999;
-
-function pressed(figure, event) {
-  const button = event.target.closest("button");
-  if (button === null || !figure.box.contains(button)) return;
-  const { step, move, begin, active } = button.dataset;
-  if (step !== undefined) figure.step(Number(step));
-  else if (button.closest("[data-rows]") !== null) pressLine(figure, button);
-  else if (active !== undefined) figure.set({ active: Number(active) });
-  else if ("again" in button.dataset) figure.again();
-  else if ("undo" in button.dataset) figure.undo();
-  else if (move !== undefined) figure.moveTo(figure.run.count + Number(move));
-  else if (begin !== undefined) beginOwn(figure, Number(begin));
-}
-
-function pressLine(figure, button) {
-  if (figure.isBusy || !figure.canStep) return;
-  const rows = button.closest("[data-rows]").dataset.rows.split(" ").map(Number);
-  const here = (button.dataset.threads ?? "").split(" ").filter((text) => text !== "").map(Number);
-  const thread = here.length === 0 || here.includes(figure.active) ? figure.active : here[0];
-  const isIdle = figure.run.isIdle(thread);
-  if (isIdle && figure.left(thread).length === 0) return figure.tell(`${chipOf(thread)} has no call under way.`);
-  figure.leaves();
-  const from = figure.run.trace.total;
-  if (isIdle) figure.run.begin(thread, figure.left(thread)[0]);
-  const isThere = ({ changes }) => rows.includes(changes.pc);
-  const isOff = (event) => !isThere(event) || event.deed === "exchange";
-  figure.play(thread, figure.run.stepsUntil(thread, here.length > 0 ? isOff : isThere), from);
-}
-
-function chooseCall(figure, row) {
-  const call = [row.querySelector("select").value, row.querySelector("input").value];
-  figure.chosen = { ...figure.chosen, [row.dataset.thread]: call };
-}
-
-function beginOwn(figure, thread) {
-  if (figure.isBusy || !figure.canStep) return;
-  chooseCall(figure, figure.box.querySelector(`[data-thread="${thread}"]`));
-  const [operation, key] = figure.chosen[thread];
-  if (!/^\d+$/.test(key) || Number(key) > MOST_KEY) return figure.tell(`A number from 0 to ${MOST_KEY}, please.`);
-  figure.leaves();
-  figure.active = thread;
-  figure.run.begin(thread, [operation, Number(key)]);
-  figure.draw(true);
-  figure.onStep?.(figure);
-}
-return { pressed, chooseCall, beginOwn };
-})();
-
 // story/figure.js
 const $story_figure = (() => {
 const { momentAt } = $run_sentences;
 const { drawFigure, frameOf, isNarrow, markLostNodes } = $story_figure_parts;
-const { beginOwn, chooseCall, pressed } = $story_figure_press;
+const { beginOwn, chooseCall, pressed } = $story_dock;
 const { LiveRun } = $story_live_run;
 const BIT = 300; // milliseconds between two steps of one press
 const BETWEEN = 450; // and between two presses that the page makes
@@ -4621,10 +6252,14 @@ return { BREAK_LEVELS, TEN, THREE_MORE, numberOfLevel, levelOfNumber, whyWrong }
 
 // page/scene_address.js
 const $page_scene_address = (() => {
+const { CLASSICS } = $made_classics;
+const { LISTS } = $made_rows;
 const { levelOfNumber } = $data_levels;
 const { AddressFault, addressOf, LONGEST_ADDRESS, longLine } = $run_address;
 const { startOfLacking } = $run_broken;
+const { inLetters } = $run_markup;
 const { eventsAsked } = $run_schedule_text;
+const { partsOfSeed } = $run_seed;
 const SCENES = ["assignment", "story", "ask", "code", "teachers"]; // run/address.js reads the others, with their schedules
 const SCENE_VIEWS = ["lecture", "embed"];
 
@@ -4676,17 +6311,8 @@ const ADDRESSES = {
 
 const addressOfScene = ({ place, scene }, given) =>
   `${(ADDRESSES[place.activity] ?? plainAddress)(place, scene, given)}${place.view === null ? "" : `&view=${place.view}`}`;
-return { sceneOfHash, START_OF_CODE, linesOfCode, SET_OF_CODE, addressOfCode, addressOfAssignment, addressOfScene };
-})();
 
-// page/address_of.js
-const $page_address_of = (() => {
-const { CLASSICS } = $made_classics;
-const { LISTS } = $made_rows;
-const { addressOf } = $run_address;
-const { inLetters } = $run_markup;
-const { partsOfSeed } = $run_seed;
-const { addressOfScene } = $page_scene_address;
+
 function ofRun(state) {
   const { task, run } = state;
   if (task.kind === "own") return addressOf(run.text, run.count, run.lacks);
@@ -4715,501 +6341,7 @@ function titleIn(state, titleOfScene) {
   };
   return `${ofTask[task.kind]()} · ${WHOLE}`;
 }
-return { addressIn, titleIn };
-})();
-
-// made/book.js
-const $made_book = (() => {
-// The lessons of book.course, by page/build.
-
-const BOOK_NAME = "The twelve lessons of the five lists";
-const BOOK = [
-  "listset-course 1",
-  "# A course of lessons, as text. Copy this file, change it, and open it on the page (Learn, Open a course) or try it with",
-  "#     node page/check_lessons.js FILE",
-  "# A line that begins with # is a comment. The lessons follow after \"course NAME\". The words of a lesson, in this order:",
-  "#   lesson      a name of its own, of small letters, digits and -",
-  "#   title       as the student reads it",
-  "#   list        coarse, fine, optimistic, lazy or lock-free",
-  "#   lacks       the name of a check that the list lacks (docs/CLASSIC.md): a solution breaks it. It needs no goal",
-  "#   threads, quota   as in a schedule",
-  "#   opening     the initial keys, with a space between; none if the line is missing",
-  "#   start       the schedule's lines with which the student begins",
-  "#   question    what is asked; teaches: what it shows, once it is solved; hint; answer: the lines that solve it, after the start",
-  "#   goal        what the run of a solution shows; dead-ends: runs that cannot reach it, and what to say of them",
-  "# The lines of start, question, teaches, hint, answer, goal and dead-ends come below these words, each after two spaces. All of",
-  "# these but question and goal may be missing. In start and answer, \"go 0 to 4\" means steps until thread 0 is at row 4, and",
-  "# \"go 1 out\" steps until the call of thread 1 has ended. A course is checked when it is read: the start of a lesson must not reach",
-  "# its goal, its answer must.",
-  "#",
-  "# A goal is a list of lines. Each finds something in the run and gives it a name, or asks for more of what has a name:",
-  "#   call C of 0: contains, answers false      a call of thread 0 (\"call C: ..\" one of any thread)",
-  "#   step S in C: last, sees a mark            a step of that call (\"step S of 0: ..\", \"step S: ..\")",
-  "#   rest R of 0: holding 2                    a time in which thread 0 makes no step, and holds two locks",
-  "#   5 steps of 1: tries in vain a lock of 0   at least five such steps; \"3 calls of 1: ..\" three such calls",
-  "#   all calls ended                           no call is pending",
-  "#   say ..                                    a condition as the student reads it: all lines above it hold together",
-  "# Of a call: add, remove, contains, ceiling, key K, answers true (false, full, nothing, at-K), answers a key, ended, open,",
-  "#   begins after X, takes effect after X, ends during X, within R, its key always in the set, a smaller key always in the set,",
-  "#   its node in the chain at its end",
-  "# Of a step: row N (it makes this row), to row N (and goes to that), without a reply, fails, tries in vain a lock of T,",
-  "#   sees a mark, reads a link, in the chain, out of the chain (its node is), holding N (its thread holds N locks), last,",
-  "#   pred leads to curr, at another node than S, after X, by another thread than X, in R, takes out the node of C",
-  "# Of a rest: holding N",
-  "# Dead ends are goals, one below another, each up to its line \"say ..\", which is shown if a wrong run meets it.",
-  "",
-  "course The twelve lessons of the five lists",
-  "",
-  "lesson one-lock",
-  "title The one lock",
-  "list coarse",
-  "threads 3",
-  "quota 4",
-  "start",
-  "  begin 0 add 5",
-  "  begin 1 add 6",
-  "  begin 2 add 7",
-  "question",
-  "  Three adds have begun: first that of thread 0, last that of thread 2. Let them take effect in the",
-  "  opposite order. While thread 2 holds the lock, thread 0 must try to take it; again while thread 1",
-  "  holds it. All three adds answer true.",
-  "teaches",
-  "  Coarse-grained synchronization: one lock for the whole list, held from the first read to the last",
-  "  write. A failed attempt is a step too. Linearizability requires that each call takes effect at one",
-  "  moment between its begin and its end, its linearization point: of two calls that overlap either",
-  "  may come first, whichever began first.",
-  "hint",
-  "  A call takes effect while its thread holds the lock. Thread 0 has begun, but it has made no step yet.",
-  "answer",
-  "  go 2 1",
-  "  go 0 1",
-  "  go 2 6",
-  "  go 1 1",
-  "  go 0 1",
-  "  go 1 6",
-  "  go 0 7",
-  "goal",
-  "  call A of 0: add",
-  "  call B of 1: add, begins after A",
-  "  call C of 2: add, begins after B",
-  "  say The threads 0, 1 and 2 begin an add each, in this order.",
-  "  1 steps in A: tries in vain a lock of 2",
-  "  say Thread 0 tries to lock the list while thread 2 holds the lock.",
-  "  1 steps in A: tries in vain a lock of 1",
-  "  say Thread 0 tries to lock the list while thread 1 holds the lock.",
-  "  call B: takes effect after C",
-  "  call A: takes effect after B",
-  "  say The add of thread 2 takes effect first, that of thread 0 last.",
-  "  call A: answers true",
-  "  call B: answers true",
-  "  call C: answers true",
-  "  say All three answer true.",
-  "dead-ends",
-  "  call A of 0: add, key 5, ended",
-  "  call B of 1: add, open",
-  "  say The add of thread 0 has ended before that of thread 1. Undo to where thread 0 does not hold the lock.",
-  "  call A of 0: add, key 5, ended",
-  "  call B of 1: add, takes effect after A",
-  "  say The add of thread 0 has taken effect before that of thread 1. Undo, or press Start over.",
-  "",
-  "lesson hand-over-hand",
-  "title Hand over hand",
-  "list fine",
-  "threads 2",
-  "quota 4",
-  "opening 3 6 9",
-  "start",
-  "  begin 0 contains 9",
-  "  begin 1 contains 9",
-  "question",
-  "  Both threads look for 9. Let thread 1 follow thread 0 so closely that it has to wait at two",
-  "  different nodes, each time holding one lock and waiting for one that thread 0 holds. Then let both",
-  "  calls end.",
-  "teaches",
-  "  Fine-grained synchronization, hand over hand: a thread releases the lock of pred only when it",
-  "  holds that of curr. So the threads stay in the order in which they entered the list: none overtakes",
-  "  another, and none changes a node at which another is.",
-  "hint",
-  "  Thread 0 holds two locks when it is at row 4 or 5. Let it move one node further after each failed",
-  "  attempt of thread 1.",
-  "answer",
-  "  go 0 8",
-  "  go 1 3",
-  "  go 0 3",
-  "  go 1 5",
-  "  go 0 3",
-  "  go 1 8",
-  "goal",
-  "  call C of 1",
-  "  step S in C: tries in vain a lock of 0, holding 1",
-  "  say Thread 1 holds one lock, and waits for another one that thread 0 holds.",
-  "  step T in C: tries in vain a lock of 0, holding 1, at another node than S",
-  "  say It does so at two different nodes in one call.",
-  "  all calls ended",
-  "  say Both calls have ended.",
-  "dead-ends",
-  "  call A of 0: contains, key 9, ended",
-  "  call B of 1: contains, key 9, ended",
-  "  say Both calls have ended, and thread 1 did not wait twice. Undo, or press Start over.",
-  "",
-  "lesson two-at-once",
-  "title Two at once",
-  "list fine",
-  "threads 2",
-  "quota 4",
-  "opening 3 6 9",
-  "start",
-  "  begin 0 remove 9",
-  "question",
-  "  Thread 0 removes 9. Stop it when it holds two locks; then let thread 1 begin an add and end it",
-  "  with true, while thread 0 makes no step.",
-  "teaches",
-  "  What many locks gain over one: calls in different parts of the list go on at the same time. What",
-  "  they do not gain: nobody passes the thread that stands still, so only the part before it is free.",
-  "hint",
-  "  Thread 1 passes all nodes before the gap of its key, and locks the one behind the gap too. Which",
-  "  nodes are free?",
-  "answer",
-  "  go 0 12",
-  "  begin 1 add 1",
-  "  go 1 9",
-  "goal",
-  "  call A of 1: add, answers true",
-  "  say Thread 1 has an add that answers true.",
-  "  rest R of 0: holding 2",
-  "  call A: within R",
-  "  say From its begin to its end thread 0 holds two locks and makes no step.",
-  "dead-ends",
-  "  call R of 0: remove, key 9, ended",
-  "  say The remove has ended: thread 0 holds no locks any more. Undo, or let it begin another call.",
-  "  call A of 1: add, answers true",
-  "  rest R of 0: holding 1",
-  "  call A: within R",
-  "  say While that add began and ended, thread 0 held only one lock. Let it step on until it holds two.",
-  "",
-  "lesson changed-link",
-  "title The changed link",
-  "list optimistic",
-  "threads 2",
-  "quota 4",
-  "opening 3 9",
-  "start",
-  "  begin 0 remove 9",
-  "question",
-  "  Thread 0 removes 9. Let its validation fail because pred does not lead to curr any more, and",
-  "  let its remove answer true in the end.",
-  "teaches",
-  "  Optimistic synchronization: walk without locks, lock pred and curr, and then validate, that is, look",
-  "  whether what the walk found still holds. If it does not, release the locks and start again.",
-  "  Here it is the last part of the validation that fails: pred.next == curr.",
-  "hint",
-  "  Thread 0 has found 3 and 9 when it comes to row 4. What can thread 1 put between them before thread",
-  "  0 has its locks?",
-  "answer",
-  "  go 0 4",
-  "  begin 1 add 5",
-  "  go 1 14",
-  "  go 0 24",
-  "goal",
-  "  call C of 0",
-  "  step S in C: row 8, to row 14, without a reply",
-  "  say A validation of thread 0 fails: pred does not lead to curr.",
-  "  call C: remove, answers true",
-  "  say The call in which it fails is a remove that answers true.",
-  "dead-ends",
-  "  call R of 0: remove, answers true",
-  "  say The remove has answered true without such a failure. Undo to where it has not taken its locks yet.",
-  "  call R of 0: remove, answers false",
-  "  say The remove has answered false: its key is gone. Undo, or let it remove another key.",
-  "",
-  "lesson lost-pred",
-  "title The lost predecessor",
-  "list optimistic",
-  "threads 2",
-  "quota 4",
-  "opening 3 9",
-  "start",
-  "  begin 0 add 5",
-  "question",
-  "  Thread 0 adds 5. Let its second walk miss pred, at a moment at which the link of pred still leads",
-  "  to curr; and let its add answer true in the end.",
-  "teaches",
-  "  Why OptimisticList walks twice. A removed node keeps its link, so pred.next == curr alone does not",
-  "  tell whether pred is still reachable from the head. A validation by the link alone would insert 5",
-  "  behind a removed node, and the key would be lost.",
-  "hint",
-  "  pred must be a node that thread 1 can remove. When is the last moment for that?",
-  "answer",
-  "  go 0 4",
-  "  begin 1 remove 3",
-  "  go 1 9",
-  "  go 0 16",
-  "goal",
-  "  call C of 0",
-  "  step S in C: row 7, to row 14, without a reply",
-  "  say The second walk of a call of thread 0 goes past the key of pred and has not met pred.",
-  "  step S: pred leads to curr",
-  "  say At that moment the link of pred leads to curr.",
-  "  call C: add, answers true",
-  "  say The call is an add that answers true.",
-  "dead-ends",
-  "  call A of 0: add, answers true",
-  "  say The add has answered true, and its second walk did not miss pred in this way. Undo to where it has found its place.",
-  "",
-  "lesson marked-in-chain",
-  "title Marked, and still in the chain",
-  "list lazy",
-  "threads 2",
-  "quota 4",
-  "opening 5",
-  "start",
-  "  begin 1 remove 5",
-  "question",
-  "  Let a contains of thread 0 find the node of its key in the chain, and answer false.",
-  "teaches",
-  "  Lazy synchronization: a remove marks the node (the logical removal), and then unlinks it (the",
-  "  physical removal). The mark is its linearization point: a key is in the set exactly as long as an",
-  "  unmarked node of the chain has it.",
-  "hint",
-  "  Between which two rows of its remove has thread 1 marked the node and not unlinked it yet?",
-  "answer",
-  "  go 1 7",
-  "  begin 0 contains 5",
-  "  go 0 3",
-  "goal",
-  "  call C of 0: contains, answers false",
-  "  step S in C: last",
-  "  say A contains of thread 0 answers false.",
-  "  step S: sees a mark",
-  "  say Its last step reads the link of the node that has its key, and sees the mark.",
-  "  step S: in the chain",
-  "  say That node is in the chain then.",
-  "dead-ends",
-  "  call C of 0: contains, answers true",
-  "  say This contains has answered true: the node had no mark yet. Undo to where it has not looked at the mark.",
-  "  call R of 1: remove, ended",
-  "  call C of 0: contains, begins after R",
-  "  say That remove has ended, so its node is not in the chain any more. Undo to where the node is marked.",
-  "",
-  "lesson stopped-thread",
-  "title The stopped thread",
-  "list lazy",
-  "threads 3",
-  "quota 4",
-  "opening 5",
-  "start",
-  "  begin 0 remove 5",
-  "  begin 1 add 7",
-  "question",
-  "  Stop thread 0 for a while. In this time let thread 1 try five times to take a lock that thread 0",
-  "  has, and let thread 2 begin a contains and end it.",
-  "teaches",
-  "  add and remove of LazyList block: one thread that stops while it holds a lock can delay them for ever.",
-  "  contains is wait-free: it takes no lock, and ends after a bounded number of its own steps, whatever",
-  "  the other threads do.",
-  "hint",
-  "  Which two nodes does thread 1 lock to add 7? If thread 0 holds only the lock of the head, it is not in",
-  "  the way.",
-  "answer",
-  "  go 0 5",
-  "  go 1 9",
-  "  begin 2 contains 5",
-  "  go 2 3",
-  "goal",
-  "  rest R of 0",
-  "  5 steps of 1: tries in vain a lock of 0, in R",
-  "  say While thread 0 makes no step, thread 1 tries five times to take a lock that thread 0 holds.",
-  "  call C of 2: contains, within R",
-  "  say In the same time a contains of thread 2 begins and ends.",
-  "dead-ends",
-  "  call R of 0: remove, ended",
-  "  say The remove of thread 0 has ended: it holds no lock any more. Undo, or let it begin another call.",
-  "  call A of 1: add, ended",
-  "  say The add of thread 1 has ended: it did not have to wait so long. Undo to where thread 0 holds both its locks.",
-  "",
-  "lesson over-removed-nodes",
-  "title Over removed nodes",
-  "list lazy",
-  "threads 2",
-  "quota 4",
-  "opening 5 9",
-  "start",
-  "  begin 0 contains 9",
-  "  go 0 2",
-  "question",
-  "  Thread 0 looks for 9 and has reached 5. Let it read the link of a node that is not in the chain, and",
-  "  answer true.",
-  "teaches",
-  "  A walk without locks may be at a node that is removed meanwhile. That does no harm: the node",
-  "  keeps its link, which leads on to larger keys and back into the chain, and it is not used again as",
-  "  long as a thread may be there, since each slot is used once.",
-  "hint",
-  "  At which node is thread 0, and what can thread 1 do with it?",
-  "answer",
-  "  begin 1 remove 5",
-  "  go 1 10",
-  "  go 0 3",
-  "goal",
-  "  call C of 0: contains",
-  "  step S in C: reads a link, out of the chain",
-  "  say A contains of thread 0 reads the link of a node that is not in the chain.",
-  "  call C: answers true",
-  "  say It answers true.",
-  "dead-ends",
-  "  call C of 0: contains, ended",
-  "  say This contains has ended, and it read no link of a removed node on its way, or its key was gone. Undo, or press Start over.",
-  "",
-  "lesson in-anothers-step",
-  "title In the step of another thread",
-  "list lazy",
-  "threads 2",
-  "quota 4",
-  "opening 5",
-  "start",
-  "  begin 0 contains 5",
-  "question",
-  "  Let contains(5) of thread 0 answer false, although 5 is in the set just after each of its own",
-  "  events, from the begin to the answer.",
-  "teaches",
-  "  The linearization point of a contains that answers false need not be one of its own steps: here it",
-  "  is a step of thread 1. Which one it is can be told only afterwards, from what the other threads did.",
-  "hint",
-  "  Between two events of thread 0, thread 1 may end two calls.",
-  "answer",
-  "  go 0 2",
-  "  begin 1 remove 5",
-  "  go 1 10",
-  "  begin 1 add 5",
-  "  go 1 11",
-  "  go 0 1",
-  "goal",
-  "  call C of 0: contains, answers false",
-  "  say A contains of thread 0 answers false.",
-  "  call C: its key always in the set",
-  "  say Just after each of its own events its key is in the set.",
-  "dead-ends",
-  "  call C of 0: contains, answers true",
-  "  say This contains has answered true: it saw its key. Undo to where it has not looked at the mark yet.",
-  "  call C of 0: contains, answers false",
-  "  say It answers false, but just after one of its own events its key was not in the set. Add it again before that event.",
-  "",
-  "lesson left-to-others",
-  "title Left to others",
-  "list lock-free",
-  "threads 2",
-  "quota 4",
-  "opening 5",
-  "start",
-  "  begin 1 remove 5",
-  "question",
-  "  Let a remove answer true while its node is still in the chain. Then let another thread unlink this",
-  "  node.",
-  "teaches",
-  "  Non-blocking synchronization: mark and link are exchanged together, by one compareAndSet. A remove",
-  "  that has marked its node tries once to unlink it. If that fails, find does it, that is, the walk",
-  "  of a later add or remove: so nobody waits for the remover.",
-  "hint",
-  "  The one attempt of thread 1 fails if the link of its pred has changed since its walk. And a contains",
-  "  unlinks no node.",
-  "answer",
-  "  begin 0 add 3",
-  "  go 0 5",
-  "  go 1 5",
-  "  go 0 1",
-  "  go 1 1",
-  "  begin 0 add 7",
-  "  go 0 10",
-  "goal",
-  "  call C: remove, answers true",
-  "  say A remove answers true.",
-  "  call C: its node in the chain at its end",
-  "  say Just after its end its node is in the chain.",
-  "  step S: after C, by another thread than C, takes out the node of C",
-  "  say Later another thread unlinks this node.",
-  "dead-ends",
-  "  call C: remove, answers true",
-  "  step S in C: takes out the node of C",
-  "  say This remove has unlinked its node itself, by its last step. Undo to before that, and let the link of its pred change first.",
-  "",
-  "lesson not-wait-free",
-  "title Lock-free is not wait-free",
-  "list lock-free",
-  "threads 2",
-  "quota 4",
-  "start",
-  "  begin 0 add 5",
-  "question",
-  "  Let an add of thread 0 fail three times to link its node in, and let thread 1 end three calls while",
-  "  it is pending.",
-  "teaches",
-  "  Lock-free: of so many steps of add and remove, by whichever threads, one ends its call. This is",
-  "  proved here, with the number (Read, the tables, Progress). Each failed exchange of this add is owed",
-  "  to another thread, which has changed the link. Wait-free would say that every call ends after",
-  "  finitely many of its own steps. An add of this list is not: others may change the link each time.",
-  "hint",
-  "  Each time thread 0 is about to exchange the link of pred (row 7), let thread 1 change that link",
-  "  first.",
-  "answer",
-  "  go 0 5",
-  "  begin 1 add 9",
-  "  go 1 6",
-  "  go 0 6",
-  "  begin 1 add 8",
-  "  go 1 6",
-  "  go 0 6",
-  "  begin 1 add 7",
-  "  go 1 6",
-  "  go 0 1",
-  "goal",
-  "  call A of 0: add",
-  "  3 steps in A: row 7, fails",
-  "  say An add of thread 0 fails three times to link its node in.",
-  "  3 calls of 1: ended, ends during A",
-  "  say While that add is pending, thread 1 ends three calls.",
-  "dead-ends",
-  "  call A of 0: add, ended",
-  "  say That add has ended. Undo to where it is about to exchange the link of pred.",
-  "",
-  "lesson ceiling-in-anothers-step",
-  "title A ceiling in another thread's step",
-  "list lock-free",
-  "threads 2",
-  "quota 4",
-  "opening 5 7 9",
-  "start",
-  "  begin 0 ceiling 6",
-  "question",
-  "  ceiling(6) asks for the smallest key from 6 on. Let that of thread 0 answer 9, although just after each",
-  "  of its own events the set has a smaller key from 6 on.",
-  "teaches",
-  "  ceiling is a call of this project and not of the book: the walk of contains, up to the first key",
-  "  that is not below its own. It takes no lock; if the node at which it stops is marked, it starts",
-  "  again, and so it is not wait-free. Its linearization point, too, may be a step of another thread.",
-  "hint",
-  "  A removed node keeps the link that it had at its removal. At which node can thread 0 be, and",
-  "  where must that node lead?",
-  "answer",
-  "  go 0 2",
-  "  begin 1 remove 7",
-  "  go 1 8",
-  "  begin 1 remove 5",
-  "  go 1 6",
-  "  begin 1 add 7",
-  "  go 1 6",
-  "  go 0 3",
-  "goal",
-  "  call C of 0: ceiling, answers a key",
-  "  say A ceiling of thread 0 answers a key.",
-  "  call C: a smaller key always in the set",
-  "  say Just after each of its own events the set has a smaller key that is not below the one asked for.",
-  "dead-ends",
-  "  call C of 0: ceiling, answers at-7",
-  "  say This ceiling has answered 7. Undo to where it is at the node of 5.",
-  "  call C of 0: ceiling, answers at-9",
-  "  say It answers 9, but just after one of its own events no smaller key from 6 on was in the set. Add one before that event.",
-  "",
-].join("\n");
-return { BOOK_NAME, BOOK };
+return { sceneOfHash, START_OF_CODE, linesOfCode, SET_OF_CODE, addressOfCode, addressOfAssignment, addressIn, titleIn };
 })();
 
 // run/moments.js
@@ -5418,6 +6550,7 @@ return { GoalFault, CLAUSES, readGoal, TooManyWays, conditionsOf };
 // course/course_text.js
 const $course_course_text = (() => {
 const { LACKING } = $made_classics;
+const { AddressFault, LONGEST_ADDRESS } = $run_address;
 const { titleOf } = $run_schedule_text;
 const { GoalFault, readGoal } = $course_goal_words;
 const COURSE_TITLE = "listset-course 1";
@@ -5562,17 +6695,37 @@ function lessonText({ list, threads, quota, opening }, lines) {
   const header = [titleOf(isOfVersionTwo ? 2 : 1), `list ${list}`, `threads ${threads}`, `quota ${quota}`];
   return [...header, ...opening.map((key) => `opening ${key}`), ...lines, ""].join("\n");
 }
-return { COURSE_TITLE, readCourse, lessonText };
+
+
+async function passed(bytes, stream) {
+  return new Uint8Array(await new Response(new Blob([bytes]).stream().pipeThrough(stream)).arrayBuffer());
+}
+
+async function courseAddress(text) {
+  const lines = text.split("\n").filter((line) => line.trim() !== "" && !line.startsWith("#"));
+  const bytes = await passed(new TextEncoder().encode(`${lines.join("\n")}\n`), new CompressionStream("deflate-raw"));
+  const letters = btoa(Array.from(bytes, (byte) => String.fromCharCode(byte)).join(""));
+  const address = `#course=${letters.replaceAll("+", "-").replaceAll("/", "_").replace(/=+$/, "")}`;
+  return address.length <= LONGEST_ADDRESS ? address : null;
+}
+
+async function courseOfAddress(letters) {
+  try {
+    const bytes = Uint8Array.from(atob(letters.replaceAll("-", "+").replaceAll("_", "/")), (letter) => letter.charCodeAt(0));
+    return new TextDecoder().decode(await passed(bytes, new DecompressionStream("deflate-raw")));
+  } catch {
+    throw new AddressFault("the course of the address cannot be unpacked: the link is cut");
+  }
+}
+return { COURSE_TITLE, readCourse, lessonText, courseAddress, courseOfAddress };
 })();
 
 // course/lesson.js
 const $course_lesson = (() => {
-const { readFault } = $engine_answers;
+const { readFault, sentenceOn } = $engine_answers;
 const { askList, TO_BREAK, verdictOnLacking } = $run_broken;
-const { scheduleOfDraft } = $run_draft;
-const { sentenceOn } = $run_faults;
+const { eventsAsked, scheduleOfDraft, versionOf } = $run_schedule_text;
 const { Run } = $run_moments;
-const { eventsAsked, versionOf } = $run_schedule_text;
 const { HEADER_LINES, isTrace, Trace } = $run_trace;
 const { lessonText, readCourse } = $course_course_text;
 const { conditionsOf, TooManyWays } = $course_goal_words;
@@ -5679,103 +6832,9 @@ function triedCourse(ask, text) {
 return { MOST_EVENTS, judged, conditionTexts, missingIn, triedCourse };
 })();
 
-// page/kept.js
-const $page_kept = (() => {
+// story/kept.js
+const $story_kept = (() => {
 const { BOOK_NAME } = $made_book;
-const { CLASSICS } = $made_classics;
-const { byId } = $page_dom;
-const { announce, held, now } = $page_now;
-const KEPT = "listset-page-2";
-const KEPT_BEFORE = "listset-page"; // one text, as the page kept it before
-const HERE = "listset-here"; // the address of what was shown last
-const MOST_WORKS = 60; // the oldest ones go
-
-function keptUnder(name) {
-  try {
-    return JSON.parse(localStorage.getItem(name));
-  } catch {
-    return null;
-  }
-}
-
-function keepUnder(name, value) {
-  try {
-    localStorage.setItem(name, JSON.stringify(value));
-    return true;
-  } catch {
-    return false;
-  }
-}
-
-const isText = (value) => typeof value === "string";
-const isWork = (kept) => typeof kept?.text === "string" && typeof kept.box === "string" && Number.isInteger(kept.count);
-const KINDS = ["own", "example", "lesson", "seed"];
-const isTask = (task) => KINDS.includes(task?.kind) && isText(task.id) && isText(task.course);
-
-function taskOfName(name) {
-  const [, lesson, course = BOOK_NAME] = /^lesson ([a-z0-9-]+)(?: of (.+?))?(?: \d+)?$/.exec(name) ?? [];
-  if (lesson !== undefined) return { kind: "lesson", id: lesson, course };
-  const [, example] = /^from ([a-z-]+)(?: \d+)?$/.exec(name) ?? [];
-  if (Object.hasOwn(CLASSICS, example)) return { kind: "example", id: example, course: "" };
-  return { kind: "own", id: "", course: "" };
-}
-
-/** @type {(entry: any[]) => [string, any]} */
-const workOf = ([name, kept]) => [name, { ...kept, task: isTask(kept.task) ? kept.task : taskOfName(name) }];
-
-const works = {
-  /** @type {Map<string, any>} */
-  byName: new Map(),
-  isKept: true,
-
-  load() {
-    const kept = keptUnder(KEPT);
-    const before = keptUnder(KEPT_BEFORE);
-    const entries = Array.isArray(kept) ? kept : isWork(before) ? [["my schedule", before]] : [];
-    const isGood = (entry) => Array.isArray(entry) && isText(entry[0]) && isWork(entry[1]);
-    this.byName = new Map(entries.filter(isGood).map(workOf));
-  },
-
-  set(name, work) {
-    this.byName.delete(name);
-    this.byName.set(name, work);
-    const names = [...this.byName.keys()];
-    for (const old of names.slice(0, Math.max(0, names.length - MOST_WORKS))) this.byName.delete(old);
-    this.isKept = keepUnder(KEPT, [...this.byName]);
-  },
-
-  last(isWanted) {
-    return [...this.byName].findLast(([, work]) => isWanted(work))?.[0] ?? null;
-  },
-
-  nameOf(text, lacks = null) {
-    return this.last((work) => work.text === text && (work.lacks ?? null) === lacks);
-  },
-
-  newName(word) {
-    for (let number = 1; ; number++) {
-      const name = number === 1 ? word : `${word} ${number}`;
-      if (!this.byName.has(name)) return name;
-    }
-  },
-};
-
-function keepWork() {
-  const box = byId("schedule").value;
-  const { run, task } = now;
-  const isLookedAt = box === run.text && run.text === task.begun;
-  if (held.engine === null || run.text === "" || isLookedAt || task.work === "") return;
-  const before = works.byName.get(task.work);
-  if (before?.text === run.text && before.box === box && before.count === run.count) return;
-  const { kind, id } = task;
-  works.set(task.work, { text: run.text, box, count: run.count, lacks: run.lacks, task: { kind, id, course: "" } });
-  announce("kept");
-}
-return { HERE, keptUnder, keepUnder, isText, works, keepWork };
-})();
-
-// story/kept_story.js
-const $story_kept_story = (() => {
 const { LACKING } = $made_classics;
 const { isText, keepUnder, keptUnder } = $page_kept;
 const { change } = $page_now;
@@ -5809,7 +6868,42 @@ function startAfresh(button) {
   location.hash = "#story=1&gone=yes"; // the first screen says so
   location.reload();
 }
-return { keptStory, keepStory, brokenLines, isBrokenOnce, keepBrokenLine, isNamed, keepNamed, startAfresh };
+
+
+const LESSONS_KEPT = "listset-lessons-2";
+const LESSONS_KEPT_BEFORE = "listset-lessons-1"; // the book's alone, as the page kept them before
+const textsKept = (kept) => Object.entries(kept ?? {}).filter(([, text]) => isText(text));
+const namesKept = (kept) => (Array.isArray(kept) ? kept.filter(isText) : []);
+
+class KeptLessons {
+  constructor() {
+    const kept = keptUnder(LESSONS_KEPT) ?? { of: { [BOOK_NAME]: keptUnder(LESSONS_KEPT_BEFORE) } };
+    this.student = isText(kept.student) ? kept.student : "";
+    this.course = isText(kept.course) ? kept.course : BOOK_NAME;
+    this.courses = new Map(textsKept(kept.courses));
+    this.of = new Map(Object.entries(kept.of ?? {}).map(([name, own]) => [name, ownOf(own)]));
+  }
+
+  ofCourse(name) {
+    if (!this.of.has(name)) this.of.set(name, ownOf({}));
+    return this.of.get(name);
+  }
+
+  save() {
+    const { student, course } = this;
+    const toObject = ({ solutions, looked }) => ({ solutions: Object.fromEntries(solutions), looked: [...looked] });
+    const of = Object.fromEntries([...this.of].map(([name, own]) => [name, toObject(own)]));
+    return keepUnder(LESSONS_KEPT, { student, course, courses: Object.fromEntries(this.courses), of });
+  }
+}
+
+function ownOf(kept) {
+  return {
+    solutions: new Map(textsKept(kept?.solutions)),
+    looked: new Set(namesKept(kept?.looked)),
+  };
+}
+return { keptStory, keepStory, brokenLines, isBrokenOnce, keepBrokenLine, isNamed, keepNamed, startAfresh, KeptLessons };
 })();
 
 // story/assignment.js
@@ -5827,7 +6921,7 @@ const { NO_TASK } = $run_broken;
 const { inLetters } = $run_markup;
 const { eventsAsked } = $run_schedule_text;
 const { partsOfSeed, scheduleOfSeed } = $run_seed;
-const { brokenLines, keptStory } = $story_kept_story;
+const { brokenLines, keptStory } = $story_kept;
 const known = { course: null };
 
 const bookCourse = () => (known.course ??= triedCourse(askNow, BOOK));
@@ -6072,9 +7166,8 @@ return { handInText, textsIn, readHandIn, judgedPart };
 const $run_check_trace = (() => {
 const { LACKING } = $made_classics;
 const { LISTS } = $made_rows;
-const { CALL_WORDS, firstOpeningNode, HEADER_LINES, KEY_REGISTERS, MOST_NUMBER, NODE_REGISTERS } = $run_trace;
-const MOST_THREADS = 64;
-const MOST_QUOTA = 16384;
+const { State } = $run_state;
+const { CALL_WORDS, KEY_REGISTERS, NODE_REGISTERS, Trace } = $run_trace;
 const NUMBER = "(?:0|[1-9]\\d{0,9})";
 const NODE = `(?:head|tail|n${NUMBER})`;
 const KEY = `(?:[-+]inf|${NUMBER})`;
@@ -6089,98 +7182,62 @@ function accessOf([field, value]) {
 const ACCESS = Object.entries(VALUES).map(accessOf).join("|");
 const registers = (names, value) => names.map((name) => `(?: ${name} ${value})?`).join("");
 const CHANGES = `${registers(NODE_REGISTERS, NODE)}${registers(KEY_REGISTERS, KEY)}(?: used ${NUMBER})?(?: reply (?:none|${REPLY}))?`;
-const BEGIN = `begin (?:${CALL_WORDS.join("|")}) ${NUMBER} call (?<begun>${NUMBER}) pc ${NUMBER}`;
-const STEP = `(?:${ACCESS}) pc ${NUMBER}${CHANGES}(?<change> (?:put|took) ${NUMBER})?(?: answer ${REPLY} call (?<ended>${NUMBER}) at (?<at>${NUMBER}))?`;
-const EVENT = new RegExp(`^event (?<number>${NUMBER}) line (?<line>${NUMBER}) thread (?<thread>${NUMBER}) (?:${BEGIN}|${STEP})$`);
-const OTHER_LINE = new RegExp(`^(?:chain(?: ${NUMBER}\\*?)*|refused line ${NUMBER} (?:NoThread|Busy|Idle|Lost))$`);
+const BEGIN = `begin (?:${CALL_WORDS.join("|")}) ${NUMBER} call ${NUMBER} pc ${NUMBER}`;
+const STEP = `(?:${ACCESS}) pc ${NUMBER}${CHANGES}(?: (?:put|took) ${NUMBER})?(?: answer ${REPLY} call ${NUMBER} at ${NUMBER})?`;
+const EVENT = new RegExp(`^event (${NUMBER}) line ${NUMBER} thread (${NUMBER}) (?:${BEGIN}|${STEP})$`);
+const CHAIN = new RegExp(`^chain(?: ${NUMBER}\\*?)*$`);
+const LAST = new RegExp(`^(?:end|refused line ${NUMBER} (?:NoThread|Busy|Idle|Lost))$`);
 
-class TraceFault extends Error {}
+const HEAD = [
+  (line) => line === "listset-trace 1",
+  (line) => line.startsWith("list ") && Object.hasOwn(LISTS, line.slice("list ".length)),
+  (line, list) => !line.startsWith("lacks ") || LACKING[line.slice("lacks ".length)] === list.slice("list ".length),
+  (line) => /^threads ([1-9]|[1-5]\d|6[0-4])$/.test(line),
+  (line) => /^quota (0|[1-9]\d{0,4})$/.test(line),
+];
 
-function failAt(number, fault) {
-  throw new TraceFault(`line ${number}: ${fault}`);
-}
-
-function readHead(lines) {
-  const names = ["listset-trace", "list", ...(lines[2]?.startsWith("lacks ") ? ["lacks"] : []), "threads", "quota"];
-  const values = names.map((name, at) => {
-    const [word, value, ...more] = lines[at].split(" ");
-    return word === name && more.length === 0 ? value : failAt(at + 1, `expected "${name}" and a value`);
-  });
-  const { list, lacks, threads, quota } = Object.fromEntries(names.map((name, at) => [name, values[at]]));
-  const isNumber = (value, least, most) => /^\d+$/.test(value) && String(Number(value)) === value && least <= Number(value) && Number(value) <= most;
-  const tests = { "listset-trace": values[0] === "1", list: Object.hasOwn(LISTS, list), lacks: LACKING[lacks] === list };
-  Object.assign(tests, { threads: isNumber(threads, 1, MOST_THREADS), quota: isNumber(quota, 0, MOST_QUOTA) });
-  const wrong = names.findIndex((name) => !tests[name]);
-  if (wrong !== -1) failAt(wrong + 1, `"${values[wrong]}" is no value of "${names[wrong]}"`);
-  let last = -1;
-  let at = names.length;
-  for (; lines[at]?.startsWith("opening "); at++) {
-    const key = lines[at].slice("opening ".length);
-    if (!isNumber(key, last + 1, MOST_NUMBER)) failAt(at + 1, "expected an opening key above the one before");
-    last = Number(key);
+function wrongLine(lines) {
+  const head = lines[2]?.startsWith("lacks ") ? HEAD : HEAD.filter((_, at) => at !== 2);
+  const wrong = head.findIndex((isLine, at) => !isLine(lines[at] ?? "", lines[1]));
+  if (wrong !== -1) return wrong;
+  const threads = Number(lines[head.length - 2].split(" ")[1]);
+  let [at, events] = [head.length, 0];
+  while (/^opening \d+$/.test(lines[at])) at++;
+  for (; !LAST.test(lines[at]); at++) {
+    const [, number, thread] = EVENT.exec(lines[at]) ?? [];
+    if (number === undefined ? !CHAIN.test(lines[at]) : Number(number) !== ++events || Number(thread) >= threads) return at;
   }
-  const opening = { length: at - names.length };
-  return { threads: Number(threads), quota: Number(quota), opening, first: at, head: HEADER_LINES + opening.length };
+  return lines.length === at + 2 && lines[at + 1] === "" ? -1 : at + 1;
 }
 
-function faultOfEvent({ number, line, thread, begun, ended, at, change }, run) {
-  const open = run.open[thread];
-  if (Number(number) !== ++run.events) return `expected event ${run.events}`;
-  if (Number(line) < Math.max(run.line, run.head + 1) || Number(line) > Math.max(run.line, run.head) + 1) return `line ${line} of the schedule does not come next`;
-  run.line = Number(line);
-  if (open === undefined) return `there is no thread ${thread}`;
-  if (begun !== undefined && open !== null) return `thread ${thread} begins a call and has one open`;
-  if (begun === undefined && open === null) return `thread ${thread} makes a step and has no call open`;
-  if (begun !== undefined) {
-    run.open[thread] = { id: run.calls, least: run.events, most: null };
-    return Number(begun) === run.calls++ ? null : `expected call ${run.calls - 1}`;
+function wrongEvent(text) {
+  let count = 0;
+  try {
+    const trace = new Trace(text);
+    const state = new State(trace);
+    for (; count < trace.total; count++) {
+      state.moveTo(count + 1);
+      if (state.threads[trace.event(count + 1).thread].call === null) return count + 1;
+    }
+    return null;
+  } catch {
+    return count + 1;
   }
-  if (change !== undefined) Object.assign(open, { least: run.events, most: run.events });
-  if (ended === undefined) return null;
-  run.open[thread] = null;
-  if (Number(ended) !== open.id) return `expected an answer of call ${open.id}`;
-  return open.least <= Number(at) && Number(at) <= (open.most ?? run.events) ? null : `the call does not take effect at event ${at}`;
-}
-
-function isOfSet(line, run) {
-  const most = firstOpeningNode(run) + run.opening.length;
-  const numbers = (form) => Array.from(line.matchAll(form), ([, value]) => Number(value));
-  return numbers(/(\d+)/g).every((value) => value <= MOST_NUMBER) && numbers(/\bn(\d+)/g).every((value) => value >= 2 && value < most) &&
-    numbers(/\bt(\d+)/g).every((value) => value < run.threads);
-}
-
-function readWhole(text) {
-  const lines = text.split("\n");
-  const head = readHead(lines);
-  const run = { ...head, open: Array(head.threads).fill(null), events: 0, calls: 0, line: 0 };
-  let at = run.first;
-  for (; lines[at] !== "end" && !lines[at - 1].startsWith("refused "); at++) {
-    const line = lines[at] ?? failAt(at + 1, 'expected a line "end"');
-    const event = /** @type {any} */ (EVENT.exec(line)?.groups);
-    if ((event === undefined && !OTHER_LINE.test(line)) || !isOfSet(line, run)) failAt(at + 1, `"${line.slice(0, 80)}" is no line of a trace`);
-    const fault = event === undefined ? null : faultOfEvent(event, run);
-    if (fault !== null) failAt(at + 1, fault);
-  }
-  const end = lines[at] === "end" ? at + 1 : at;
-  if (end !== lines.length - 1 || lines[end] !== "") failAt(end, "expected the end of the trace here, and one newline");
 }
 
 function faultOfTrace(text) {
-  try {
-    readWhole(text);
-    return null;
-  } catch (fault) {
-    if (!(fault instanceof TraceFault)) throw fault;
-    return fault.message;
-  }
+  const lines = text.split("\n");
+  const at = wrongLine(lines);
+  if (at !== -1) return `line ${at + 1}: "${(lines[at] ?? "").slice(0, 80)}" is no line of a trace here`;
+  const event = wrongEvent(text);
+  return event === null ? null : `event ${event} cannot come here`;
 }
 return { faultOfTrace };
 })();
 
 // run/recorded.js
 const $run_recorded = (() => {
-const { callsOfRecording, leavesKey, readVerdict } = $engine_answers;
-const { sentenceOn } = $run_faults;
+const { callsOfRecording, leavesKey, readVerdict, sentenceOn } = $engine_answers;
 const { nameOfCall } = $run_judged;
 const RECORDED_EXAMPLE = `listset-calls 1
 opening 8
@@ -6261,1015 +7318,6 @@ function verdictOnCalls(ask, answer, text) {
   return { kind: "fault", says: troubleInWords(ask, judged.fault), reasons: [], calls: [], from: null };
 }
 return { RECORDED_EXAMPLE, withNewline, recordedInWords, reasonsOf, verdictOnCalls };
-})();
-
-// engine/engine.js
-const $engine_engine = (() => {
-const FIRST_ROOM = 1 << 22; // bytes handed to the engine for its answer, at first
-const LARGE_MEMORY = 1 << 28; // past so many bytes an instance is not used again
-
-class Engine {
-  /** @param {(input: bigint, room: Uint8Array) => number} read */
-  constructor(module, read = () => -1) {
-    this.module = module;
-    /** @type {any} */
-    this.instance = null;
-    this.host = { env: { read: (input, at, count) => BigInt(read(input, this.piece(Number(at), Number(count)))) } };
-  }
-
-  piece(at, count) {
-    return new Uint8Array(this.instance.exports.memory.buffer, at, count);
-  }
-
-  static async start() {
-    const bytes = await engineBytes();
-    return new Engine(await WebAssembly.compile(bytes));
-  }
-
-  ask(name, ...texts) {
-    const encoder = new TextEncoder();
-    return this.askBytes(name, ...texts.map((text) => encoder.encode(text)));
-  }
-
-  askBytes(name, ...given) {
-    return this.answered((exports) => answerOf(exports, name, given));
-  }
-
-  judgeFrom(input) {
-    return this.answered((exports) => answerInRoom(exports, "listset_judge_from", [[input]], FIRST_ROOM));
-  }
-
-  answered(answer) {
-    if (this.instance === null || this.instance.exports.memory.buffer.byteLength > LARGE_MEMORY) {
-      this.instance = new WebAssembly.Instance(this.module, this.host);
-    }
-    try {
-      return answer(this.instance.exports);
-    } catch (fault) {
-      this.instance = null; // after a trap the memory is not looked at again
-      throw new Error(`the engine stopped: ${fault.message}`);
-    }
-  }
-}
-
-async function engineBytes() {
-  if (typeof ENGINE === "undefined" && location.protocol === "file:") await loadScript("engine.js");
-  if (typeof ENGINE !== "undefined") return Uint8Array.from(atob(ENGINE), (letter) => letter.charCodeAt(0));
-  const answer = await fetch("listset.wasm");
-  if (!answer.ok) throw new Error(`listset.wasm: ${answer.status} ${answer.statusText}`);
-  return answer.arrayBuffer();
-}
-
-function loadScript(src) {
-  return new Promise((done, fail) => {
-    const onerror = () => fail(new Error(`${src} is not beside the page`));
-    document.head.append(Object.assign(document.createElement("script"), { src, onload: done, onerror }));
-  });
-}
-
-function answerOf(engine, name, given) {
-  const texts = textsOf(engine, engine[name].length, given);
-  let answer = answerInRoom(engine, name, texts, FIRST_ROOM);
-  if (answer.bytes === null) answer = answerInRoom(engine, name, texts, answer.length);
-  texts.forEach(([block]) => engine.page_free(block));
-  if (answer.bytes === null) throw new Error("two answers to one text");
-  return { status: answer.status, text: new TextDecoder().decode(answer.bytes), bytes: answer.bytes };
-}
-
-function textsOf(engine, parameters, given) {
-  return Array.from({ length: (parameters - 3) / 2 }, (_, at) => {
-    const text = given[at] ?? new Uint8Array(0);
-    const block = blockOf(engine, text.length);
-    new Uint8Array(engine.memory.buffer, Number(block), text.length).set(text);
-    return [block, BigInt(text.length)];
-  });
-}
-
-function answerInRoom(engine, name, texts, room) {
-  const out = blockOf(engine, room);
-  const status = blockOf(engine, 1);
-  const count = Number(engine[name](...texts.flat(), out, BigInt(room), status));
-  const memory = engine.memory.buffer;
-  const bytes = count <= room ? new Uint8Array(memory, Number(out), count).slice() : null;
-  const said = new Uint8Array(memory, Number(status), 1)[0];
-  engine.page_free(out);
-  engine.page_free(status);
-  return { bytes, length: count, status: said };
-}
-
-function blockOf(engine, length) {
-  const block = engine.page_alloc(BigInt(Math.max(length, 1)));
-  if (!block) throw new Error("no memory");
-  return block;
-}
-return { FIRST_ROOM, LARGE_MEMORY, Engine, answerOf, textsOf, answerInRoom, blockOf };
-})();
-
-// engine/worker.js
-const $engine_worker = (() => {
-const { answerInRoom, answerOf, blockOf, Engine, FIRST_ROOM, LARGE_MEMORY, textsOf } = $engine_engine;
-const EVENT_ROOM = 96; // bytes of a trace's line, so that the engine is asked once
-
-const workerText = (room) => `"use strict";
-const FIRST_ROOM = ${room};
-const LARGE_MEMORY = ${LARGE_MEMORY};
-${[Engine, answerOf, textsOf, answerInRoom, blockOf].join("\n")}
-onmessage = ({ data: { module, name, given } }) => {
-  try {
-    const { status, bytes } = new Engine(module).askBytes(name, given);
-    postMessage({ status, bytes }, [bytes.buffer]);
-  } catch (fault) {
-    postMessage({ status: 1, bytes: new TextEncoder().encode(fault.message) });
-  }
-};`;
-
-function askInWorker(module, name, text, events) {
-  const place = URL.createObjectURL(new Blob([workerText(FIRST_ROOM + EVENT_ROOM * events)], { type: "text/javascript" }));
-  const worker = new Worker(place);
-  const came = new Promise((done) => {
-    worker.onerror = () => done(null);
-    worker.onmessage = ({ data }) => done({ status: data.status, text: new TextDecoder().decode(data.bytes) });
-    worker.postMessage({ module, name, given: new TextEncoder().encode(text) });
-  });
-  const answer = came.finally(() => {
-    worker.terminate();
-    URL.revokeObjectURL(place);
-  });
-  return { worker, answer };
-}
-return { askInWorker };
-})();
-
-// page/long_run.js
-const $page_long_run = (() => {
-const { askInWorker } = $engine_worker;
-const { eventsAsked } = $run_schedule_text;
-const { byId } = $page_dom;
-const { askNow, held, now, tellFault } = $page_now;
-const MANY_EVENTS = 20000; // so many run beside the page, with a button to cancel that
-const LONG_TEXT = 200000; // characters of a report that has no picture here
-const longRun = { worker: null, timer: 0 };
-
-async function askLong(name, text, isOfRun = true) {
-  const events = eventsAsked(text);
-  if (text.length < LONG_TEXT && events < MANY_EVENTS) return askNow(name, text);
-  try {
-    const { worker, answer } = askInWorker(held.engine.module, name, text, events);
-    if (isOfRun) longRun.worker = worker;
-    const came = await answer;
-    if (came !== null) return came;
-  } catch {
-  }
-  await new Promise((done) => requestAnimationFrame(() => setTimeout(done)));
-  return askNow(name, text);
-}
-
-async function runLong(text, asked, take) {
-  stopLong();
-  const begun = Date.now();
-  const tellTime = () => {
-    const seconds = Math.round((Date.now() - begun) / 1000);
-    byId("long-said").textContent = `running ${asked.toLocaleString("en")} events: ${seconds} s`;
-  };
-  tellTime();
-  longRun.timer = setInterval(tellTime, 1000);
-  byId("long").hidden = false;
-  const answer = await askLong("listset_trace", text);
-  if (now.run.text !== text || byId("long").hidden) return;
-  stopLong();
-  take(answer);
-}
-
-function stopLong() {
-  clearInterval(longRun.timer);
-  longRun.worker?.terminate();
-  longRun.worker = null;
-  if (byId("long").contains(document.activeElement)) byId("slider").focus();
-  byId("long").hidden = true;
-}
-
-function cancelLong() {
-  stopLong();
-  tellFault(null, "", "The run was cancelled. Run begins it again.");
-}
-return { MANY_EVENTS, LONG_TEXT, askLong, runLong, stopLong, cancelLong };
-})();
-
-// made/traces.js
-const $made_traces = (() => {
-// What the engine prints of the classic examples, by make_traces.js: shown where a browser cannot run it.
-
-const EXAMPLES = `
-failed-tries              coarse      two adds of one key: the second's tries of the lock fail
-full                      coarse      an add beyond its thread's quota; a remove gives no slot back
-hand-over-hand            fine        a remover waits for an adder before it, then goes hand over hand
-same-gap                  optimistic  two adds into one gap: the second sees the changed link and walks again
-stale-pred                optimistic  pred is taken out after the walk: the second walk does not find it
-marked-in-chain           lazy        contains answers false, and the key's node is still in the chain
-marked-pred               lazy        pred is marked after the walk: its link gives it away
-read-in-anothers-step     lazy        contains stands in the step of the thread that removed its key
-ceiling-in-anothers-step  lazy        the answer of ceiling fits after steps of the other thread, and after none of its own
-opens-with-keys           lazy        two opening keys take no slot, and the remove of one gives none back
-two-removers              lock-free   two removes of one key: one marks, the other walks again and answers false
-snip                      lock-free   an add takes out the node that a remove has marked
-tries-again               lock-free   an exchange fails, and the add walks again with the same slot
-left-in-chain             lock-free   a remove has ended, and its node is still in the chain: contains answers false
-ceiling-meets-mark        lock-free   the node at which ceiling stops is marked: it walks again and answers nothing
-ceiling-left-in-chain     lock-free   ceiling stops at the node of a remove that has ended: it may not answer that key
-behind-the-walk           lock-free   a key comes in behind the walk of ceiling, which answers the key above it
-nothing-in-anothers-step  lock-free   ceiling answers nothing, and a key is there just after each of its own steps
-`.slice(1);
-
-const TRACES = {
-  "failed-tries": `
-listset-trace 1
-list coarse
-threads 2
-quota 4
-event 1 line 5 thread 0 begin add 5 call 0 pc 1
-event 2 line 6 thread 1 begin add 5 call 1 pc 1
-event 3 line 7 thread 0 exchange list.lock from free to t0 saw free pc 2
-event 4 line 8 thread 1 exchange list.lock from free to t1 saw t0 pc 1
-event 5 line 8 thread 1 exchange list.lock from free to t1 saw t0 pc 1
-event 6 line 8 thread 1 exchange list.lock from free to t1 saw t0 pc 1
-event 7 line 9 thread 0 load head.link saw tail pc 3 curr tail
-event 8 line 9 thread 0 load tail.key saw +inf pc 5 ckey +inf
-event 9 line 9 thread 0 store n2.key 5 pc 6
-event 10 line 9 thread 0 store n2.link tail pc 7
-event 11 line 9 thread 0 store head.link n2 pc 10 used 1 reply true put 5
-event 12 line 9 thread 0 store list.lock free pc 0 answer true call 0 at 11
-event 13 line 10 thread 1 exchange list.lock from free to t1 saw free pc 2
-event 14 line 10 thread 1 load head.link saw n2 pc 3 curr n2
-event 15 line 10 thread 1 load n2.key saw 5 pc 10 ckey 5 reply false
-event 16 line 10 thread 1 store list.lock free pc 0 answer false call 1 at 11
-end
-`.slice(1),
-  "full": `
-listset-trace 1
-list coarse
-threads 1
-quota 1
-event 1 line 5 thread 0 begin add 5 call 0 pc 1
-event 2 line 6 thread 0 exchange list.lock from free to t0 saw free pc 2
-event 3 line 6 thread 0 load head.link saw tail pc 3 curr tail
-event 4 line 6 thread 0 load tail.key saw +inf pc 5 ckey +inf
-event 5 line 6 thread 0 store n2.key 5 pc 6
-event 6 line 6 thread 0 store n2.link tail pc 7
-event 7 line 6 thread 0 store head.link n2 pc 10 used 1 reply true put 5
-event 8 line 6 thread 0 store list.lock free pc 0 answer true call 0 at 7
-event 9 line 7 thread 0 begin remove 5 call 1 pc 1
-event 10 line 8 thread 0 exchange list.lock from free to t0 saw free pc 2
-event 11 line 8 thread 0 load head.link saw n2 pc 3 curr n2
-event 12 line 8 thread 0 load n2.key saw 5 pc 8 ckey 5
-event 13 line 8 thread 0 load n2.link saw tail pc 9 succ tail
-event 14 line 8 thread 0 store head.link tail pc 10 reply true took 5
-event 15 line 8 thread 0 store list.lock free pc 0 answer true call 1 at 14
-event 16 line 9 thread 0 begin add 7 call 2 pc 1
-event 17 line 10 thread 0 exchange list.lock from free to t0 saw free pc 2
-event 18 line 10 thread 0 load head.link saw tail pc 3 curr tail
-event 19 line 10 thread 0 load tail.key saw +inf pc 10 ckey +inf reply full
-event 20 line 10 thread 0 store list.lock free pc 0 answer full call 2 at 16
-end
-`.slice(1),
-  "hand-over-hand": `
-listset-trace 1
-list fine
-threads 2
-quota 4
-event 1 line 5 thread 1 begin add 9 call 0 pc 1
-event 2 line 6 thread 1 exchange head.lock from free to t1 saw free pc 2
-event 3 line 6 thread 1 load head.link saw tail pc 3 curr tail
-event 4 line 6 thread 1 exchange tail.lock from free to t1 saw free pc 4
-event 5 line 6 thread 1 load tail.key saw +inf pc 7 ckey +inf
-event 6 line 6 thread 1 store n6.key 9 pc 8
-event 7 line 6 thread 1 store n6.link tail pc 9
-event 8 line 6 thread 1 store head.link n6 pc 12 used 1 reply true put 9
-event 9 line 6 thread 1 store tail.lock free pc 13
-event 10 line 6 thread 1 store head.lock free pc 0 answer true call 0 at 8
-event 11 line 7 thread 0 begin add 5 call 1 pc 1
-event 12 line 8 thread 1 begin remove 9 call 2 pc 1
-event 13 line 9 thread 0 exchange head.lock from free to t0 saw free pc 2
-event 14 line 9 thread 0 load head.link saw n6 pc 3 curr n6
-event 15 line 9 thread 0 exchange n6.lock from free to t0 saw free pc 4
-event 16 line 9 thread 0 load n6.key saw 9 pc 7 ckey 9
-event 17 line 10 thread 1 exchange head.lock from free to t1 saw t0 pc 1
-event 18 line 10 thread 1 exchange head.lock from free to t1 saw t0 pc 1
-event 19 line 11 thread 0 store n2.key 5 pc 8
-event 20 line 11 thread 0 store n2.link n6 pc 9
-event 21 line 11 thread 0 store head.link n2 pc 12 used 1 reply true put 5
-event 22 line 11 thread 0 store n6.lock free pc 13
-event 23 line 11 thread 0 store head.lock free pc 0 answer true call 1 at 21
-event 24 line 12 thread 1 exchange head.lock from free to t1 saw free pc 2
-event 25 line 12 thread 1 load head.link saw n2 pc 3 curr n2
-event 26 line 12 thread 1 exchange n2.lock from free to t1 saw free pc 4
-event 27 line 12 thread 1 load n2.key saw 5 pc 5 ckey 5
-event 28 line 12 thread 1 store head.lock free pc 6
-event 29 line 12 thread 1 load n2.link saw n6 pc 3 pred n2 curr n6
-event 30 line 12 thread 1 exchange n6.lock from free to t1 saw free pc 4
-event 31 line 12 thread 1 load n6.key saw 9 pc 10 ckey 9
-event 32 line 12 thread 1 load n6.link saw tail pc 11 succ tail
-event 33 line 12 thread 1 store n2.link tail pc 12 reply true took 9
-event 34 line 12 thread 1 store n6.lock free pc 13
-event 35 line 12 thread 1 store n2.lock free pc 0 answer true call 2 at 33
-end
-`.slice(1),
-  "same-gap": `
-listset-trace 1
-list optimistic
-threads 2
-quota 4
-event 1 line 5 thread 0 begin add 5 call 0 pc 1
-event 2 line 6 thread 1 begin add 7 call 1 pc 1
-event 3 line 7 thread 0 load head.link saw tail pc 2 curr tail
-event 4 line 7 thread 0 load tail.key saw +inf pc 4 ckey +inf
-event 5 line 8 thread 1 load head.link saw tail pc 2 curr tail
-event 6 line 8 thread 1 load tail.key saw +inf pc 4 ckey +inf
-event 7 line 9 thread 1 exchange head.lock from free to t1 saw free pc 5
-event 8 line 9 thread 1 exchange tail.lock from free to t1 saw free pc 8
-event 9 line 9 thread 1 load head.link saw tail pc 9
-event 10 line 9 thread 1 store n6.key 7 pc 10
-event 11 line 9 thread 1 store n6.link tail pc 11
-event 12 line 9 thread 1 store head.link n6 pc 14 used 1 reply true put 7
-event 13 line 9 thread 1 store head.lock free pc 15
-event 14 line 9 thread 1 store tail.lock free pc 0 answer true call 1 at 12
-event 15 line 10 thread 0 exchange head.lock from free to t0 saw free pc 5
-event 16 line 10 thread 0 exchange tail.lock from free to t0 saw free pc 8
-event 17 line 10 thread 0 load head.link saw n6 pc 14
-event 18 line 10 thread 0 store head.lock free pc 15
-event 19 line 10 thread 0 store tail.lock free pc 1
-event 20 line 10 thread 0 load head.link saw n6 pc 2 curr n6
-event 21 line 10 thread 0 load n6.key saw 7 pc 4 ckey 7
-event 22 line 10 thread 0 exchange head.lock from free to t0 saw free pc 5
-event 23 line 10 thread 0 exchange n6.lock from free to t0 saw free pc 8
-event 24 line 10 thread 0 load head.link saw n6 pc 9
-event 25 line 10 thread 0 store n2.key 5 pc 10
-event 26 line 10 thread 0 store n2.link n6 pc 11
-event 27 line 10 thread 0 store head.link n2 pc 14 used 1 reply true put 5
-event 28 line 10 thread 0 store head.lock free pc 15
-event 29 line 10 thread 0 store n6.lock free pc 0 answer true call 0 at 27
-end
-`.slice(1),
-  "stale-pred": `
-listset-trace 1
-list optimistic
-threads 2
-quota 4
-event 1 line 5 thread 1 begin add 3 call 0 pc 1
-event 2 line 6 thread 1 load head.link saw tail pc 2 curr tail
-event 3 line 6 thread 1 load tail.key saw +inf pc 4 ckey +inf
-event 4 line 6 thread 1 exchange head.lock from free to t1 saw free pc 5
-event 5 line 6 thread 1 exchange tail.lock from free to t1 saw free pc 8
-event 6 line 6 thread 1 load head.link saw tail pc 9
-event 7 line 6 thread 1 store n6.key 3 pc 10
-event 8 line 6 thread 1 store n6.link tail pc 11
-event 9 line 6 thread 1 store head.link n6 pc 14 used 1 reply true put 3
-event 10 line 6 thread 1 store head.lock free pc 15
-event 11 line 6 thread 1 store tail.lock free pc 0 answer true call 0 at 9
-event 12 line 7 thread 0 begin add 5 call 1 pc 1
-event 13 line 8 thread 0 load head.link saw n6 pc 2 curr n6
-event 14 line 8 thread 0 load n6.key saw 3 pc 3 ckey 3
-event 15 line 8 thread 0 load n6.link saw tail pc 2 pred n6 curr tail pkey 3
-event 16 line 8 thread 0 load tail.key saw +inf pc 4 ckey +inf
-event 17 line 9 thread 1 begin remove 3 call 2 pc 1
-event 18 line 10 thread 1 load head.link saw n6 pc 2 curr n6
-event 19 line 10 thread 1 load n6.key saw 3 pc 4 ckey 3
-event 20 line 10 thread 1 exchange head.lock from free to t1 saw free pc 5
-event 21 line 10 thread 1 exchange n6.lock from free to t1 saw free pc 8
-event 22 line 10 thread 1 load head.link saw n6 pc 12
-event 23 line 10 thread 1 load n6.link saw tail pc 13 succ tail
-event 24 line 10 thread 1 store head.link tail pc 14 reply true took 3
-event 25 line 10 thread 1 store head.lock free pc 15
-event 26 line 10 thread 1 store n6.lock free pc 0 answer true call 2 at 24
-event 27 line 11 thread 0 exchange n6.lock from free to t0 saw free pc 5
-event 28 line 11 thread 0 exchange tail.lock from free to t0 saw free pc 6
-event 29 line 11 thread 0 load head.link saw tail pc 7 node tail
-event 30 line 11 thread 0 load tail.key saw +inf pc 14
-event 31 line 11 thread 0 store n6.lock free pc 15
-event 32 line 11 thread 0 store tail.lock free pc 1
-event 33 line 11 thread 0 load head.link saw tail pc 2 pred head pkey -inf
-event 34 line 11 thread 0 load tail.key saw +inf pc 4
-event 35 line 11 thread 0 exchange head.lock from free to t0 saw free pc 5
-event 36 line 11 thread 0 exchange tail.lock from free to t0 saw free pc 8 node head
-event 37 line 11 thread 0 load head.link saw tail pc 9
-event 38 line 11 thread 0 store n2.key 5 pc 10
-event 39 line 11 thread 0 store n2.link tail pc 11
-event 40 line 11 thread 0 store head.link n2 pc 14 used 1 reply true put 5
-event 41 line 11 thread 0 store head.lock free pc 15
-event 42 line 11 thread 0 store tail.lock free pc 0 answer true call 1 at 40
-end
-`.slice(1),
-  "marked-in-chain": `
-listset-trace 1
-list lazy
-threads 2
-quota 4
-event 1 line 5 thread 1 begin add 5 call 0 pc 1
-event 2 line 6 thread 1 load head.link saw tail pc 2 curr tail
-event 3 line 6 thread 1 load tail.key saw +inf pc 4 ckey +inf
-event 4 line 6 thread 1 exchange head.lock from free to t1 saw free pc 5
-event 5 line 6 thread 1 exchange tail.lock from free to t1 saw free pc 6
-event 6 line 6 thread 1 load head.link saw tail pc 7
-event 7 line 6 thread 1 load tail.link saw tail pc 8 succ tail
-event 8 line 6 thread 1 store n6.key 5 pc 9
-event 9 line 6 thread 1 store n6.link tail pc 10
-event 10 line 6 thread 1 store head.link n6 pc 13 used 1 reply true put 5
-event 11 line 6 thread 1 store tail.lock free pc 14
-event 12 line 6 thread 1 store head.lock free pc 0 answer true call 0 at 10
-event 13 line 7 thread 1 begin remove 5 call 1 pc 1
-event 14 line 8 thread 1 load head.link saw n6 pc 2 curr n6
-event 15 line 8 thread 1 load n6.key saw 5 pc 4 ckey 5
-event 16 line 8 thread 1 exchange head.lock from free to t1 saw free pc 5
-event 17 line 8 thread 1 exchange n6.lock from free to t1 saw free pc 6
-event 18 line 8 thread 1 load head.link saw n6 pc 7
-event 19 line 8 thread 1 load n6.link saw tail pc 11 succ tail
-event 20 line 8 thread 1 store n6.link tail* pc 12 took 5
-event 21 line 9 thread 0 begin contains 5 call 2 pc 20
-event 22 line 10 thread 0 load head.link saw n6 pc 21 curr n6
-event 23 line 10 thread 0 load n6.key saw 5 pc 22
-event 24 line 10 thread 0 load n6.link saw tail* pc 0 answer false call 2 at 21
-event 25 line 11 thread 1 store head.link tail pc 13 reply true
-event 26 line 11 thread 1 store n6.lock free pc 14
-event 27 line 11 thread 1 store head.lock free pc 0 answer true call 1 at 20
-end
-`.slice(1),
-  "marked-pred": `
-listset-trace 1
-list lazy
-threads 2
-quota 4
-event 1 line 5 thread 1 begin add 3 call 0 pc 1
-event 2 line 6 thread 1 load head.link saw tail pc 2 curr tail
-event 3 line 6 thread 1 load tail.key saw +inf pc 4 ckey +inf
-event 4 line 6 thread 1 exchange head.lock from free to t1 saw free pc 5
-event 5 line 6 thread 1 exchange tail.lock from free to t1 saw free pc 6
-event 6 line 6 thread 1 load head.link saw tail pc 7
-event 7 line 6 thread 1 load tail.link saw tail pc 8 succ tail
-event 8 line 6 thread 1 store n6.key 3 pc 9
-event 9 line 6 thread 1 store n6.link tail pc 10
-event 10 line 6 thread 1 store head.link n6 pc 13 used 1 reply true put 3
-event 11 line 6 thread 1 store tail.lock free pc 14
-event 12 line 6 thread 1 store head.lock free pc 0 answer true call 0 at 10
-event 13 line 7 thread 0 begin add 5 call 1 pc 1
-event 14 line 8 thread 0 load head.link saw n6 pc 2 curr n6
-event 15 line 8 thread 0 load n6.key saw 3 pc 3 ckey 3
-event 16 line 8 thread 0 load n6.link saw tail pc 2 pred n6 curr tail
-event 17 line 8 thread 0 load tail.key saw +inf pc 4 ckey +inf
-event 18 line 9 thread 1 begin remove 3 call 2 pc 1
-event 19 line 10 thread 1 load head.link saw n6 pc 2 curr n6
-event 20 line 10 thread 1 load n6.key saw 3 pc 4 ckey 3
-event 21 line 10 thread 1 exchange head.lock from free to t1 saw free pc 5
-event 22 line 10 thread 1 exchange n6.lock from free to t1 saw free pc 6
-event 23 line 10 thread 1 load head.link saw n6 pc 7
-event 24 line 10 thread 1 load n6.link saw tail pc 11 succ tail
-event 25 line 10 thread 1 store n6.link tail* pc 12 took 3
-event 26 line 10 thread 1 store head.link tail pc 13 reply true
-event 27 line 10 thread 1 store n6.lock free pc 14
-event 28 line 10 thread 1 store head.lock free pc 0 answer true call 2 at 25
-event 29 line 11 thread 0 exchange n6.lock from free to t0 saw free pc 5
-event 30 line 11 thread 0 exchange tail.lock from free to t0 saw free pc 6
-event 31 line 11 thread 0 load n6.link saw tail* pc 13
-event 32 line 11 thread 0 store tail.lock free pc 14
-event 33 line 11 thread 0 store n6.lock free pc 1
-event 34 line 11 thread 0 load head.link saw tail pc 2 pred head
-event 35 line 11 thread 0 load tail.key saw +inf pc 4
-event 36 line 11 thread 0 exchange head.lock from free to t0 saw free pc 5
-event 37 line 11 thread 0 exchange tail.lock from free to t0 saw free pc 6
-event 38 line 11 thread 0 load head.link saw tail pc 7
-event 39 line 11 thread 0 load tail.link saw tail pc 8 succ tail
-event 40 line 11 thread 0 store n2.key 5 pc 9
-event 41 line 11 thread 0 store n2.link tail pc 10
-event 42 line 11 thread 0 store head.link n2 pc 13 used 1 reply true put 5
-event 43 line 11 thread 0 store tail.lock free pc 14
-event 44 line 11 thread 0 store head.lock free pc 0 answer true call 1 at 42
-end
-`.slice(1),
-  "read-in-anothers-step": `
-listset-trace 1
-list lazy
-threads 2
-quota 4
-event 1 line 5 thread 1 begin add 5 call 0 pc 1
-event 2 line 6 thread 1 load head.link saw tail pc 2 curr tail
-event 3 line 6 thread 1 load tail.key saw +inf pc 4 ckey +inf
-event 4 line 6 thread 1 exchange head.lock from free to t1 saw free pc 5
-event 5 line 6 thread 1 exchange tail.lock from free to t1 saw free pc 6
-event 6 line 6 thread 1 load head.link saw tail pc 7
-event 7 line 6 thread 1 load tail.link saw tail pc 8 succ tail
-event 8 line 6 thread 1 store n6.key 5 pc 9
-event 9 line 6 thread 1 store n6.link tail pc 10
-event 10 line 6 thread 1 store head.link n6 pc 13 used 1 reply true put 5
-event 11 line 6 thread 1 store tail.lock free pc 14
-event 12 line 6 thread 1 store head.lock free pc 0 answer true call 0 at 10
-event 13 line 7 thread 0 begin contains 5 call 1 pc 20
-event 14 line 8 thread 0 load head.link saw n6 pc 21 curr n6
-event 15 line 8 thread 0 load n6.key saw 5 pc 22
-event 16 line 9 thread 1 begin remove 5 call 2 pc 1
-event 17 line 10 thread 1 load head.link saw n6 pc 2 curr n6
-event 18 line 10 thread 1 load n6.key saw 5 pc 4 ckey 5
-event 19 line 10 thread 1 exchange head.lock from free to t1 saw free pc 5
-event 20 line 10 thread 1 exchange n6.lock from free to t1 saw free pc 6
-event 21 line 10 thread 1 load head.link saw n6 pc 7
-event 22 line 10 thread 1 load n6.link saw tail pc 11 succ tail
-event 23 line 10 thread 1 store n6.link tail* pc 12 took 5
-event 24 line 10 thread 1 store head.link tail pc 13 reply true
-event 25 line 10 thread 1 store n6.lock free pc 14
-event 26 line 10 thread 1 store head.lock free pc 0 answer true call 2 at 23
-event 27 line 11 thread 1 begin add 5 call 3 pc 1
-event 28 line 12 thread 1 load head.link saw tail pc 2 curr tail
-event 29 line 12 thread 1 load tail.key saw +inf pc 4 ckey +inf
-event 30 line 12 thread 1 exchange head.lock from free to t1 saw free pc 5
-event 31 line 12 thread 1 exchange tail.lock from free to t1 saw free pc 6
-event 32 line 12 thread 1 load head.link saw tail pc 7
-event 33 line 12 thread 1 load tail.link saw tail pc 8 succ tail
-event 34 line 12 thread 1 store n7.key 5 pc 9
-event 35 line 12 thread 1 store n7.link tail pc 10
-event 36 line 12 thread 1 store head.link n7 pc 13 used 2 reply true put 5
-event 37 line 12 thread 1 store tail.lock free pc 14
-event 38 line 12 thread 1 store head.lock free pc 0 answer true call 3 at 36
-event 39 line 13 thread 0 load n6.link saw tail* pc 0 answer false call 1 at 23
-end
-`.slice(1),
-  "ceiling-in-anothers-step": `
-listset-trace 1
-list lazy
-threads 2
-quota 2
-opening 5
-event 1 line 6 thread 0 begin ceiling 6 call 0 pc 23
-event 2 line 7 thread 0 load head.link saw n6 pc 24 curr n6
-event 3 line 7 thread 0 load n6.key saw 5 pc 23 ckey 5
-event 4 line 8 thread 1 begin add 9 call 1 pc 1
-event 5 line 9 thread 1 load head.link saw n6 pc 2 curr n6
-event 6 line 9 thread 1 load n6.key saw 5 pc 3 ckey 5
-event 7 line 9 thread 1 load n6.link saw tail pc 2 pred n6 curr tail
-event 8 line 9 thread 1 load tail.key saw +inf pc 4 ckey +inf
-event 9 line 9 thread 1 exchange n6.lock from free to t1 saw free pc 5
-event 10 line 9 thread 1 exchange tail.lock from free to t1 saw free pc 6
-event 11 line 9 thread 1 load n6.link saw tail pc 7
-event 12 line 9 thread 1 load tail.link saw tail pc 8 succ tail
-event 13 line 9 thread 1 store n4.key 9 pc 9
-event 14 line 9 thread 1 store n4.link tail pc 10
-event 15 line 9 thread 1 store n6.link n4 pc 13 used 1 reply true put 9
-event 16 line 9 thread 1 store tail.lock free pc 14
-event 17 line 9 thread 1 store n6.lock free pc 0 answer true call 1 at 15
-event 18 line 10 thread 1 begin remove 5 call 2 pc 1
-event 19 line 11 thread 1 load head.link saw n6 pc 2 curr n6
-event 20 line 11 thread 1 load n6.key saw 5 pc 4 ckey 5
-event 21 line 11 thread 1 exchange head.lock from free to t1 saw free pc 5
-event 22 line 11 thread 1 exchange n6.lock from free to t1 saw free pc 6
-event 23 line 11 thread 1 load head.link saw n6 pc 7
-event 24 line 11 thread 1 load n6.link saw n4 pc 11 succ n4
-event 25 line 11 thread 1 store n6.link n4* pc 12 took 5
-event 26 line 11 thread 1 store head.link n4 pc 13 reply true
-event 27 line 11 thread 1 store n6.lock free pc 14
-event 28 line 11 thread 1 store head.lock free pc 0 answer true call 2 at 25
-event 29 line 12 thread 1 begin add 7 call 3 pc 1
-event 30 line 13 thread 1 load head.link saw n4 pc 2 curr n4
-event 31 line 13 thread 1 load n4.key saw 9 pc 4 ckey 9
-event 32 line 13 thread 1 exchange head.lock from free to t1 saw free pc 5
-event 33 line 13 thread 1 exchange n4.lock from free to t1 saw free pc 6
-event 34 line 13 thread 1 load head.link saw n4 pc 7
-event 35 line 13 thread 1 load n4.link saw tail pc 8 succ tail
-event 36 line 13 thread 1 store n5.key 7 pc 9
-event 37 line 13 thread 1 store n5.link n4 pc 10
-event 38 line 13 thread 1 store head.link n5 pc 13 used 2 reply true put 7
-event 39 line 13 thread 1 store n4.lock free pc 14
-event 40 line 13 thread 1 store head.lock free pc 0 answer true call 3 at 38
-event 41 line 14 thread 0 load n6.link saw n4* pc 24 curr n4
-event 42 line 14 thread 0 load n4.key saw 9 pc 25 ckey 9
-event 43 line 14 thread 0 load n4.link saw tail pc 0 answer at-9 call 0 at 15
-end
-`.slice(1),
-  "opens-with-keys": `
-listset-trace 1
-list lazy
-threads 1
-quota 1
-opening 5
-opening 9
-event 1 line 7 thread 0 begin remove 5 call 0 pc 1
-event 2 line 8 thread 0 load head.link saw n3 pc 2 curr n3
-event 3 line 8 thread 0 load n3.key saw 5 pc 4 ckey 5
-event 4 line 8 thread 0 exchange head.lock from free to t0 saw free pc 5
-event 5 line 8 thread 0 exchange n3.lock from free to t0 saw free pc 6
-event 6 line 8 thread 0 load head.link saw n3 pc 7
-event 7 line 8 thread 0 load n3.link saw n4 pc 11 succ n4
-event 8 line 8 thread 0 store n3.link n4* pc 12 took 5
-event 9 line 8 thread 0 store head.link n4 pc 13 reply true
-event 10 line 8 thread 0 store n3.lock free pc 14
-event 11 line 8 thread 0 store head.lock free pc 0 answer true call 0 at 8
-event 12 line 9 thread 0 begin ceiling 0 call 1 pc 23
-event 13 line 10 thread 0 load head.link saw n4 pc 24 curr n4
-event 14 line 10 thread 0 load n4.key saw 9 pc 25 ckey 9
-event 15 line 10 thread 0 load n4.link saw tail pc 0 answer at-9 call 1 at 12
-event 16 line 11 thread 0 begin add 7 call 2 pc 1
-event 17 line 12 thread 0 load head.link saw n4 pc 2 curr n4
-event 18 line 12 thread 0 load n4.key saw 9 pc 4 ckey 9
-event 19 line 12 thread 0 exchange head.lock from free to t0 saw free pc 5
-event 20 line 12 thread 0 exchange n4.lock from free to t0 saw free pc 6
-event 21 line 12 thread 0 load head.link saw n4 pc 7
-event 22 line 12 thread 0 load n4.link saw tail pc 8 succ tail
-event 23 line 12 thread 0 store n2.key 7 pc 9
-event 24 line 12 thread 0 store n2.link n4 pc 10
-event 25 line 12 thread 0 store head.link n2 pc 13 used 1 reply true put 7
-event 26 line 12 thread 0 store n4.lock free pc 14
-event 27 line 12 thread 0 store head.lock free pc 0 answer true call 2 at 25
-event 28 line 13 thread 0 begin add 8 call 3 pc 1
-event 29 line 14 thread 0 load head.link saw n2 pc 2 curr n2
-event 30 line 14 thread 0 load n2.key saw 7 pc 3 ckey 7
-event 31 line 14 thread 0 load n2.link saw n4 pc 2 pred n2 curr n4
-event 32 line 14 thread 0 load n4.key saw 9 pc 4 ckey 9
-event 33 line 14 thread 0 exchange n2.lock from free to t0 saw free pc 5
-event 34 line 14 thread 0 exchange n4.lock from free to t0 saw free pc 6
-event 35 line 14 thread 0 load n2.link saw n4 pc 7
-event 36 line 14 thread 0 load n4.link saw tail pc 13 succ tail reply full
-event 37 line 14 thread 0 store n4.lock free pc 14
-event 38 line 14 thread 0 store n2.lock free pc 0 answer full call 3 at 28
-end
-`.slice(1),
-  "two-removers": `
-listset-trace 1
-list lock-free
-threads 2
-quota 4
-event 1 line 5 thread 0 begin add 5 call 0 pc 1
-event 2 line 6 thread 0 load head.link saw tail pc 2 curr tail
-event 3 line 6 thread 0 load tail.link saw tail pc 4 succ tail
-event 4 line 6 thread 0 load tail.key saw +inf pc 5
-event 5 line 6 thread 0 store n2.key 5 pc 6
-event 6 line 6 thread 0 store n2.link tail pc 7
-event 7 line 6 thread 0 exchange head.link from tail to n2 saw tail pc 0 used 1 put 5 answer true call 0 at 7
-event 8 line 7 thread 0 begin remove 5 call 1 pc 1
-event 9 line 8 thread 1 begin remove 5 call 2 pc 1
-event 10 line 9 thread 0 load head.link saw n2 pc 2 curr n2
-event 11 line 9 thread 0 load n2.link saw tail pc 4 succ tail
-event 12 line 9 thread 0 load n2.key saw 5 pc 8
-event 13 line 9 thread 0 load n2.link saw tail pc 9
-event 14 line 10 thread 1 load head.link saw n2 pc 2 curr n2
-event 15 line 10 thread 1 load n2.link saw tail pc 4 succ tail
-event 16 line 10 thread 1 load n2.key saw 5 pc 8
-event 17 line 10 thread 1 load n2.link saw tail pc 9
-event 18 line 11 thread 1 exchange n2.link from tail to tail* saw tail pc 10 took 5
-event 19 line 11 thread 1 exchange head.link from n2 to tail saw n2 pc 0 answer true call 2 at 18
-event 20 line 12 thread 0 exchange n2.link from tail to tail* saw tail* pc 1
-event 21 line 12 thread 0 load head.link saw tail pc 2 curr tail
-event 22 line 12 thread 0 load tail.link saw tail pc 4
-event 23 line 12 thread 0 load tail.key saw +inf pc 0 reply false answer false call 1 at 18
-end
-`.slice(1),
-  "snip": `
-listset-trace 1
-list lock-free
-threads 2
-quota 4
-event 1 line 5 thread 0 begin add 5 call 0 pc 1
-event 2 line 6 thread 0 load head.link saw tail pc 2 curr tail
-event 3 line 6 thread 0 load tail.link saw tail pc 4 succ tail
-event 4 line 6 thread 0 load tail.key saw +inf pc 5
-event 5 line 6 thread 0 store n2.key 5 pc 6
-event 6 line 6 thread 0 store n2.link tail pc 7
-event 7 line 6 thread 0 exchange head.link from tail to n2 saw tail pc 0 used 1 put 5 answer true call 0 at 7
-event 8 line 7 thread 0 begin remove 5 call 1 pc 1
-event 9 line 8 thread 0 load head.link saw n2 pc 2 curr n2
-event 10 line 8 thread 0 load n2.link saw tail pc 4 succ tail
-event 11 line 8 thread 0 load n2.key saw 5 pc 8
-event 12 line 8 thread 0 load n2.link saw tail pc 9
-event 13 line 8 thread 0 exchange n2.link from tail to tail* saw tail pc 10 took 5
-event 14 line 9 thread 1 begin add 7 call 2 pc 1
-event 15 line 10 thread 1 load head.link saw n2 pc 2 curr n2
-event 16 line 10 thread 1 load n2.link saw tail* pc 3 succ tail
-event 17 line 10 thread 1 exchange head.link from n2 to tail saw n2 pc 2 curr tail
-event 18 line 10 thread 1 load tail.link saw tail pc 4
-event 19 line 10 thread 1 load tail.key saw +inf pc 5
-event 20 line 10 thread 1 store n6.key 7 pc 6
-event 21 line 10 thread 1 store n6.link tail pc 7
-event 22 line 10 thread 1 exchange head.link from tail to n6 saw tail pc 0 used 1 put 7 answer true call 2 at 22
-event 23 line 11 thread 0 exchange head.link from n2 to tail saw n6 pc 0 answer true call 1 at 13
-end
-`.slice(1),
-  "tries-again": `
-listset-trace 1
-list lock-free
-threads 2
-quota 4
-event 1 line 5 thread 0 begin add 5 call 0 pc 1
-event 2 line 6 thread 1 begin add 7 call 1 pc 1
-event 3 line 7 thread 0 load head.link saw tail pc 2 curr tail
-event 4 line 7 thread 0 load tail.link saw tail pc 4 succ tail
-event 5 line 7 thread 0 load tail.key saw +inf pc 5
-event 6 line 7 thread 0 store n2.key 5 pc 6
-event 7 line 7 thread 0 store n2.link tail pc 7
-event 8 line 8 thread 1 load head.link saw tail pc 2 curr tail
-event 9 line 8 thread 1 load tail.link saw tail pc 4 succ tail
-event 10 line 8 thread 1 load tail.key saw +inf pc 5
-event 11 line 8 thread 1 store n6.key 7 pc 6
-event 12 line 8 thread 1 store n6.link tail pc 7
-event 13 line 8 thread 1 exchange head.link from tail to n6 saw tail pc 0 used 1 put 7 answer true call 1 at 13
-event 14 line 9 thread 0 exchange head.link from tail to n2 saw n6 pc 1
-event 15 line 9 thread 0 load head.link saw n6 pc 2 curr n6
-event 16 line 9 thread 0 load n6.link saw tail pc 4
-event 17 line 9 thread 0 load n6.key saw 7 pc 5
-event 18 line 9 thread 0 store n2.key 5 pc 6
-event 19 line 9 thread 0 store n2.link n6 pc 7
-event 20 line 9 thread 0 exchange head.link from n6 to n2 saw n6 pc 0 used 1 put 5 answer true call 0 at 20
-end
-`.slice(1),
-  "left-in-chain": `
-listset-trace 1
-list lock-free
-threads 2
-quota 4
-event 1 line 5 thread 0 begin add 5 call 0 pc 1
-event 2 line 6 thread 0 load head.link saw tail pc 2 curr tail
-event 3 line 6 thread 0 load tail.link saw tail pc 4 succ tail
-event 4 line 6 thread 0 load tail.key saw +inf pc 5
-event 5 line 6 thread 0 store n2.key 5 pc 6
-event 6 line 6 thread 0 store n2.link tail pc 7
-event 7 line 6 thread 0 exchange head.link from tail to n2 saw tail pc 0 used 1 put 5 answer true call 0 at 7
-event 8 line 7 thread 0 begin add 3 call 1 pc 1
-event 9 line 8 thread 0 load head.link saw n2 pc 2 curr n2
-event 10 line 8 thread 0 load n2.link saw tail pc 4 succ tail
-event 11 line 8 thread 0 load n2.key saw 5 pc 5
-event 12 line 8 thread 0 store n3.key 3 pc 6
-event 13 line 8 thread 0 store n3.link n2 pc 7
-event 14 line 9 thread 1 begin remove 5 call 2 pc 1
-event 15 line 10 thread 1 load head.link saw n2 pc 2 curr n2
-event 16 line 10 thread 1 load n2.link saw tail pc 4 succ tail
-event 17 line 10 thread 1 load n2.key saw 5 pc 8
-event 18 line 10 thread 1 load n2.link saw tail pc 9
-event 19 line 10 thread 1 exchange n2.link from tail to tail* saw tail pc 10 took 5
-event 20 line 11 thread 0 exchange head.link from n2 to n3 saw n2 pc 0 used 2 put 3 answer true call 1 at 20
-event 21 line 12 thread 1 exchange head.link from n2 to tail saw n3 pc 0 answer true call 2 at 19
-event 22 line 13 thread 0 begin contains 5 call 3 pc 20
-event 23 line 14 thread 0 load head.link saw n3 pc 21 curr n3
-event 24 line 14 thread 0 load n3.key saw 3 pc 20
-event 25 line 14 thread 0 load n3.link saw n2 pc 21 curr n2
-event 26 line 14 thread 0 load n2.key saw 5 pc 22
-event 27 line 14 thread 0 load n2.link saw tail* pc 0 answer false call 3 at 22
-end
-`.slice(1),
-  "ceiling-meets-mark": `
-listset-trace 1
-list lock-free
-threads 2
-quota 4
-event 1 line 5 thread 1 begin add 5 call 0 pc 1
-event 2 line 6 thread 1 load head.link saw tail pc 2 curr tail
-event 3 line 6 thread 1 load tail.link saw tail pc 4 succ tail
-event 4 line 6 thread 1 load tail.key saw +inf pc 5
-event 5 line 6 thread 1 store n6.key 5 pc 6
-event 6 line 6 thread 1 store n6.link tail pc 7
-event 7 line 6 thread 1 exchange head.link from tail to n6 saw tail pc 0 used 1 put 5 answer true call 0 at 7
-event 8 line 7 thread 0 begin ceiling 3 call 1 pc 23
-event 9 line 8 thread 0 load head.link saw n6 pc 24 curr n6
-event 10 line 8 thread 0 load n6.key saw 5 pc 25 ckey 5
-event 11 line 9 thread 1 begin remove 5 call 2 pc 1
-event 12 line 10 thread 1 load head.link saw n6 pc 2 curr n6
-event 13 line 10 thread 1 load n6.link saw tail pc 4 succ tail
-event 14 line 10 thread 1 load n6.key saw 5 pc 8
-event 15 line 10 thread 1 load n6.link saw tail pc 9
-event 16 line 10 thread 1 exchange n6.link from tail to tail* saw tail pc 10 took 5
-event 17 line 10 thread 1 exchange head.link from n6 to tail saw n6 pc 0 answer true call 2 at 16
-event 18 line 11 thread 0 load n6.link saw tail* pc 23 curr head
-event 19 line 11 thread 0 load head.link saw tail pc 24 curr tail
-event 20 line 11 thread 0 load tail.key saw +inf pc 0 ckey +inf answer nothing call 1 at 16
-end
-`.slice(1),
-  "ceiling-left-in-chain": `
-listset-trace 1
-list lock-free
-threads 2
-quota 4
-event 1 line 5 thread 0 begin add 5 call 0 pc 1
-event 2 line 6 thread 0 load head.link saw tail pc 2 curr tail
-event 3 line 6 thread 0 load tail.link saw tail pc 4 succ tail
-event 4 line 6 thread 0 load tail.key saw +inf pc 5
-event 5 line 6 thread 0 store n2.key 5 pc 6
-event 6 line 6 thread 0 store n2.link tail pc 7
-event 7 line 6 thread 0 exchange head.link from tail to n2 saw tail pc 0 used 1 put 5 answer true call 0 at 7
-event 8 line 7 thread 0 begin add 3 call 1 pc 1
-event 9 line 8 thread 0 load head.link saw n2 pc 2 curr n2
-event 10 line 8 thread 0 load n2.link saw tail pc 4 succ tail
-event 11 line 8 thread 0 load n2.key saw 5 pc 5
-event 12 line 8 thread 0 store n3.key 3 pc 6
-event 13 line 8 thread 0 store n3.link n2 pc 7
-event 14 line 9 thread 1 begin remove 5 call 2 pc 1
-event 15 line 10 thread 1 load head.link saw n2 pc 2 curr n2
-event 16 line 10 thread 1 load n2.link saw tail pc 4 succ tail
-event 17 line 10 thread 1 load n2.key saw 5 pc 8
-event 18 line 10 thread 1 load n2.link saw tail pc 9
-event 19 line 10 thread 1 exchange n2.link from tail to tail* saw tail pc 10 took 5
-event 20 line 11 thread 0 exchange head.link from n2 to n3 saw n2 pc 0 used 2 put 3 answer true call 1 at 20
-event 21 line 12 thread 1 exchange head.link from n2 to tail saw n3 pc 0 answer true call 2 at 19
-event 22 line 13 thread 0 begin ceiling 4 call 3 pc 23
-event 23 line 14 thread 0 load head.link saw n3 pc 24 curr n3
-event 24 line 14 thread 0 load n3.key saw 3 pc 23 ckey 3
-event 25 line 14 thread 0 load n3.link saw n2 pc 24 curr n2
-event 26 line 14 thread 0 load n2.key saw 5 pc 25 ckey 5
-event 27 line 14 thread 0 load n2.link saw tail* pc 23 curr head
-event 28 line 15 thread 1 begin add 7 call 4 pc 1
-event 29 line 16 thread 1 load head.link saw n3 pc 2 curr n3
-event 30 line 16 thread 1 load n3.link saw n2 pc 4 succ n2
-event 31 line 16 thread 1 load n3.key saw 3 pc 2 pred n3 curr n2
-event 32 line 16 thread 1 load n2.link saw tail* pc 3 succ tail
-event 33 line 16 thread 1 exchange n3.link from n2 to tail saw n2 pc 2 curr tail
-event 34 line 16 thread 1 load tail.link saw tail pc 4
-event 35 line 16 thread 1 load tail.key saw +inf pc 5
-event 36 line 16 thread 1 store n6.key 7 pc 6
-event 37 line 16 thread 1 store n6.link tail pc 7
-event 38 line 16 thread 1 exchange n3.link from tail to n6 saw tail pc 0 used 1 put 7 answer true call 4 at 38
-event 39 line 17 thread 0 load head.link saw n3 pc 24 curr n3
-event 40 line 17 thread 0 load n3.key saw 3 pc 23 ckey 3
-event 41 line 17 thread 0 load n3.link saw n6 pc 24 curr n6
-event 42 line 17 thread 0 load n6.key saw 7 pc 25 ckey 7
-event 43 line 17 thread 0 load n6.link saw tail pc 0 answer at-7 call 3 at 38
-end
-`.slice(1),
-  "behind-the-walk": `
-listset-trace 1
-list lock-free
-threads 2
-quota 4
-event 1 line 5 thread 1 begin add 9 call 0 pc 1
-event 2 line 6 thread 1 load head.link saw tail pc 2 curr tail
-event 3 line 6 thread 1 load tail.link saw tail pc 4 succ tail
-event 4 line 6 thread 1 load tail.key saw +inf pc 5
-event 5 line 6 thread 1 store n6.key 9 pc 6
-event 6 line 6 thread 1 store n6.link tail pc 7
-event 7 line 6 thread 1 exchange head.link from tail to n6 saw tail pc 0 used 1 put 9 answer true call 0 at 7
-event 8 line 7 thread 0 begin ceiling 3 call 1 pc 23
-event 9 line 8 thread 0 load head.link saw n6 pc 24 curr n6
-event 10 line 9 thread 1 begin add 5 call 2 pc 1
-event 11 line 10 thread 1 load head.link saw n6 pc 2 curr n6
-event 12 line 10 thread 1 load n6.link saw tail pc 4 succ tail
-event 13 line 10 thread 1 load n6.key saw 9 pc 5
-event 14 line 10 thread 1 store n7.key 5 pc 6
-event 15 line 10 thread 1 store n7.link n6 pc 7
-event 16 line 10 thread 1 exchange head.link from n6 to n7 saw n6 pc 0 used 2 put 5 answer true call 2 at 16
-event 17 line 11 thread 0 load n6.key saw 9 pc 25 ckey 9
-event 18 line 11 thread 0 load n6.link saw tail pc 0 answer at-9 call 1 at 8
-end
-`.slice(1),
-  "nothing-in-anothers-step": `
-listset-trace 1
-list lock-free
-threads 2
-quota 1
-opening 5
-opening 7
-event 1 line 7 thread 0 begin ceiling 6 call 0 pc 23
-event 2 line 8 thread 0 load head.link saw n4 pc 24 curr n4
-event 3 line 8 thread 0 load n4.key saw 5 pc 23 ckey 5
-event 4 line 9 thread 1 begin remove 7 call 1 pc 1
-event 5 line 10 thread 1 load head.link saw n4 pc 2 curr n4
-event 6 line 10 thread 1 load n4.link saw n5 pc 4 succ n5
-event 7 line 10 thread 1 load n4.key saw 5 pc 2 pred n4 curr n5
-event 8 line 10 thread 1 load n5.link saw tail pc 4 succ tail
-event 9 line 10 thread 1 load n5.key saw 7 pc 8
-event 10 line 10 thread 1 load n5.link saw tail pc 9
-event 11 line 10 thread 1 exchange n5.link from tail to tail* saw tail pc 10 took 7
-event 12 line 10 thread 1 exchange n4.link from n5 to tail saw n5 pc 0 answer true call 1 at 11
-event 13 line 11 thread 1 begin remove 5 call 2 pc 1
-event 14 line 12 thread 1 load head.link saw n4 pc 2 curr n4
-event 15 line 12 thread 1 load n4.link saw tail pc 4 succ tail
-event 16 line 12 thread 1 load n4.key saw 5 pc 8
-event 17 line 12 thread 1 load n4.link saw tail pc 9
-event 18 line 12 thread 1 exchange n4.link from tail to tail* saw tail pc 10 took 5
-event 19 line 12 thread 1 exchange head.link from n4 to tail saw n4 pc 0 answer true call 2 at 18
-event 20 line 13 thread 1 begin add 7 call 3 pc 1
-event 21 line 14 thread 1 load head.link saw tail pc 2 curr tail
-event 22 line 14 thread 1 load tail.link saw tail pc 4 succ tail
-event 23 line 14 thread 1 load tail.key saw +inf pc 5
-event 24 line 14 thread 1 store n3.key 7 pc 6
-event 25 line 14 thread 1 store n3.link tail pc 7
-event 26 line 14 thread 1 exchange head.link from tail to n3 saw tail pc 0 used 1 put 7 answer true call 3 at 26
-event 27 line 15 thread 0 load n4.link saw tail* pc 24 curr tail
-event 28 line 15 thread 0 load tail.key saw +inf pc 0 ckey +inf answer nothing call 0 at 11
-end
-`.slice(1),
-};
-return { EXAMPLES, TRACES };
-})();
-
-// page/example.js
-const $page_example = (() => {
-const { EXAMPLES, TRACES } = $made_traces;
-const { readExamples } = $engine_answers;
-const { Trace } = $run_trace;
-const { showMarks } = $page_editor;
-const { askNow, change, held, takeScheduleOfTrace, takeTrace } = $page_now;
-const KEPT_BESIDE = "a trace that is kept beside the page";
-const known = { examples: null };
-
-function examples() {
-  if (held.engine === null) return readExamples(EXAMPLES);
-  known.examples ??= readExamples(askNow("listset_examples", "").text);
-  return known.examples;
-}
-
-const isExample = (name) => examples().some((one) => one.name === name);
-
-function exampleText(name) {
-  if (held.engine === null || name === "") return null;
-  const answer = askNow("listset_example", name);
-  return answer.status === 0 ? answer.text : null;
-}
-
-function openKept(name, count) {
-  change("task", { task: { kind: "example", id: name, work: "" } });
-  takeTrace(new Trace(TRACES[name]), count, KEPT_BESIDE);
-  takeScheduleOfTrace();
-  showMarks();
-}
-return { examples, isExample, exampleText, openKept };
-})();
-
-// page/work.js
-const $page_work = (() => {
-const { askList } = $run_broken;
-const { scheduleOfDraft } = $run_draft;
-const { eventsAsked, openingIn, versionOf, withOpening } = $run_schedule_text;
-const { eventsInCommon, isTrace, Trace } = $run_trace;
-const { byId } = $page_dom;
-const { showMarks } = $page_editor;
-const { exampleText } = $page_example;
-const { keepWork, works } = $page_kept;
-const { MANY_EVENTS, runLong, stopLong } = $page_long_run;
-const { announce, askNow, change, held, NO_ENGINE, now, takeTrace, tell, tellFault, tellLine } = $page_now;
-const { stopPlay } = $page_play;
-function beginTask(task, lacks = null) {
-  keepWork();
-  change("task", { task, lacks });
-}
-
-function openTask(task, text, at, told = "", lacks = null) {
-  beginTask({ begun: text, ...task }, lacks);
-  runText(text, at, told);
-}
-
-const ownTask = (name) => ({ kind: "own", id: "", work: works.newName(name) });
-
-function openWork(name, at = null) {
-  const { text, box, count, lacks = null, task } = works.byName.get(name);
-  const begun = task.kind === "example" ? exampleText(task.id) : "";
-  openTask({ ...task, work: name, begun }, text, at ?? count, "", lacks);
-  if (box !== text) byId("schedule").value = box;
-  showMarks();
-}
-
-const openExample = (name, count) =>
-  openTask({ kind: "example", id: name, work: works.newName(`from ${name}`) }, exampleText(name), count);
-
-const newSchedule = (list, threads, quota) =>
-  openTask(ownTask("my schedule"), `listset-schedule 1\nlist ${list}\nthreads ${threads}\nquota ${quota}\n`, 0);
-
-function runBox() {
-  const box = byId("schedule").value;
-  const { text, fault } = scheduleOfDraft(askNow, box === "" || box.endsWith("\n") ? box : `${box}\n`, now.run.lacks);
-  if (fault !== null) return tellLine(fault);
-  const { trace, count } = now.run;
-  if (now.task.kind !== "own" && text !== now.run.text) leaveTask(text);
-  const at = (made) => (made.refused === null ? Math.min(count, eventsInCommon(trace, made)) : made.total);
-  runText(text, at);
-}
-
-function leaveTask(text) {
-  byId("schedule").value = now.run.text;
-  beginTask({ ...ownTask("my schedule"), begun: text }, now.run.lacks);
-}
-
-function runWithOpening() {
-  const keys = byId("opening").value.split(/[\s,]+/).filter((key) => key !== "");
-  byId("schedule").value = withOpening(byId("schedule").value, keys);
-  runBox();
-}
-
-function showHeader(trace) {
-  byId("new-list").value = trace.kind;
-  byId("new-threads").value = trace.threads;
-  byId("new-quota").value = trace.quota;
-}
-
-function runText(text, at, told = "") {
-  stopPlay();
-  change("text", { text });
-  byId("schedule").value = text;
-  byId("opening").value = openingIn(text).join(" ");
-  if (held.engine === null) return tellFault(null, "", NO_ENGINE);
-  const asked = eventsAsked(text);
-  if (asked >= MANY_EVENTS && now.run.lacks === null) return runLong(text, asked, (answer) => takeAnswer(answer, text, at, told));
-  stopLong();
-  takeAnswer(askList(askNow, "listset_trace", now.run.lacks, text), text, at, told);
-}
-
-function takeAnswer(answer, text, at, told) {
-  const source = now.run.lacks === null ? "run by the proved replayer" : "a run of a broken list";
-  if (isTrace(answer.text)) takeTrace(new Trace(answer.text, versionOf(text), now.run.trace), at, source);
-  else tellLine(answer.text.trim());
-  tell(works.isKept ? told : `${told} This browser keeps nothing: save the schedule before you leave the page.`);
-  announce("ran");
-}
-return { beginTask, openTask, ownTask, openWork, openExample, newSchedule, runBox, runWithOpening, showHeader };
 })();
 
 // page/files.js
@@ -7400,14 +7448,46 @@ async function showOwnReport(schedule) {
 function refreshReport() {
   if (byId("report-box").open && held.engine !== null) showOwnReport(now.run.text);
 }
-return { saveText, comparedTrace, openFile, refreshReport };
+
+
+const DRAWN_BY = ["fill", "stroke", "stroke-width", "stroke-dasharray", "fill-opacity", "stroke-opacity", "opacity", "font-family",
+  "font-size", "font-weight", "font-style", "text-anchor", "paint-order", "text-decoration-line"];
+
+function drawnOut(svg) {
+  const copy = svg.cloneNode(true);
+  const parts = [...svg.querySelectorAll("*")];
+  [...copy.querySelectorAll("*")].forEach((part, index) => {
+    const style = getComputedStyle(parts[index]);
+    for (const name of DRAWN_BY) part.style.setProperty(name, style.getPropertyValue(name));
+  });
+  return copy;
+}
+
+function wholePicture() {
+  const drawings = [...byId("stage").querySelectorAll(":is(.list, .strip, #judge-bars) svg")].filter((svg) => svg.clientWidth > 0);
+  const boxes = drawings.map((svg) => ({ svg, width: svg.clientWidth, height: svg.clientHeight }));
+  const width = Math.max(...boxes.map((box) => box.width));
+  let y = 0;
+  const placed = boxes.map(({ svg, width: own, height }) => {
+    const copy = drawnOut(svg);
+    Object.entries({ x: 0, y, width: own, height }).forEach(([name, value]) => copy.setAttribute(name, value));
+    y += height + 8;
+    return new XMLSerializer().serializeToString(copy);
+  });
+  const ground = `<rect width="100%" height="100%" fill="${getComputedStyle(document.body).backgroundColor}"/>`;
+  const frame = `width="${width}" height="${y}" viewBox="0 0 ${width} ${y}"`;
+  return `<svg xmlns="http://www.w3.org/2000/svg" ${frame}>${ground}${placed.join("")}</svg>\n`;
+}
+
+const savePicture = () => saveText("page.svg", wholePicture());
+return { saveText, comparedTrace, openFile, refreshReport, savePicture };
 })();
 
 // page/visit.js
 const $page_visit = (() => {
 const { warningOf } = $run_address;
 const { escaped } = $run_markup;
-const { addressIn } = $page_address_of;
+const { addressIn } = $page_scene_address;
 const { HERE, keepUnder, keepWork } = $page_kept;
 const { held, now, tell } = $page_now;
 const { entryOf } = $page_state;
@@ -7633,7 +7713,7 @@ const { saveText } = $page_files;
 const { now } = $page_now;
 const { counted, escaped, tag } = $run_markup;
 const { linesDone, tasksOf } = $story_assignment;
-const { keepStory, keptStory, startAfresh } = $story_kept_story;
+const { keepStory, keptStory, startAfresh } = $story_kept;
 const { copyText, foot, head, part } = $story_scene;
 const titleOfAssignment = ({ id }) => id || "Assignment";
 
@@ -7718,13 +7798,18 @@ return { titleOfAssignment, assignmentView };
 // activities/watch.js
 const $activities_watch = (() => {
 const { LISTS } = $made_rows;
-const { byId } = $page_dom;
-const { examples } = $page_example;
-const { works } = $page_kept;
-const { askNow, isJudging, now } = $page_now;
-const { openTask } = $page_work;
 const { tag } = $run_markup;
+const { scheduleOfTrace } = $run_schedule_text;
 const { anotherSeed, partsOfSeed, scheduleOfSeed, seedOf } = $run_seed;
+const { byId } = $page_dom;
+const { works } = $page_kept;
+const { askNow, held, isJudging, now } = $page_now;
+const { addressOfAssignment, addressOfCode, titleIn } = $page_scene_address;
+const { examples, openTask } = $page_work;
+const { homeworkOf } = $story_assignment;
+const { titleOfAssignment } = $story_assignment_view;
+const { linesOf } = $story_live_run;
+const { titleOfScene } = $story_scene;
 const FIRST = { example: "marked-in-chain", event: 20 };
 
 function seedForm(id, verb) {
@@ -7772,21 +7857,8 @@ function drawSeedBox(seed, more) {
     if (wanted > 0) location.hash = `#seed=${seedOf(kind, wanted)}${more}`;
   };
 }
-return { FIRST, seedForm, listenToSeedForm, openSeed, taskOfWatch };
-})();
 
-// activities/place.js
-const $activities_place = (() => {
-const { titleIn } = $page_address_of;
-const { byId } = $page_dom;
-const { held, now } = $page_now;
-const { addressOfAssignment, addressOfCode } = $page_scene_address;
-const { scheduleOfTrace } = $run_schedule_text;
-const { homeworkOf } = $story_assignment;
-const { titleOfAssignment } = $story_assignment_view;
-const { linesOf } = $story_live_run;
-const { titleOfScene } = $story_scene;
-const { taskOfWatch } = $activities_watch;
+
 function showHome() {
   const homework = now.place.view === null ? homeworkOf(now.place, now.task) : null;
   byId("home").hidden = homework === null;
@@ -7811,7 +7883,7 @@ function showPlace() {
   }
   [byId("task-all").hash, byId("task-all").textContent] = links.all;
 }
-return { aimGoOn, showPlace };
+return { FIRST, seedForm, listenToSeedForm, openSeed, aimGoOn, showPlace };
 })();
 
 // activities/bench.js
@@ -7820,17 +7892,16 @@ const { LISTS } = $made_rows;
 const { drawOrder } = $draw_contents;
 const { HISTORY_LEFT } = $draw_history;
 const { drawListing } = $draw_listing;
-const { drawTable } = $draw_table;
-const { drawThreads, MOST_ROWS } = $draw_threads;
+const { drawTable, drawThreads, MOST_ROWS } = $draw_tables;
 const { byId, setAble, setHtml } = $page_dom;
-const { scrollToLine } = $page_editor;
+const { scrollToLine } = $page_work;
 const { hiddenOutcomes, isJudging, now, show, tell } = $page_now;
 const { goByHand, isPlaying } = $page_play;
 const { escaped } = $run_markup;
 const { sentenceOf } = $run_sentences;
 const { ShownRun } = $story_live_run;
 const { StillFigure } = $story_still_figure;
-const { aimGoOn } = $activities_place;
+const { aimGoOn } = $activities_watch;
 const bench = { key: "", figure: null };
 const LACKING = "The code of the correct list. The list that runs here lacks one of its checks.";
 
@@ -7919,346 +7990,17 @@ function listenToBench() {
 return { showRun, showBar, listenToBench };
 })();
 
-// course/course_link.js
-const $course_course_link = (() => {
-const { AddressFault, LONGEST_ADDRESS } = $run_address;
-async function passed(bytes, stream) {
-  return new Uint8Array(await new Response(new Blob([bytes]).stream().pipeThrough(stream)).arrayBuffer());
-}
-
-async function courseAddress(text) {
-  const lines = text.split("\n").filter((line) => line.trim() !== "" && !line.startsWith("#"));
-  const bytes = await passed(new TextEncoder().encode(`${lines.join("\n")}\n`), new CompressionStream("deflate-raw"));
-  const letters = btoa(Array.from(bytes, (byte) => String.fromCharCode(byte)).join(""));
-  const address = `#course=${letters.replaceAll("+", "-").replaceAll("/", "_").replace(/=+$/, "")}`;
-  return address.length <= LONGEST_ADDRESS ? address : null;
-}
-
-async function courseOfAddress(letters) {
-  try {
-    const bytes = Uint8Array.from(atob(letters.replaceAll("-", "+").replaceAll("_", "/")), (letter) => letter.charCodeAt(0));
-    return new TextDecoder().decode(await passed(bytes, new DecompressionStream("deflate-raw")));
-  } catch {
-    throw new AddressFault("the course of the address cannot be unpacked: the link is cut");
-  }
-}
-return { courseAddress, courseOfAddress };
-})();
-
-// story/ask.js
-const $story_ask = (() => {
-const QUESTIONS = [
-  {
-    name: "failed-tries", list: "coarse", title: "Two adds of one number", opening: [3, 8],
-    lines: ["begin 0 add 5", "begin 1 add 5", "go 0 1", "go 1 1"], rest: ["go 1 2", "go 0 out", "go 1 out"],
-    question: "A and B add the same number. A has the lock. Who is told true?",
-    options: [
-      { text: "Both", say: "Then 5 would have come in twice, and a set has it once." },
-      { text: "Only A", right: true, say: "" },
-      { text: "Only B", say: "B gets the lock only when A is done. What does it find then?" },
-    ],
-    why: "<b>Only A.</b> Who has the lock comes first. B tries in vain, which is a step too and changes nothing. When it gets the lock it walks, finds 5, and answers false.",
-    lacks: "lock", without: { lines: ["begin 0 add 5", "go 0 to 5", "begin 1 add 5", "go 1 out", "go 0 out"] },
-    broken: "Both are told true, and 5 came in once.",
-  },
-  {
-    name: "hand-over-hand", list: "fine", title: "Behind each other", opening: [9],
-    lines: ["begin 0 add 5", "begin 1 remove 9", "go 0 4"], rest: ["go 1 2", "go 0 out", "go 1 out"],
-    question: "A has locked the head and 9, to put 5 between them. B wants to remove 9. How far does it get?",
-    options: [
-      { text: "It gets the head: A is past it", say: "A is not: the head is A’s pred, and its arrow is the one that A will change." },
-      { text: "Not even the head", right: true, say: "" },
-      { text: "To 9, and waits there", say: "On its way it has to lock the head, as everybody." },
-    ],
-    why: "<b>Not even the head.</b> First A has to let go of it. Then B goes hand over hand: it lets go of the head only when it holds 5.",
-    lacks: "hand-over-hand", without: { opening: [3, 9], lines: ["begin 0 add 5", "go 0 7", "begin 1 remove 3", "go 1 8", "go 0 7"] },
-    broken: "5 is lost: its pred was taken out behind A’s back.",
-  },
-  {
-    name: "same-gap", list: "optimistic", title: "One gap for two", opening: [],
-    lines: ["begin 0 add 5", "begin 1 add 7", "go 0 2", "go 1 2", "go 1 out", "go 0 2"], rest: ["go 0 out"],
-    question: "Both had walked to the gap between head and tail. B was first with its 7. Now A has its locks. What does A do?",
-    options: [
-      { text: "It hangs 5 in: before 7 is right", say: "A’s curr is still the tail. Head → 5 → tail: that would lose 7." },
-      { text: "It notices, and starts again", right: true, say: "" },
-      { text: "It waits for B", say: "B is done and holds no lock." },
-    ],
-    why: "<b>It notices.</b> A looks whether its pred still points to its curr. The head points to 7 now. So A lets go of both, and walks again.",
-  },
-  {
-    name: "stale-pred", list: "optimistic", title: "A pred that is gone", opening: [3],
-    lines: ["begin 0 add 5", "go 0 4", "begin 1 remove 3", "go 1 out", "go 0 2"], rest: ["go 0 out"],
-    question: "A’s pred is 3. Meanwhile B has removed 3, whose node still points to the end. A has its locks. May A write?",
-    options: [
-      { text: "Yes: pred still points to curr", say: "It does. But who walks from the head does not come to this 3 any more." },
-      { text: "No", right: true, say: "" },
-    ],
-    why: "<b>No.</b> A node that is taken out keeps its arrow. So A walks once more from the head. This walk gets past the place of its pred and has not met it: A lets go and starts again.",
-    lacks: "second-walk",
-    broken: "5 is lost: it hangs on a node that is out of the list.",
-  },
-  {
-    name: "marked-in-chain", list: "lazy", title: "There, and removed", opening: [5],
-    lines: ["begin 1 remove 5", "go 1 to 12", "begin 0 contains 5", "go 0 2"], rest: ["go 0 out", "go 1 out"],
-    question: "B has marked 5, and has not taken it out yet. A’s walk stops at that node. What does contains(5) answer?",
-    options: [
-      { text: "true", say: "The node is in the chain. But the mark says that it is removed." },
-      { text: "false", right: true, say: "" },
-      { text: "Nothing, before B is done", say: "A takes no lock, so nobody can hold it up." },
-    ],
-    why: "<b>false.</b> It is the mark that removes 5 from the set. That its node is still in the chain does not matter. A reads one word, and takes no lock for it.",
-  },
-  {
-    name: "marked-pred", list: "lazy", title: "Warned by a mark", opening: [3],
-    lines: ["begin 0 add 5", "go 0 4", "begin 1 remove 3", "go 1 out", "go 0 2"], rest: ["go 0 out"],
-    question: "A’s pred, 3, has been removed by B. This list never walks twice. What warns A?",
-    options: [
-      { text: "The lock of 3", say: "B has given it back, and A has it now." },
-      { text: "The mark on 3", right: true, say: "" },
-      { text: "Nothing: 5 gets lost", say: "It would, if A did not look at one more word." },
-    ],
-    why: "<b>The mark.</b> B set it before it took the node out. So one look at pred does here what a whole second walk does in the optimistic list.",
-    lacks: "marks-in-validation",
-    broken: "5 is lost: it hangs on a node that is out of the list.",
-  },
-  {
-    name: "read-in-anothers-step", list: "lazy", title: "In another’s step", opening: [5],
-    lines: ["begin 0 contains 5", "go 0 2", "begin 1 remove 5", "go 1 out", "begin 1 add 5", "go 1 out"], rest: ["go 0 1"],
-    question: "At each step of A 5 was in the set, and it is in now. A is about to answer false. When is that right?",
-    options: [
-      { text: "Never: it is a bug", say: "It looks like one. But the call also runs while A stands still." },
-      { text: "Between B’s remove and B’s add", right: true, say: "" },
-      { text: "When A answers", say: "Then 5 is in the set, in a new node." },
-    ],
-    why: "<b>Between B’s two calls.</b> There 5 was not in the set, and A’s call was under way. It takes effect there, in a step of B. Who looks for it among A’s own steps finds none, and calls a correct list wrong.",
-  },
-  {
-    name: "two-removers", list: "lock-free", title: "Two removers", opening: [5],
-    lines: ["begin 0 remove 5", "begin 1 remove 5", "go 0 to 9", "go 1 to 9"], rest: ["go 1 2", "go 0 out"],
-    question: "A and B both have found 5, without a mark, and want to remove it. B comes first. What is A told?",
-    options: [
-      { text: "true", say: "A has seen 5 without a mark. But before it writes, it compares." },
-      { text: "false", right: true, say: "" },
-      { text: "It waits, and then true", say: "Nobody waits in this list." },
-    ],
-    why: "<b>false.</b> B’s CAS sets the mark. A’s CAS compares arrow and mark in one step, and fails. A walks again, and there is no 5.",
-    lacks: "mark-in-remove",
-    broken: "Both are told true, and 5 was there once.",
-  },
-  {
-    name: "snip", list: "lock-free", title: "To tidy up for others", opening: [5],
-    lines: ["begin 0 remove 5", "go 0 to 10"], rest: ["begin 1 add 7", "go 1 out", "go 0 out"], calls: { 1: [["add", 7]] },
-    question: "A has marked 5, and stops before it takes the node out. B wants to add 7 just behind it. Does B have to wait?",
-    options: [
-      { text: "Yes, until A has taken 5 out", say: "If A never came back, B would wait for ever. Here nobody waits." },
-      { text: "No: it hangs 7 behind 5", say: "Then 7 would go out of the chain together with 5." },
-      { text: "No: it takes 5 out itself", right: true, say: "" },
-    ],
-    why: "<b>B takes 5 out itself.</b> Then it hangs its 7 behind the head. A’s try to take 5 out fails then. That does not matter: A has set the mark, so it answers true.",
-    lacks: "mark-in-add", without: { lines: ["begin 1 add 7", "go 1 to 7", "begin 0 remove 5", "go 0 to 10", "go 1 out", "go 0 out"] },
-    broken: "7 is lost: it goes out of the chain together with 5.",
-  },
-  {
-    name: "tries-again", list: "lock-free", title: "A node in hand", opening: [],
-    lines: ["begin 0 add 5", "begin 1 add 7", "go 0 to 7", "go 1 out"], rest: ["go 0 out"],
-    question: "Both were at the same gap, each with its node ready. B was first. What becomes of A’s 5?",
-    options: [
-      { text: "It takes the place of 7", say: "A plain write would do that, and lose 7. A CAS compares first." },
-      { text: "A’s CAS fails, A walks again", right: true, say: "" },
-      { text: "A answers false", say: "5 is not in the set. So A may not say that it was." },
-    ],
-    why: "<b>A’s CAS fails, and changes nothing.</b> It expected the tail, and sees 7. A walks again, with the same node: nobody else has seen it yet.",
-  },
-  {
-    name: "left-in-chain", list: "lock-free", title: "Answered, and still there", opening: [5],
-    lines: ["begin 0 add 3", "go 0 to 7", "begin 1 remove 5", "go 1 to 10", "go 0 out", "go 1 out"], rest: ["begin 0 contains 5", "go 0 out"],
-    calls: { 0: [["contains", 5]] },
-    question: "B’s remove(5) has answered true, and its node is still in the chain. Now A asks contains(5). What is the answer?",
-    options: [
-      { text: "true", say: "The node is there, but look at its arrow." },
-      { text: "false", right: true, say: "" },
-      { text: "It may be either", say: "The remove has ended before the contains begins. There is one answer only." },
-    ],
-    why: "<b>false.</b> When B tried to take 5 out, the head led to 3 already, so that CAS failed. The node stays, marked, until a later walk takes it out. A sees the mark.",
-    lacks: "mark-at-key",
-    broken: "A is told true, although the remove of 5 had ended.",
-  },
-];
-return { QUESTIONS };
-})();
-
-// story/ask_more.js
-const $story_ask_more = (() => {
-const APPENDIX = [
-  {
-    name: "ceiling-in-anothers-step", list: "lazy", title: "ceiling, in another’s step", opening: [5],
-    lines: ["begin 0 ceiling 6", "go 0 2", "begin 1 add 9", "go 1 out", "begin 1 remove 5", "go 1 out", "begin 1 add 7", "go 1 out"],
-    rest: ["go 0 out"],
-    question: "A asked for the smallest number from 6 on, and stood still. Now it is 7. A is going to answer 9. Is that right?",
-    options: [
-      { text: "No: 7 is there", say: "It is, now. But the call has run for a while." },
-      { text: "Yes", right: true, say: "" },
-    ],
-    why: "<b>Yes.</b> From B’s add of 9 to its add of 7 the smallest number from 6 on was 9. A’s walk goes on from the node of 5, which is out of the chain, and whose arrow still leads to 9.",
-  },
-  {
-    name: "ceiling-meets-mark", list: "lock-free", title: "ceiling meets a mark", opening: [5],
-    lines: ["begin 0 ceiling 3", "go 0 2", "begin 1 remove 5", "go 1 out"], rest: ["go 0 out"],
-    question: "A’s ceiling(3) has come to the node of 5. Before A looks at the mark, B removes 5. What does A answer?",
-    options: [
-      { text: "5: A was there first", say: "A looks at the mark last of all, and finds one." },
-      { text: "That there is none", right: true, say: "" },
-    ],
-    why: "<b>None.</b> A finds the mark, starts again at the head, and comes to the end. From the mark on, that is right.",
-  },
-  {
-    name: "ceiling-left-in-chain", list: "lock-free", title: "ceiling, and a node left behind", opening: [5],
-    lines: ["begin 0 add 3", "go 0 to 7", "begin 1 remove 5", "go 1 to 10", "go 0 out", "go 1 out", "begin 0 ceiling 4", "go 0 3"],
-    rest: ["go 0 2", "begin 1 add 7", "go 1 out", "go 0 out"],
-    question: "The remove of 5 has ended, and its node is still in the chain. May ceiling(4) answer 5?",
-    options: [
-      { text: "Yes: it is in the chain", say: "In this list the mark counts, not the chain." },
-      { text: "No: it starts again", right: true, say: "" },
-      { text: "No: it answers that there is none", say: "It knows that only when it has come to the end." },
-    ],
-    why: "<b>It starts again.</b> The mark sends it back to the head, each time. B’s walk takes the node out, and A finds B’s 7, which came in while its call was under way.",
-  },
-  {
-    name: "behind-the-walk", list: "lock-free", title: "Behind the walk", opening: [9],
-    lines: ["begin 0 ceiling 3", "go 0 1", "begin 1 add 5", "go 1 out"], rest: ["go 0 out"],
-    question: "A’s ceiling(3) has read the arrow of the head, to 9. B adds 5 in between, and has its answer. May A answer 9?",
-    options: [
-      { text: "Yes", right: true, say: "" },
-      { text: "No: 5 is smaller, and is in", say: "It came in while A’s call was under way." },
-    ],
-    why: "<b>Yes.</b> When A read that arrow, nothing stood in between. Its call takes effect there, before the add, although the add has ended first.",
-  },
-  {
-    name: "nothing-in-anothers-step", list: "lock-free", title: "Nothing there", opening: [5, 7],
-    lines: ["begin 0 ceiling 6", "go 0 2", "begin 1 remove 7", "go 1 out", "begin 1 remove 5", "go 1 out", "begin 1 add 7", "go 1 out"],
-    rest: ["go 0 out"],
-    question: "At each step of A 7 was in the set. Its ceiling(6) is going to answer that there is none. Is that right?",
-    options: [
-      { text: "No", say: "Look at the time in which A stood still." },
-      { text: "Yes", right: true, say: "" },
-    ],
-    why: "<b>Yes.</b> Between two steps of A, B removed 7 and then 5, and added 7 again. The arrow of 5 led to the end when it was marked, and nobody changes an arrow with a mark.",
-  },
-  {
-    name: "full", list: "coarse", title: "No node left", opening: [], threads: 1, quota: 1,
-    lines: ["begin 0 add 5", "go 0 out", "begin 0 remove 5", "go 0 out", "begin 0 add 7", "go 0 3"], rest: ["go 0 out"],
-    question: "A may make one node. It has added 5, and removed it. Now it wants to add 7. Does it get the node of 5 again?",
-    options: [
-      { text: "Yes: 5 is gone", say: "Another thread may still stand at that node." },
-      { text: "No", right: true, say: "" },
-    ],
-    why: "<b>No: add answers full.</b> Each node is used once, so that nobody ever comes to a node that has another number than before.",
-  },
-  {
-    name: "opens-with-keys", list: "lazy", title: "Numbers from the start", opening: [5, 9], threads: 1, quota: 1,
-    lines: ["begin 0 remove 5", "go 0 out", "begin 0 add 7"], rest: ["go 0 out", "begin 0 add 8", "go 0 out"],
-    question: "5 and 9 were there from the start. A may make one node. It has removed 5. How many numbers can it add?",
-    options: [
-      { text: "None: 5 and 9 are two", say: "What was there from the start is nobody’s add." },
-      { text: "One", right: true, say: "" },
-      { text: "Two: it has removed one", say: "A remove gives no node back." },
-    ],
-    why: "<b>One.</b> 7 takes A’s only node, and the add of 8 answers full.",
-  },
-];
-return { APPENDIX };
-})();
-
-// story/ask_map.js
-const $story_ask_map = (() => {
-const { tag } = $run_markup;
-const { QUESTIONS } = $story_ask;
-const { APPENDIX } = $story_ask_more;
-const { keptStory } = $story_kept_story;
-const { head, LIST_WORDS } = $story_scene;
-const SIGNS = { right: ["✓", "guessed right"], wrong: ["seen", "seen"], done: ["✓", "done"] };
-
-function drawCard({ href, list, title, says, state = "" }) {
-  const [sign, words] = SIGNS[state] ?? ["", ""];
-  const shown = sign === "" ? "" : tag("i", { class: "sign", "aria-label": words }, sign);
-  return tag("a", { class: `card ${state}`, href }, tag("i", { class: "small" }, list), tag("b", {}, title), tag("span", {}, says), shown);
-}
-
-function html() {
-  const { asks } = keptStory();
-  const right = QUESTIONS.filter(({ name }) => asks[name] === "right").length;
-  const seen = QUESTIONS.filter(({ name }) => asks[name] !== undefined).length;
-  const cardOf = ({ name, list, title, question }) =>
-    drawCard({ href: `#ask=${name}`, list: LIST_WORDS[list], title, says: question, state: asks[name] });
-  const next = QUESTIONS.find(({ name }) => asks[name] === undefined) ?? QUESTIONS[0];
-  const score = `<p class="score"><b>${right}</b> of ${QUESTIONS.length} guessed right at the first try, ${seen} seen</p>`;
-  const lead = `<p class="lead">Eleven runs. Each stops just before the step on which it turns. Say what comes; then it goes on, and you may
-    change it.</p>`;
-  const verb = seen === 0 ? "Begin" : seen < QUESTIONS.length ? "Go on" : "Once more";
-  return `${head("", "Guess, then see", lead + (seen === 0 ? "" : score), "title")}<div class="cards">${QUESTIONS.map(cardOf).join("")}</div>
-    <h2>Seven more</h2><p class="prose">These lists have a fourth call, <b>ceiling</b>: the smallest number that is as big as the one
-    that is asked for, or more. And each thread may add only so many numbers.</p>
-    <div class="cards">${APPENDIX.map(cardOf).join("")}</div>
-    <footer class="foot"><a class="button quiet" href="#story=1">The path of twenty minutes</a><span class="spread"></span>
-    <a class="button primary" href="#ask=${next.name}">${verb} →</a></footer>`;
-}
-
-/** @type {import("./scene.js").View} */
-const askMapView = { kind: "asks", title: () => "Guess, then see · Why not just one lock?", html };
-return { drawCard, askMapView };
-})();
-
-// story/kept_lessons.js
-const $story_kept_lessons = (() => {
-const { BOOK_NAME } = $made_book;
-const { isText, keepUnder, keptUnder } = $page_kept;
-const LESSONS_KEPT = "listset-lessons-2";
-const LESSONS_KEPT_BEFORE = "listset-lessons-1"; // the book's alone, as the page kept them before
-const textsKept = (kept) => Object.entries(kept ?? {}).filter(([, text]) => isText(text));
-const namesKept = (kept) => (Array.isArray(kept) ? kept.filter(isText) : []);
-
-class KeptLessons {
-  constructor() {
-    const kept = keptUnder(LESSONS_KEPT) ?? { of: { [BOOK_NAME]: keptUnder(LESSONS_KEPT_BEFORE) } };
-    this.student = isText(kept.student) ? kept.student : "";
-    this.course = isText(kept.course) ? kept.course : BOOK_NAME;
-    this.courses = new Map(textsKept(kept.courses));
-    this.of = new Map(Object.entries(kept.of ?? {}).map(([name, own]) => [name, ownOf(own)]));
-  }
-
-  ofCourse(name) {
-    if (!this.of.has(name)) this.of.set(name, ownOf({}));
-    return this.of.get(name);
-  }
-
-  save() {
-    const { student, course } = this;
-    const toObject = ({ solutions, looked }) => ({ solutions: Object.fromEntries(solutions), looked: [...looked] });
-    const of = Object.fromEntries([...this.of].map(([name, own]) => [name, toObject(own)]));
-    return keepUnder(LESSONS_KEPT, { student, course, courses: Object.fromEntries(this.courses), of });
-  }
-}
-
-function ownOf(kept) {
-  return {
-    solutions: new Map(textsKept(kept?.solutions)),
-    looked: new Set(namesKept(kept?.looked)),
-  };
-}
-return { KeptLessons };
-})();
-
 // story/learning.js
 const $story_learning = (() => {
 const { BOOK, BOOK_NAME } = $made_book;
-const { courseAddress } = $course_course_link;
+const { courseAddress } = $course_course_text;
 const { judged, triedCourse } = $course_lesson;
 const { works } = $page_kept;
 const { askNow } = $page_now;
 const { visit } = $page_visit;
 const { eventsAsked } = $run_schedule_text;
 const { bookCourse } = $story_assignment;
-const { KeptLessons } = $story_kept_lessons;
+const { KeptLessons } = $story_kept;
 const { linesOf } = $story_live_run;
 class Learning {
   constructor() {
@@ -8343,66 +8085,6 @@ const learning = {
 };
 const made = { panel: null };
 return { learning };
-})();
-
-// story/learn_map.js
-const $story_learn_map = (() => {
-const { BOOK_NAME } = $made_book;
-const { byId } = $page_dom;
-const { escaped, tag } = $run_markup;
-const { drawCard } = $story_ask_map;
-const { learning } = $story_learning;
-const { foot, head, LIST_WORDS, part } = $story_scene;
-function cardOf({ name, title, list }, index) {
-  const state = learning.panel.isSolved(name) ? "done" : "";
-  return drawCard({ href: `#learn=${name}`, list: `${index + 1} · ${LIST_WORDS[list]}`, title: escaped(title), says: "", state });
-}
-
-function html() {
-  const { panel } = learning;
-  const { lessons, name } = panel.course;
-  const count = lessons.filter((lesson) => panel.isSolved(lesson.name)).length;
-  const isBook = name === BOOK_NAME;
-  const next = panel.firstUnsolved() ?? lessons[0];
-  const lead = `<p class="lead">In each lesson you choose which thread makes the next step, until the run shows what is asked. There is more
-    than one way.</p>${count === 0 ? "" : `<p class="score"><b>${count}</b> of ${lessons.length} solved</p>`}`;
-  const back = isBook ? "" : '<p><button id="lesson-book" data-do="book">Back to the twelve lessons</button></p>';
-  const on = tag("a", { class: "button primary", href: `#learn=${next.name}` }, `${count === 0 ? "Begin" : "Go on"} →`);
-  return `${head("", isBook ? "Solve it" : escaped(name), lead, "title")}<div class="cards">${lessons.map(cardOf).join("")}</div>
-    ${back}<div id="learn-folds"></div>${foot("", on)}`;
-}
-
-function drawLearnMap() {
-  if (part("#learn-folds") === null) return;
-  end();
-  byId("scene").innerHTML = html();
-  begin();
-}
-
-function begin() {
-  const { kept, course } = learning.panel;
-  part("#learn-folds").append(byId("lesson-folds"));
-  byId("lesson-course").replaceChildren(...[BOOK_NAME, ...kept.courses.keys()].map((name) => new Option(name)));
-  byId("lesson-course").value = course.name;
-  byId("lesson-student").value = kept.student;
-}
-const end = () => byId("courses").append(byId("lesson-folds"));
-
-/** @type {import("./scene.js").View} */
-const learnMapView = {
-  kind: "asks",
-  title: () => `${learning.panel.course.name} · Why not just one lock?`,
-  html,
-  begin,
-  end,
-  deeds: {
-    book: () => {
-      learning.panel.takeBook();
-      drawLearnMap();
-    },
-  },
-};
-return { drawLearnMap, learnMapView };
 })();
 
 // draw/judged.js
@@ -8768,10 +8450,609 @@ function listenToJudging() {
 return { JUDGED, judging, drawJudging, beginJudging, listenToJudging };
 })();
 
+// story/ask.js
+const $story_ask = (() => {
+const QUESTIONS = [
+  {
+    name: "failed-tries", list: "coarse", title: "Two adds of one number", opening: [3, 8],
+    lines: ["begin 0 add 5", "begin 1 add 5", "go 0 1", "go 1 1"], rest: ["go 1 2", "go 0 out", "go 1 out"],
+    question: "A and B add the same number. A has the lock. Who is told true?",
+    options: [
+      { text: "Both", say: "Then 5 would have come in twice, and a set has it once." },
+      { text: "Only A", right: true, say: "" },
+      { text: "Only B", say: "B gets the lock only when A is done. What does it find then?" },
+    ],
+    why: "<b>Only A.</b> Who has the lock comes first. B tries in vain, which is a step too and changes nothing. When it gets the lock it walks, finds 5, and answers false.",
+    lacks: "lock", without: { lines: ["begin 0 add 5", "go 0 to 5", "begin 1 add 5", "go 1 out", "go 0 out"] },
+    broken: "Both are told true, and 5 came in once.",
+  },
+  {
+    name: "hand-over-hand", list: "fine", title: "Behind each other", opening: [9],
+    lines: ["begin 0 add 5", "begin 1 remove 9", "go 0 4"], rest: ["go 1 2", "go 0 out", "go 1 out"],
+    question: "A has locked the head and 9, to put 5 between them. B wants to remove 9. How far does it get?",
+    options: [
+      { text: "It gets the head: A is past it", say: "A is not: the head is A’s pred, and its arrow is the one that A will change." },
+      { text: "Not even the head", right: true, say: "" },
+      { text: "To 9, and waits there", say: "On its way it has to lock the head, as everybody." },
+    ],
+    why: "<b>Not even the head.</b> First A has to let go of it. Then B goes hand over hand: it lets go of the head only when it holds 5.",
+    lacks: "hand-over-hand", without: { opening: [3, 9], lines: ["begin 0 add 5", "go 0 7", "begin 1 remove 3", "go 1 8", "go 0 7"] },
+    broken: "5 is lost: its pred was taken out behind A’s back.",
+  },
+  {
+    name: "same-gap", list: "optimistic", title: "One gap for two", opening: [],
+    lines: ["begin 0 add 5", "begin 1 add 7", "go 0 2", "go 1 2", "go 1 out", "go 0 2"], rest: ["go 0 out"],
+    question: "Both had walked to the gap between head and tail. B was first with its 7. Now A has its locks. What does A do?",
+    options: [
+      { text: "It hangs 5 in: before 7 is right", say: "A’s curr is still the tail. Head → 5 → tail: that would lose 7." },
+      { text: "It notices, and starts again", right: true, say: "" },
+      { text: "It waits for B", say: "B is done and holds no lock." },
+    ],
+    why: "<b>It notices.</b> A looks whether its pred still points to its curr. The head points to 7 now. So A lets go of both, and walks again.",
+  },
+  {
+    name: "stale-pred", list: "optimistic", title: "A pred that is gone", opening: [3],
+    lines: ["begin 0 add 5", "go 0 4", "begin 1 remove 3", "go 1 out", "go 0 2"], rest: ["go 0 out"],
+    question: "A’s pred is 3. Meanwhile B has removed 3, whose node still points to the end. A has its locks. May A write?",
+    options: [
+      { text: "Yes: pred still points to curr", say: "It does. But who walks from the head does not come to this 3 any more." },
+      { text: "No", right: true, say: "" },
+    ],
+    why: "<b>No.</b> A node that is taken out keeps its arrow. So A walks once more from the head. This walk gets past the place of its pred and has not met it: A lets go and starts again.",
+    lacks: "second-walk",
+    broken: "5 is lost: it hangs on a node that is out of the list.",
+  },
+  {
+    name: "marked-in-chain", list: "lazy", title: "There, and removed", opening: [5],
+    lines: ["begin 1 remove 5", "go 1 to 12", "begin 0 contains 5", "go 0 2"], rest: ["go 0 out", "go 1 out"],
+    question: "B has marked 5, and has not taken it out yet. A’s walk stops at that node. What does contains(5) answer?",
+    options: [
+      { text: "true", say: "The node is in the chain. But the mark says that it is removed." },
+      { text: "false", right: true, say: "" },
+      { text: "Nothing, before B is done", say: "A takes no lock, so nobody can hold it up." },
+    ],
+    why: "<b>false.</b> It is the mark that removes 5 from the set. That its node is still in the chain does not matter. A reads one word, and takes no lock for it.",
+  },
+  {
+    name: "marked-pred", list: "lazy", title: "Warned by a mark", opening: [3],
+    lines: ["begin 0 add 5", "go 0 4", "begin 1 remove 3", "go 1 out", "go 0 2"], rest: ["go 0 out"],
+    question: "A’s pred, 3, has been removed by B. This list never walks twice. What warns A?",
+    options: [
+      { text: "The lock of 3", say: "B has given it back, and A has it now." },
+      { text: "The mark on 3", right: true, say: "" },
+      { text: "Nothing: 5 gets lost", say: "It would, if A did not look at one more word." },
+    ],
+    why: "<b>The mark.</b> B set it before it took the node out. So one look at pred does here what a whole second walk does in the optimistic list.",
+    lacks: "marks-in-validation",
+    broken: "5 is lost: it hangs on a node that is out of the list.",
+  },
+  {
+    name: "read-in-anothers-step", list: "lazy", title: "In another’s step", opening: [5],
+    lines: ["begin 0 contains 5", "go 0 2", "begin 1 remove 5", "go 1 out", "begin 1 add 5", "go 1 out"], rest: ["go 0 1"],
+    question: "At each step of A 5 was in the set, and it is in now. A is about to answer false. When is that right?",
+    options: [
+      { text: "Never: it is a bug", say: "It looks like one. But the call also runs while A stands still." },
+      { text: "Between B’s remove and B’s add", right: true, say: "" },
+      { text: "When A answers", say: "Then 5 is in the set, in a new node." },
+    ],
+    why: "<b>Between B’s two calls.</b> There 5 was not in the set, and A’s call was under way. It takes effect there, in a step of B. Who looks for it among A’s own steps finds none, and calls a correct list wrong.",
+  },
+  {
+    name: "two-removers", list: "lock-free", title: "Two removers", opening: [5],
+    lines: ["begin 0 remove 5", "begin 1 remove 5", "go 0 to 9", "go 1 to 9"], rest: ["go 1 2", "go 0 out"],
+    question: "A and B both have found 5, without a mark, and want to remove it. B comes first. What is A told?",
+    options: [
+      { text: "true", say: "A has seen 5 without a mark. But before it writes, it compares." },
+      { text: "false", right: true, say: "" },
+      { text: "It waits, and then true", say: "Nobody waits in this list." },
+    ],
+    why: "<b>false.</b> B’s CAS sets the mark. A’s CAS compares arrow and mark in one step, and fails. A walks again, and there is no 5.",
+    lacks: "mark-in-remove",
+    broken: "Both are told true, and 5 was there once.",
+  },
+  {
+    name: "snip", list: "lock-free", title: "To tidy up for others", opening: [5],
+    lines: ["begin 0 remove 5", "go 0 to 10"], rest: ["begin 1 add 7", "go 1 out", "go 0 out"], calls: { 1: [["add", 7]] },
+    question: "A has marked 5, and stops before it takes the node out. B wants to add 7 just behind it. Does B have to wait?",
+    options: [
+      { text: "Yes, until A has taken 5 out", say: "If A never came back, B would wait for ever. Here nobody waits." },
+      { text: "No: it hangs 7 behind 5", say: "Then 7 would go out of the chain together with 5." },
+      { text: "No: it takes 5 out itself", right: true, say: "" },
+    ],
+    why: "<b>B takes 5 out itself.</b> Then it hangs its 7 behind the head. A’s try to take 5 out fails then. That does not matter: A has set the mark, so it answers true.",
+    lacks: "mark-in-add", without: { lines: ["begin 1 add 7", "go 1 to 7", "begin 0 remove 5", "go 0 to 10", "go 1 out", "go 0 out"] },
+    broken: "7 is lost: it goes out of the chain together with 5.",
+  },
+  {
+    name: "tries-again", list: "lock-free", title: "A node in hand", opening: [],
+    lines: ["begin 0 add 5", "begin 1 add 7", "go 0 to 7", "go 1 out"], rest: ["go 0 out"],
+    question: "Both were at the same gap, each with its node ready. B was first. What becomes of A’s 5?",
+    options: [
+      { text: "It takes the place of 7", say: "A plain write would do that, and lose 7. A CAS compares first." },
+      { text: "A’s CAS fails, A walks again", right: true, say: "" },
+      { text: "A answers false", say: "5 is not in the set. So A may not say that it was." },
+    ],
+    why: "<b>A’s CAS fails, and changes nothing.</b> It expected the tail, and sees 7. A walks again, with the same node: nobody else has seen it yet.",
+  },
+  {
+    name: "left-in-chain", list: "lock-free", title: "Answered, and still there", opening: [5],
+    lines: ["begin 0 add 3", "go 0 to 7", "begin 1 remove 5", "go 1 to 10", "go 0 out", "go 1 out"], rest: ["begin 0 contains 5", "go 0 out"],
+    calls: { 0: [["contains", 5]] },
+    question: "B’s remove(5) has answered true, and its node is still in the chain. Now A asks contains(5). What is the answer?",
+    options: [
+      { text: "true", say: "The node is there, but look at its arrow." },
+      { text: "false", right: true, say: "" },
+      { text: "It may be either", say: "The remove has ended before the contains begins. There is one answer only." },
+    ],
+    why: "<b>false.</b> When B tried to take 5 out, the head led to 3 already, so that CAS failed. The node stays, marked, until a later walk takes it out. A sees the mark.",
+    lacks: "mark-at-key",
+    broken: "A is told true, although the remove of 5 had ended.",
+  },
+];
+return { QUESTIONS };
+})();
+
+// story/ask_more.js
+const $story_ask_more = (() => {
+const APPENDIX = [
+  {
+    name: "ceiling-in-anothers-step", list: "lazy", title: "ceiling, in another’s step", opening: [5],
+    lines: ["begin 0 ceiling 6", "go 0 2", "begin 1 add 9", "go 1 out", "begin 1 remove 5", "go 1 out", "begin 1 add 7", "go 1 out"],
+    rest: ["go 0 out"],
+    question: "A asked for the smallest number from 6 on, and stood still. Now it is 7. A is going to answer 9. Is that right?",
+    options: [
+      { text: "No: 7 is there", say: "It is, now. But the call has run for a while." },
+      { text: "Yes", right: true, say: "" },
+    ],
+    why: "<b>Yes.</b> From B’s add of 9 to its add of 7 the smallest number from 6 on was 9. A’s walk goes on from the node of 5, which is out of the chain, and whose arrow still leads to 9.",
+  },
+  {
+    name: "ceiling-meets-mark", list: "lock-free", title: "ceiling meets a mark", opening: [5],
+    lines: ["begin 0 ceiling 3", "go 0 2", "begin 1 remove 5", "go 1 out"], rest: ["go 0 out"],
+    question: "A’s ceiling(3) has come to the node of 5. Before A looks at the mark, B removes 5. What does A answer?",
+    options: [
+      { text: "5: A was there first", say: "A looks at the mark last of all, and finds one." },
+      { text: "That there is none", right: true, say: "" },
+    ],
+    why: "<b>None.</b> A finds the mark, starts again at the head, and comes to the end. From the mark on, that is right.",
+  },
+  {
+    name: "ceiling-left-in-chain", list: "lock-free", title: "ceiling, and a node left behind", opening: [5],
+    lines: ["begin 0 add 3", "go 0 to 7", "begin 1 remove 5", "go 1 to 10", "go 0 out", "go 1 out", "begin 0 ceiling 4", "go 0 3"],
+    rest: ["go 0 2", "begin 1 add 7", "go 1 out", "go 0 out"],
+    question: "The remove of 5 has ended, and its node is still in the chain. May ceiling(4) answer 5?",
+    options: [
+      { text: "Yes: it is in the chain", say: "In this list the mark counts, not the chain." },
+      { text: "No: it starts again", right: true, say: "" },
+      { text: "No: it answers that there is none", say: "It knows that only when it has come to the end." },
+    ],
+    why: "<b>It starts again.</b> The mark sends it back to the head, each time. B’s walk takes the node out, and A finds B’s 7, which came in while its call was under way.",
+  },
+  {
+    name: "behind-the-walk", list: "lock-free", title: "Behind the walk", opening: [9],
+    lines: ["begin 0 ceiling 3", "go 0 1", "begin 1 add 5", "go 1 out"], rest: ["go 0 out"],
+    question: "A’s ceiling(3) has read the arrow of the head, to 9. B adds 5 in between, and has its answer. May A answer 9?",
+    options: [
+      { text: "Yes", right: true, say: "" },
+      { text: "No: 5 is smaller, and is in", say: "It came in while A’s call was under way." },
+    ],
+    why: "<b>Yes.</b> When A read that arrow, nothing stood in between. Its call takes effect there, before the add, although the add has ended first.",
+  },
+  {
+    name: "nothing-in-anothers-step", list: "lock-free", title: "Nothing there", opening: [5, 7],
+    lines: ["begin 0 ceiling 6", "go 0 2", "begin 1 remove 7", "go 1 out", "begin 1 remove 5", "go 1 out", "begin 1 add 7", "go 1 out"],
+    rest: ["go 0 out"],
+    question: "At each step of A 7 was in the set. Its ceiling(6) is going to answer that there is none. Is that right?",
+    options: [
+      { text: "No", say: "Look at the time in which A stood still." },
+      { text: "Yes", right: true, say: "" },
+    ],
+    why: "<b>Yes.</b> Between two steps of A, B removed 7 and then 5, and added 7 again. The arrow of 5 led to the end when it was marked, and nobody changes an arrow with a mark.",
+  },
+  {
+    name: "full", list: "coarse", title: "No node left", opening: [], threads: 1, quota: 1,
+    lines: ["begin 0 add 5", "go 0 out", "begin 0 remove 5", "go 0 out", "begin 0 add 7", "go 0 3"], rest: ["go 0 out"],
+    question: "A may make one node. It has added 5, and removed it. Now it wants to add 7. Does it get the node of 5 again?",
+    options: [
+      { text: "Yes: 5 is gone", say: "Another thread may still stand at that node." },
+      { text: "No", right: true, say: "" },
+    ],
+    why: "<b>No: add answers full.</b> Each node is used once, so that nobody ever comes to a node that has another number than before.",
+  },
+  {
+    name: "opens-with-keys", list: "lazy", title: "Numbers from the start", opening: [5, 9], threads: 1, quota: 1,
+    lines: ["begin 0 remove 5", "go 0 out", "begin 0 add 7"], rest: ["go 0 out", "begin 0 add 8", "go 0 out"],
+    question: "5 and 9 were there from the start. A may make one node. It has removed 5. How many numbers can it add?",
+    options: [
+      { text: "None: 5 and 9 are two", say: "What was there from the start is nobody’s add." },
+      { text: "One", right: true, say: "" },
+      { text: "Two: it has removed one", say: "A remove gives no node back." },
+    ],
+    why: "<b>One.</b> 7 takes A’s only node, and the add of 8 answers full.",
+  },
+];
+return { APPENDIX };
+})();
+
+// story/ask_branches.js
+const $story_ask_branches = (() => {
+const { BREAK_LEVELS } = $data_levels;
+const { tag } = $run_markup;
+const { now } = $page_now;
+const { QUESTIONS } = $story_ask;
+const { APPENDIX } = $story_ask_more;
+const { Figure } = $story_figure;
+const { LiveRun } = $story_live_run;
+const { drawLedger, isOddRun, LIST_WORDS, part, scene, setScene, takeFigure } = $story_scene;
+const CHECK_WORDS = {
+  lock: "the lock is ignored",
+  "hand-over-hand": "it lets go of one lock before it has the next",
+  "second-walk": "it does not walk again",
+  "marks-in-validation": "it does not look at the marks",
+  "mark-in-remove": "it marks a node that is marked already",
+  "mark-in-add": "an add does not look at the mark of its pred",
+  "mark-at-key": "a contains does not look at the mark",
+};
+const ALL = [...QUESTIONS, ...APPENDIX];
+const itemOf = ({ id }) => ALL.find(({ name }) => name === id);
+const isEmbed = () => now.place.view === "embed";
+
+function takeBranch({ lines, opening, lacks = null, isFree = false }) {
+  const item = itemOf(now.place);
+  const calls = isFree ? {} : item.calls;
+  return takeFigure(new Figure(freshBox(), {
+    list: item.list, lacks, lines, calls, threads: item.threads ?? 2, quota: item.quota ?? 4, opening: opening ?? item.opening,
+    operations: operationsIn(item),
+    strip: true, scrub: true, again: false, free: isFree, short: true, roomFor: 552, high: isEmbed() ? 0.34 : 0.23, least: isEmbed() ? 110 : 180,
+    code: !isEmbed(), codeTitle: LIST_WORDS[item.list], codeNote: lacks === null ? "" : `Here ${CHECK_WORDS[lacks]}.`,
+    struck: BREAK_LEVELS[lacks]?.missing,
+  }));
+}
+
+const operationsIn = ({ lines, rest }) => [...lines, ...rest].filter((line) => line.startsWith("begin")).map((line) => line.split(" ")[2]);
+
+function freshBox() {
+  const box = Object.assign(document.createElement("div"), { id: "figure" });
+  part("#figure").replaceWith(box);
+  return box;
+}
+
+
+function takeOwnBranch(branch) {
+  const figure = takeBranch({ ...branch, isFree: true });
+  Object.assign(figure, { onFork: fork, onStep: grow });
+  return figure;
+}
+
+function fork(figure) {
+  const { branches, at } = now.scene;
+  const { lacks, opening, isFixed } = branches[at];
+  const isOwn = at > 0 && !isFixed && figure.run.count === figure.run.trace.total;
+  if (isOwn) return;
+  const number = 1 + branches.filter((one, index) => index > 0 && !one.isFixed).length;
+  const lines = figure.run.linesHere();
+  const own = { name: `What if ${number}`, lines, lacks, opening, from: figure.run.count };
+  figure.run.take(lines);
+  setScene({ branches: [...branches, own], at: branches.length });
+}
+
+function grow(figure) {
+  const { branches, at } = now.scene;
+  if (at === 0 || branches[at].isFixed) return;
+  const lines = [...figure.run.lines];
+  figure.isLost = figure.run.isBroken();
+  setScene({ branches: branches.map((one, index) => (index === at ? { ...one, lines } : one)), stage: "task" });
+  figure.draw();
+}
+
+async function openBranch(at, plays = false) {
+  const branch = now.scene.branches[at];
+  const figure = takeOwnBranch(branch);
+  figure.isLost = figure.run.isBroken();
+  figure.set({ hidesDock: at === 0 || branch.isFixed === true });
+  setScene({ at, stage: plays ? "playing" : "done" });
+  if (!plays) return;
+  const asked = now.scene.branches[0].from;
+  const hasOwnRun = itemOf(now.place).without !== undefined;
+  await figure.replay(hasOwnRun ? 0 : Math.min(asked, figure.run.trace.total - 1));
+  if (scene.figure !== figure) return;
+  setScene({ stage: "done" });
+}
+
+const goBack = () => openBranch(0);
+const seeAgain = () => scene.figure.replay(now.scene.branches[0].from);
+
+function whatIf() {
+  const { figure } = scene;
+  figure.set({ hidesDock: false });
+  if (now.scene.at === 0) figure.moveTo(now.scene.branches[0].from);
+  setScene({ stage: "task" });
+  part("#figure").scrollIntoView({ block: "center", behavior: "smooth" });
+}
+
+function withoutCheck(item) {
+  const { branches } = now.scene;
+  const known = branches.findIndex(({ isFixed }) => isFixed);
+  if (known !== -1) return openBranch(known, true);
+  const { lines = sameLines(item), opening } = item.without ?? {};
+  setScene({ branches: [...branches, { name: "Without this check", lines, opening, lacks: item.lacks, isFixed: true }] });
+  openBranch(branches.length, true);
+}
+
+function sameLines({ list, opening, lines, rest, lacks }) {
+  const whole = new LiveRun({ list, opening, lines: [...lines, ...rest] });
+  const broken = new LiveRun({ list, lacks, opening });
+  broken.take(whole.lines);
+  return [...broken.linesHere(), ...[0, 1].filter((thread) => !broken.isIdle(thread)).map((thread) => `go ${thread} out`)];
+}
+
+
+const ownWords = ({ from, lacks = null }, isBroken) => {
+  const proved = "Whatever you choose, some order of the calls explains their answers: that is proved of each run of this list.";
+  const broken = "No order of its calls explains their answers and what is left: you have broken this list.";
+  return `<b>Your own branch.</b> It leaves the example at step ${from}. ${isBroken ? broken : lacks === null ? proved : ""}`;
+};
+
+function fixedWords({ lacks }, isBroken) {
+  const { without, broken } = itemOf(now.place);
+  const which = `This is ${without === undefined ? "the same run" : "a run"} of a list with one check less: ${CHECK_WORDS[lacks]}.`;
+  const proved = "No order of the calls explains their answers and what is left; that is proved.";
+  return `<b>${isBroken ? broken : "Not broken yet."}</b> ${which} ${isBroken ? proved : "Some order still explains the answers."}`;
+}
+
+function talkOfBranch(branch) {
+  const { run } = scene.figure;
+  const isBroken = run.isBroken();
+  const ledger = isBroken && isOddRun(run) ? drawLedger(run) : "";
+  const words = branch.isFixed ? fixedWords(branch, isBroken) : ownWords(branch, isBroken);
+  const change = branch.isFixed ? '<button data-do="if">Change it from here on</button>' : "";
+  return `<div class="reveal${isBroken ? " bad" : ""}">${ledger}<div><p class="why">${words}</p>
+    <p class="line"><button data-do="home">← Back to the example</button>${change}</p></div></div>`;
+}
+
+function drawBranches({ branches, at }) {
+  const box = part("#branches");
+  box.hidden = branches.length === 1;
+  part("#what-if-mark").hidden = at === 0 || branches[at].isFixed === true;
+  const button = ({ name }, index) =>
+    tag("button", { class: "small", "data-do": "branch", "data-branch": index, "aria-pressed": index === at }, index === 0 ? "" : "↳ ", name);
+  box.innerHTML = branches.map(button).join("");
+}
+return { ALL, itemOf, isEmbed, takeBranch, openBranch, goBack, seeAgain, whatIf, withoutCheck, talkOfBranch, drawBranches };
+})();
+
+// activities/recorded.js
+const $activities_recorded = (() => {
+const { drawRecorded } = $draw_judged;
+const { byId } = $page_dom;
+const { askLong, LONG_TEXT } = $page_long_run;
+const { askNow } = $page_now;
+const { tag } = $run_markup;
+const { RECORDED_EXAMPLE, verdictOnCalls, withNewline } = $run_recorded;
+const WIDEST = 900; // pixels of a drawing
+const recorded = { text: "", isOpen: false }; // what stands in the box when another activity is shown
+const recordedPart = (name) => byId(`recorded-${name}`);
+
+const PARTS = `<p class="lead">The forms in <code>judge</code> record the calls of your own set in a test, each with its
+    begin and end, and keep a recording that fails. Paste its text, or open the file: the proved <code>judge</code> says whether any order
+    explains the calls.</p>
+  <textarea id="recorded-text" rows="7" spellcheck="false" autocapitalize="off" wrap="off" aria-label="recorded calls"
+    placeholder="listset-calls 1"></textarea>
+  <p class="line"><button id="recorded-judge">Judge these calls</button>
+    <label class="button">Open a file<input type="file" id="recorded-file"></label>
+    <button id="recorded-example">Load an example</button></p>
+  <p id="recorded-verdict" role="status"></p><ul id="recorded-reasons"></ul><div id="recorded-picture"></div>`;
+
+const drawRecordedBox = () =>
+  tag("details", { id: "recorded-box", class: "card", ...(recorded.isOpen ? { open: "" } : {}) },
+    tag("summary", {}, "<h2>Judge calls recorded from your own set</h2>"), PARTS);
+
+function showVerdict({ kind, says, reasons, calls, from }) {
+  recordedPart("verdict").className = kind;
+  recordedPart("verdict").textContent = says;
+  recordedPart("reasons").innerHTML = reasons.map((reason) => tag("li", {}, reason)).join("");
+  const width = Math.min(Math.max(300, recordedPart("picture").clientWidth), WIDEST);
+  recordedPart("picture").innerHTML = calls.length > 0 ? drawRecorded(calls, from, width) : "";
+}
+
+const nothing = { kind: "", says: "", reasons: [], calls: [], from: null };
+
+async function judgeCalls() {
+  const text = withNewline(recordedPart("text").value);
+  recorded.text = text;
+  if (text === "") return showVerdict({ ...nothing, kind: "fault", says: "Paste the text of recorded calls first, or open a file." });
+  showVerdict({ ...nothing, says: text.length < LONG_TEXT ? "" : "The judge is at work." });
+  const said = await askLong("listset_judge_record", text, false);
+  if (withNewline(recordedPart("text").value) === text) showVerdict(verdictOnCalls(askNow, said, text));
+}
+
+function showRecorded(text) {
+  recordedPart("box").open = true;
+  recordedPart("text").value = text;
+  judgeCalls();
+}
+
+function listenToRecorded() {
+  const box = recordedPart("text");
+  box.value = recorded.text;
+  box.oninput = () => {
+    recorded.text = box.value;
+    showVerdict(nothing);
+  };
+  recordedPart("box").ontoggle = () => (recorded.isOpen = recordedPart("box").open);
+  recordedPart("judge").onclick = judgeCalls;
+  recordedPart("example").onclick = () => showRecorded(RECORDED_EXAMPLE);
+  recordedPart("file").onchange = async () => {
+    const text = await recordedPart("file").files[0].text();
+    recordedPart("file").value = "";
+    showRecorded(text);
+  };
+}
+return { drawRecordedBox, showRecorded, listenToRecorded };
+})();
+
+// activities/maps.js
+const $activities_maps = (() => {
+const { BOOK_NAME } = $made_book;
+const { CLASSICS, LACKING } = $made_classics;
+const { BREAK_LEVELS, numberOfLevel, TEN, THREE_MORE } = $data_levels;
+const { byId } = $page_dom;
+const { keptUnder } = $page_kept;
+const { examples } = $page_work;
+const { escaped, inLetters, tag } = $run_markup;
+const { QUESTIONS } = $story_ask;
+const { itemOf } = $story_ask_branches;
+const { APPENDIX } = $story_ask_more;
+const { isBrokenOnce, keptStory } = $story_kept;
+const { learning } = $story_learning;
+const { foot, head, LIST_WORDS, part } = $story_scene;
+const { JUDGED } = $activities_judging;
+const { drawRecordedBox, listenToRecorded } = $activities_recorded;
+const { listenToSeedForm, seedForm } = $activities_watch;
+const SIGNS = { right: ["✓", "guessed right"], wrong: ["seen", "seen"], done: ["✓", "done"] };
+
+function drawCard({ href, list, title, says = "", state = "" }) {
+  const [sign, words] = SIGNS[state] ?? ["", ""];
+  const shown = sign === "" ? "" : tag("i", { class: "sign", "aria-label": words }, sign);
+  return tag("a", { class: `card ${state}`, href }, tag("i", { class: "small" }, list), tag("b", {}, title), tag("span", {}, says), shown);
+}
+
+const cards = (all) => tag("div", { class: "cards" }, ...all.map(drawCard));
+const lead = (words, score = "") => `<p class="lead">${words}</p>${score === "" ? "" : `<p class="score">${score}</p>`}`;
+const goOn = (href, count, all) => tag("a", { class: "button primary", href }, `${count === 0 ? "Begin" : count < all ? "Go on" : "Once more"} →`);
+
+
+function askHtml() {
+  const { asks } = keptStory();
+  const seen = QUESTIONS.filter(({ name }) => asks[name] !== undefined);
+  const right = seen.filter(({ name }) => asks[name] === "right").length;
+  const cardOf = ({ name, list, title, question }) => ({ href: `#ask=${name}`, list: LIST_WORDS[list], title, says: question, state: asks[name] });
+  const next = QUESTIONS.find((item) => !seen.includes(item)) ?? QUESTIONS[0];
+  const score = `<b>${right}</b> of ${QUESTIONS.length} guessed right at the first try, ${seen.length} seen`;
+  const words = "Eleven runs. Each stops just before the step on which it turns. Say what comes; then it goes on, and you may change it.";
+  return `${head("", "Guess, then see", lead(words, seen.length === 0 ? "" : score), "title")}${cards(QUESTIONS.map(cardOf))}
+    <h2>Seven more</h2><p class="prose">These lists have a fourth call, <b>ceiling</b>: the smallest number that is as big as the one
+    that is asked for, or more. And each thread may add only so many numbers.</p>${cards(APPENDIX.map(cardOf))}
+    ${foot('<a class="button quiet" href="#story=1">The path of twenty minutes</a>', goOn(`#ask=${next.name}`, seen.length, QUESTIONS.length))}`;
+}
+
+
+function breakHtml() {
+  const cardOf = (name) => {
+    const { story, lacks } = BREAK_LEVELS[name];
+    const state = isBrokenOnce(name) ? { says: lacks, state: "done" } : {};
+    return { href: `#break=${numberOfLevel(name)}`, list: LIST_WORDS[LACKING[name]], title: story, ...state };
+  };
+  const count = TEN.filter(isBrokenOnce).length;
+  const next = TEN.find((name) => !isBrokenOnce(name)) ?? TEN[0];
+  const words = `Ten lists, from one lock to none. Each lacks one check. Let A and B step until a number is lost, or two
+    answers cannot both be right. Then say what is missing.`;
+  const top = lead(words, count === 0 ? "" : `<b>${count}</b> of ${TEN.length} broken`);
+  return `${head("", "Break it", top, "title")}${cards(TEN.map(cardOf))}
+    <h2>Three more</h2>${cards(THREE_MORE.map(cardOf))}${foot("", goOn(`#break=${numberOfLevel(next)}`, count, Infinity))}`;
+}
+
+
+function learnHtml() {
+  const { panel } = learning;
+  const { lessons, name } = panel.course;
+  const cardOf = ({ name, title, list }, at) =>
+    ({ href: `#learn=${name}`, list: `${at + 1} · ${LIST_WORDS[list]}`, title: escaped(title), state: panel.isSolved(name) ? "done" : "" });
+  const count = lessons.filter((lesson) => panel.isSolved(lesson.name)).length;
+  const isBook = name === BOOK_NAME;
+  const words = "In each lesson you choose which thread makes the next step, until the run shows what is asked. There is more than one way.";
+  const top = lead(words, count === 0 ? "" : `<b>${count}</b> of ${lessons.length} solved`);
+  const back = isBook ? "" : '<p><button id="lesson-book" data-do="book">Back to the twelve lessons</button></p>';
+  return `${head("", isBook ? "Solve it" : escaped(name), top, "title")}${cards(lessons.map(cardOf))}
+    ${back}<div id="learn-folds"></div>${foot("", goOn(`#learn=${(panel.firstUnsolved() ?? lessons[0]).name}`, count, Infinity))}`;
+}
+
+function beginLearn() {
+  const { kept, course } = learning.panel;
+  part("#learn-folds").append(byId("lesson-folds"));
+  byId("lesson-course").replaceChildren(...[BOOK_NAME, ...kept.courses.keys()].map((name) => new Option(name)));
+  byId("lesson-course").value = course.name;
+  byId("lesson-student").value = kept.student;
+}
+const endLearn = () => byId("courses").append(byId("lesson-folds"));
+
+function drawLearnMap() {
+  if (part("#learn-folds") === null) return;
+  endLearn();
+  byId("scene").innerHTML = learnHtml();
+  beginLearn();
+}
+
+function openBook() {
+  learning.panel.takeBook();
+  drawLearnMap();
+}
+
+
+function judgeHtml() {
+  const judged = Object.keys(keptUnder(JUDGED) ?? {});
+  const cardOf = ({ name, kind }) => {
+    const state = judged.some((run) => run.startsWith(`${name} `)) ? "done" : "";
+    const says = escaped(inLetters(CLASSICS[name].question));
+    return { href: `#example=${name}&judge`, list: LIST_WORDS[kind], title: itemOf({ id: name }).title, says, state };
+  };
+  const words = `You see a run without its replies. Say what each call answers, and put a point where it takes effect. The proved
+    <code>check</code> judges your order: any order that explains the run is right.`;
+  return `${head("", "Judge a run yourself", lead(words), "title")}<h2>A random run</h2>${seedForm("judge-seed", "Judge a run")}${drawRecordedBox()}
+    <h2>An example, by its question</h2>${cards(examples().map(cardOf))}`;
+}
+
+function beginJudge() {
+  listenToSeedForm("judge-seed", "&judge");
+  listenToRecorded();
+}
+
+
+const PAGES = [
+  ["how-it-works.html", "How it works", "The five lists, from one lock to none, each with the runs that show why."],
+  ["classic.html", "The examples", "Eighteen runs, each with its question, the answer, and what goes wrong without the check."],
+  ["tables.html", "The step tables", "Each list row by row: what a step reads and writes, and which row comes next."],
+  ["tables.html#progress", "Progress: blocking, lock-free, wait-free", "Which calls of each list may block, and within how many steps a call ends."],
+];
+const TERMS = {
+  event: "The begin of a call, or one step of it: one load, store or compare-and-exchange of one word.",
+  schedule: "Which thread makes the next step, from the first event to the last. It is the whole input of a run.",
+  history: "The calls with their begin, end, thread and reply. Two calls overlap if neither ends before the other begins.",
+  pending: "A call that has begun and not ended.",
+  "takes effect": "At its linearization point: the moment between begin and end at which a call counts in the order.",
+  order: "The calls one after the other. It explains a run if a sequential set gives the same replies in this order.",
+  linearizable: "Some order explains the replies, and keeps each pair of calls that do not overlap as they were.",
+  "row, step table": "The algorithm as numbered steps; a row says what the thread does next.",
+  "pred, curr": "The two nodes that a walk holds: curr is the next one behind pred.",
+  marked: "A node whose key is removed; it may still be in the chain until it is unlinked.",
+  "quota, slot": "How many keys a thread can add in all. Each needs a slot, a node of its own; then add answers full.",
+  "not linearizable": "Proved of a report by a few of its calls: no order of them explains their replies.",
+};
+
+function readHtml() {
+  const isAlone = document.body.dataset.alone !== undefined; // the page is one file, without the others beside it
+  const pages = isAlone ? "" : cards(PAGES.map(([href, title, says]) => ({ href, list: "", title, says: escaped(says) })));
+  const terms = Object.entries(TERMS).map(([term, says]) => `<div><dt>${term}</dt><dd>${escaped(says)}</dd></div>`);
+  return `${head("", "Read", "", "title")}${pages}<h2>Terms</h2>${tag("dl", { class: "words card" }, ...terms)}
+    <h2>What is proved, and what is not</h2><div class="panel prose">${byId("proved").innerHTML}</div>`;
+}
+
+/** @type {(name: () => string, html: (place: any) => string, more?: any) => import("../story/scene.js").View} */
+const mapOf = (name, html, more = {}) => ({ kind: "asks", title: () => `${name()} · Why not just one lock?`, html, ...more });
+const MAPS = {
+  "ask map": mapOf(() => "Guess, then see", askHtml),
+  "break map": mapOf(() => "Break it", breakHtml),
+  "learn map": mapOf(() => learning.panel.course.name, learnHtml, { begin: beginLearn, end: endLearn, deeds: { book: openBook } }),
+  judge: mapOf(() => "Judge", judgeHtml, { begin: beginJudge }),
+  read: mapOf(() => "Read", readHtml),
+};
+return { drawLearnMap, PAGES, MAPS };
+})();
+
 // activities/courses.js
 const $activities_courses = (() => {
 const { BOOK, BOOK_NAME } = $made_book;
-const { courseAddress, courseOfAddress } = $course_course_link;
+const { courseAddress, courseOfAddress } = $course_course_text;
 const { handInText } = $course_hand_in;
 const { triedCourse } = $course_lesson;
 const { byId } = $page_dom;
@@ -8781,10 +9062,10 @@ const { askNow, held } = $page_now;
 const { copied, linkTo } = $page_visit;
 const { AddressFault, warningOf } = $run_address;
 const { counted } = $run_markup;
-const { brokenLines } = $story_kept_story;
-const { drawLearnMap } = $story_learn_map;
+const { brokenLines } = $story_kept;
 const { learning } = $story_learning;
 const { JUDGED } = $activities_judging;
+const { drawLearnMap } = $activities_maps;
 const lessonPart = (name) => byId(`lesson-${name}`);
 
 function takeCourseText(text) {
@@ -8879,16 +9160,284 @@ function listenToHandIn() {
 return { takeCourseOfAddress, showCourseText, listenToCourses, listenToHandIn };
 })();
 
+// run/sides.js
+const $run_sides = (() => {
+const { titleOf } = $run_schedule_text;
+const { letterOf } = $run_markup;
+const { State } = $run_state;
+const { isTrace, MOST_NUMBER, Trace } = $run_trace;
+const MOST_TURNS = 500;
+
+class ProgramFault extends Error {}
+
+function readProgram(text) {
+  const program = [];
+  for (const line of text.split("\n").filter((one) => one.trim() !== "")) {
+    const [, number, letter, calls] = /^\s*(?:t?(\d+)|([A-Z]))\s*:\s*(.+?)\s*$/i.exec(line) ?? [];
+    const thread = Number(number ?? letter?.toUpperCase().charCodeAt(0) - "A".charCodeAt(0));
+    if (!(thread < 64)) throw new ProgramFault(`"${line.slice(0, 60)}" is no line as "A: add 5, remove 5"`);
+    for (const call of calls.split(",").map((one) => one.trim())) {
+      const [, operation, key] = /^(add|remove|contains|ceiling) (0|[1-9]\d{0,9})$/.exec(call) ?? [];
+      if (key === undefined || Number(key) > MOST_NUMBER) throw new ProgramFault(`"${call.slice(0, 40)}" is no call as "add 5"`);
+      (program[thread] ??= []).push(`${operation} ${key}`);
+    }
+  }
+  if (program.length === 0) throw new ProgramFault('a program has lines as "A: add 5, remove 5"');
+  return Array.from(program, (calls) => calls ?? []);
+}
+
+function programText(program) {
+  const lines = program.map((calls, thread) => (calls.length === 0 ? "" : `${letterOf(thread)}: ${calls.join(", ")}\n`));
+  return lines.join("");
+}
+
+class Side {
+  constructor(ask, kind, { program, quota, opening }) {
+    this.ask = ask;
+    this.kind = kind;
+    this.lines = [];
+    this.counts = [0];
+    const set = [titleOf(2), `list ${kind}`, `threads ${program.length}`, `quota ${quota}`];
+    this.head = [...set, ...opening.map((key) => `opening ${key}`)];
+    this.run();
+  }
+
+  get schedule() {
+    return [...this.head, ...this.lines, ""].join("\n");
+  }
+
+  run() {
+    const { text } = this.ask("listset_trace", this.schedule);
+    if (!isTrace(text)) throw new ProgramFault(text.trim());
+    this.trace = new Trace(text, 2);
+    this.state = new State(this.trace);
+    this.state.moveTo(this.trace.total);
+  }
+
+  isOpen(thread) {
+    return this.state.threads[thread].pc !== 0;
+  }
+
+  take(line) {
+    if (line !== null) {
+      this.lines.push(line);
+      this.run();
+    }
+    this.counts.push(this.trace.total);
+  }
+}
+
+class Sides {
+  constructor(ask, kinds, { program, quota, opening }) {
+    this.program = program;
+    this.turns = [];
+    this.sides = kinds.map((kind) => new Side(ask, kind, { program, quota, opening }));
+  }
+
+  linesOf(thread) {
+    if (thread >= this.program.length) return null;
+    const isOpen = this.sides.map((side) => side.isOpen(thread));
+    if (isOpen.includes(true)) return isOpen.map((open) => (open ? `go ${thread} 1` : null));
+    const next = this.program[thread]?.[this.sides[0].trace.callsOf[thread].length];
+    return next === undefined ? null : this.sides.map(() => `begin ${thread} ${next}`);
+  }
+
+  turn(thread) {
+    const lines = this.linesOf(thread);
+    if (lines === null || this.turns.length === MOST_TURNS) return false;
+    this.sides.forEach((side, at) => side.take(lines[at]));
+    this.turns.push(thread);
+    return true;
+  }
+}
+return { ProgramFault, readProgram, programText, Sides };
+})();
+
+// activities/compare.js
+const $activities_compare = (() => {
+const { LISTS } = $made_rows;
+const { byId, redraw } = $page_dom;
+const { toggleLecture } = $page_play;
+const { askNow, now } = $page_now;
+const { copied, linkTo } = $page_visit;
+const { addressOf, readAddress, warningOf } = $run_address;
+const { chipOf, escaped, tag } = $run_markup;
+const { sentenceOf } = $run_sentences;
+const { ProgramFault, programText, readProgram, Sides } = $run_sides;
+const { ShownRun } = $story_live_run;
+const { head, setScene, threadOfKey } = $story_scene;
+const { StillFigure } = $story_still_figure;
+const PRESETS = [
+  ["Who waits?", "#sides=coarse.lazy&quota=4&calls=0.add.5,1.contains.5&turns=0.0.0.0.1.1.1"],
+  ["Two removes of neighbours", "#sides=fine.optimistic&quota=4&opening=3.5.7&calls=0.remove.3,1.remove.7&turns=0.0.0.1.1.1"],
+  ["A reader beside a writer", "#sides=lazy.lock-free&quota=4&opening=3.5.7&calls=0.remove.5,1.contains.5&turns=0.0.0.0.0.1.1"],
+];
+const PICTURE = '<h2></h2><div class="pair"></div><p class="note"><a class="button">Watch this run</a></p>';
+const SIDES = ["one", "other"];
+const shown = { sides: null, at: 0, quota: 4, opening: [], figures: [] }; // at: how many turns are shown
+const sidesPart = (name) => byId(`sides-${name}`);
+
+const listsOf = ({ given }) => (given.sides ?? "coarse.lazy").split(".");
+
+function html(place) {
+  const preset = ([name, href]) => tag("a", { class: "button", href }, escaped(name));
+  const listOf = (at) => Object.entries(LISTS).map(([kind, { name }]) =>
+    tag("option", { value: kind, ...(kind === listsOf(place)[at] ? { selected: "" } : {}) }, name));
+  const choice = (name, at) => tag("label", {}, ["left ", "right "][at], tag("select", { id: `sides-${name}` }, ...listOf(at)));
+  const lead = `<p class="lead">The same calls on two lists. A turn of a thread executes its next step in both; a call that has ended waits for
+    the other list. Who has to wait, and who is done? <a class="beside" href="tables.html#progress">Progress of each list: blocking, lock-free, wait-free</a></p>`;
+  return `<section class="screen">${head("", "Two lists, one program", lead)}
+    <div id="sides-presets" class="line">${PRESETS.map(preset).join(" ")}</div>
+    <details id="sides-own"><summary>Your own program</summary><div class="line small">${SIDES.map(choice).join("")}
+      <label>initial keys <input id="sides-opening" spellcheck="false" placeholder="no keys" size="8"></label>
+      <label>calls <textarea id="sides-program" rows="2" cols="24" spellcheck="false"></textarea></label>
+      <button data-do="begin">Run this program</button> <button data-do="copy">Copy link</button></div></details>
+    <p id="sides-told" role="status"></p><div id="sides-pictures"></div></section>
+    <footer class="foot"><button class="quiet" data-do="back" aria-label="one turn back">◂</button>
+      <input id="sides-slider" type="range" min="0" value="0" aria-label="turn"> <span id="sides-where" class="small"></span> <span id="sides-turns"></span>
+      <button class="quiet" id="sides-lecture" data-do="lecture" title="show this as one slide for a lecture hall; Escape leads back">Lecture view</button></footer>`;
+}
+
+function begin({ given }) {
+  /** @type {Record<string, string>} */
+  const { calls, turns = "", quota, opening = "" } = { ...readAddress(PRESETS[0][1]).sides, ...given };
+  const program = [];
+  for (const call of calls.split(",").filter((one) => one !== "")) {
+    const [thread, operation, key] = call.split(".");
+    (program[Number(thread)] ??= []).push(`${operation} ${key}`);
+  }
+  sidesPart("program").value = programText(Array.from(program, (own) => own ?? []));
+  sidesPart("opening").value = opening.replaceAll(".", " ");
+  for (const name of SIDES) sidesPart(name).onchange = () => beginSides();
+  sidesPart("slider").oninput = () => turnTo(Number(sidesPart("slider").value));
+  Object.assign(shown, { sides: null, quota: Number(quota), figures: [] });
+  beginSides(turns.split(".").filter((thread) => thread !== "").map(Number));
+}
+
+function beginSides(turns = []) {
+  try {
+    const program = readProgram(sidesPart("program").value);
+    const opening = sidesPart("opening").value.split(/[\s,]+/).filter((key) => key !== "");
+    const kinds = SIDES.map((name) => sidesPart(name).value);
+    Object.assign(shown, { sides: new Sides(askNow, kinds, { program, quota: shown.quota, opening }), opening });
+    for (const thread of turns) if (!shown.sides.turn(thread)) break;
+    sidesPart("told").textContent = "";
+    takeTurns();
+  } catch (fault) {
+    if (!(fault instanceof ProgramFault)) throw fault;
+    sidesPart("told").textContent = fault.message;
+  }
+}
+
+function takeTurns() {
+  shown.at = shown.sides.turns.length;
+  setScene({ text: addressOfSides() });
+}
+
+function turnOf(thread) {
+  const { sides, at } = shown;
+  if (at < sides.turns.length) beginSides(sides.turns.slice(0, at));
+  const isMade = shown.sides.turn(thread);
+  takeTurns();
+  if (!isMade) sidesPart("told").innerHTML = `${chipOf(thread)} has ended all its calls in both lists.`;
+}
+
+function turnTo(at) {
+  shown.at = Math.min(Math.max(at, 0), shown.sides.turns.length);
+  draw();
+}
+
+
+function draw() {
+  const { sides, at } = shown;
+  if (sides === null) return;
+  const button = (_, thread) => tag("button", { "data-do": "turn", "data-thread": thread }, `${chipOf(thread)} next step`);
+  redraw(sidesPart("turns"), sides.program.map(button).join(" "));
+  const words = `turn ${at} of ${sides.turns.length}`;
+  Object.assign(sidesPart("slider"), { max: sides.turns.length, value: at });
+  sidesPart("slider").setAttribute("aria-valuetext", words);
+  sidesPart("where").textContent = words;
+  figuresOf(sides.sides).forEach((figure, place) => drawSide(sides.sides[place], figure));
+}
+
+function figuresOf(sides) {
+  const { figures } = shown;
+  if (figures.length > 0 && sides.every((side, at) => figures[at].spec.list === side.kind)) return figures;
+  end();
+  sidesPart("pictures").innerHTML = sides.map(({ kind }) => tag("section", { "aria-label": LISTS[kind].name }, PICTURE)).join("");
+  const boxes = sidesPart("pictures").querySelectorAll(".pair");
+  const specOf = ({ kind, trace, state }) => ({ list: kind, run: new ShownRun(trace, state), code: false, sentence: sentenceOf, roomFor: 560, high: 0.3 });
+  figures.push(...sides.map((side, at) => new StillFigure(boxes[at], specOf(side))));
+  return figures;
+}
+
+const end = () => shown.figures.splice(0).forEach((figure) => figure.end());
+
+function drawSide(side, figure) {
+  const { at, sides: { turns } } = shown;
+  const count = side.counts[at];
+  const box = figure.box.parentElement;
+  box.querySelector("h2").innerHTML = `${LISTS[side.kind].name} <small>${count} events</small>`;
+  box.querySelector("a").href = addressOf(side.schedule, count) ?? "#";
+  side.state.moveTo(count);
+  figure.take(new ShownRun(side.trace, side.state, count), undefined, now.prefs.hides);
+  const hasWaited = at > 0 && count === side.counts[at - 1];
+  if (hasWaited) figure.tell(`${chipOf(turns[at - 1])} has ended its call here, and waits for the other list.`);
+}
+
+function addressOfSides() {
+  const { sides, quota, opening } = shown;
+  const calls = sides.program.flatMap((own, thread) => own.map((call) => `${thread}.${call.replace(" ", ".")}`));
+  const parts = [`sides=${sides.sides.map(({ kind }) => kind).join(".")}`, `quota=${quota}`];
+  if (opening.length > 0) parts.push(`opening=${opening.join(".")}`);
+  return `#${[...parts, `calls=${calls.join()}`, `turns=${sides.turns.join(".")}`].join("&")}`;
+}
+
+async function copySides() {
+  const link = linkTo(addressOfSides());
+  const isCopied = await copied(link);
+  sidesPart("told").innerHTML = `${isCopied ? "The link is copied" : "Copy this link"}: <code>${escaped(link)}</code>${warningOf(link)}`;
+}
+
+function press(event) {
+  const { sides, at } = shown;
+  const by = { ArrowRight: 1, PageDown: 1, ArrowLeft: -1, PageUp: -1, Home: -Infinity, End: Infinity }[event.key];
+  if (sides === null) return;
+  if (by !== undefined) {
+    event.preventDefault();
+    turnTo(at + by);
+  } else if (threadOfKey(event) in sides.program) turnOf(threadOfKey(event));
+}
+
+/** @type {import("../story/scene.js").View} */
+const compareView = {
+  kind: "compare",
+  title: (place) => `${listsOf(place).map((kind) => LISTS[kind].name).join(" beside ")} · Why not just one lock?`,
+  html,
+  begin,
+  draw,
+  end,
+  press,
+  deeds: {
+    begin: () => beginSides(),
+    copy: copySides,
+    back: () => turnTo(shown.at - 1),
+    turn: ({ dataset }) => turnOf(Number(dataset.thread)),
+    lecture: toggleLecture,
+  },
+};
+return { compareView };
+})();
+
 // page/menu.js
 const $page_menu = (() => {
 const { CLASSICS } = $made_classics;
 const { inLetters, tag } = $run_markup;
 const { eventsAsked } = $run_schedule_text;
 const { byId, redraw } = $page_dom;
-const { examples, openKept } = $page_example;
+const { examples, openExample, openKept, openWork } = $page_work;
 const { works } = $page_kept;
 const { exampleShown, held, isJudging, now } = $page_now;
-const { openExample, openWork } = $page_work;
 const WORK = "work: ";
 
 function fillWorks() {
@@ -8935,175 +9484,24 @@ function showQuestion() {
 return { fillWorks, fillExamples, chooseInList, pickExample, showQuestion };
 })();
 
-// page/seen.js
-const $page_seen = (() => {
-const isStage = ({ screen }) => screen === "stage";
-
-function factsOf(state, { hasEngine }) {
-  const { place, run, task, exercise } = state;
-  return {
-    ...place,
-    hasEngine,
-    kind: task.kind,
-    isJudging: exercise !== null,
-    isClaim: exercise?.level === "claim",
-    isBroken: run.lacks !== null,
-  };
-}
-
-const isFull = ({ view }) => view === null;
-const isSlide = ({ view }) => view === "lecture";
-const isFree = ({ isClaim }) => !isClaim; // of a claim there is no run to step through
-
-const SEEN = {
-  top: isFull,
-  leave: ({ view }) => view !== null && view !== "embed",
-  scene: ({ screen }) => screen === "scene",
-  bench: ({ screen }) => screen !== "scene",
-  task: (facts) => isStage(facts) && (isFull(facts) || isSlide(facts)),
-  stage: isStage,
-  workshop: (facts) => isStage(facts) && isFull(facts),
-  "question-box": ({ kind, isJudging }) => kind === "example" && !isJudging,
-  "own-head": ({ kind }) => kind === "own",
-  "seed-box": ({ kind }) => kind === "seed",
-  "judge-head": ({ activity }) => activity === "judge",
-  "go-on-here": (facts) => facts.activity !== "judge" && isFull(facts) && facts.hasEngine,
-  past: ({ isJudging, view }) => !isJudging && view !== "list",
-  ticks: ({ isJudging }) => !isJudging,
-  judge: ({ isJudging }) => isJudging,
-  "judge-moments": ({ isClaim }) => isClaim,
-  "judge-note": isFree,
-  "judge-levels": ({ isBroken }) => !isBroken,
-  "report-box": ({ isJudging, hasEngine }) => !isJudging && hasEngine,
-  dock: (facts) => isStage(facts) && isFree(facts),
-  "run-figure": isFree,
-  "key-help-box": isFree,
-  "threads-box": isFree,
-  "table-box": isFree,
-  "listing-box": (facts) => isFree(facts) && !facts.isBroken,
-  told: isFull,
-  order: isFull,
-  "no-engine": ({ hasEngine }) => hasEngine === false,
-};
-return { factsOf, SEEN };
-})();
-
-// page/places.js
-const $page_places = (() => {
-const { byId, setHidden } = $page_dom;
-const { change } = $page_now;
-const { factsOf, SEEN } = $page_seen;
-function showParts(state) {
-  const facts = factsOf(state, { hasEngine: services.hasEngine });
-  for (const [id, isSeen] of Object.entries(SEEN)) setHidden(byId(id), !isSeen(facts), byId("skip"));
-  const { activity, screen, view } = state.place;
-  const key = [activity, screen, view, facts.hasEngine].join();
-  if (key === placed.key) return;
-  placed.key = key;
-  for (const part of document.querySelectorAll(".of-engine:not([id])")) part.hidden = !facts.hasEngine;
-  Object.assign(document.body.dataset, { activity, screen, view: view ?? "" });
-  for (const link of document.querySelectorAll("nav [data-to]")) {
-    if (link.dataset.to.split(" ").includes(activity)) link.setAttribute("aria-current", "page");
-    else link.removeAttribute("aria-current");
-  }
-}
-const placed = { key: "" };
-const services = { hasEngine: true }; // until it is known that there is none
-
-const setView = (view) => change("view", { view });
-return { showParts, services, setView };
-})();
-
-// activities/recorded.js
-const $activities_recorded = (() => {
-const { drawRecorded } = $draw_judged;
-const { byId } = $page_dom;
-const { askLong, LONG_TEXT } = $page_long_run;
-const { askNow } = $page_now;
-const { tag } = $run_markup;
-const { RECORDED_EXAMPLE, verdictOnCalls, withNewline } = $run_recorded;
-const WIDEST = 900; // pixels of a drawing
-const recorded = { text: "", isOpen: false }; // what stands in the box when another activity is shown
-const recordedPart = (name) => byId(`recorded-${name}`);
-
-const PARTS = `<p class="lead">The forms in <code>judge</code> record the calls of your own set in a test, each with its
-    begin and end, and keep a recording that fails. Paste its text, or open the file: the proved <code>judge</code> says whether any order
-    explains the calls.</p>
-  <textarea id="recorded-text" rows="7" spellcheck="false" autocapitalize="off" wrap="off" aria-label="recorded calls"
-    placeholder="listset-calls 1"></textarea>
-  <p class="line"><button id="recorded-judge">Judge these calls</button>
-    <label class="button">Open a file<input type="file" id="recorded-file"></label>
-    <button id="recorded-example">Load an example</button></p>
-  <p id="recorded-verdict" role="status"></p><ul id="recorded-reasons"></ul><div id="recorded-picture"></div>`;
-
-const drawRecordedBox = () =>
-  tag("details", { id: "recorded-box", class: "card", ...(recorded.isOpen ? { open: "" } : {}) },
-    tag("summary", {}, "<h2>Judge calls recorded from your own set</h2>"), PARTS);
-
-function showVerdict({ kind, says, reasons, calls, from }) {
-  recordedPart("verdict").className = kind;
-  recordedPart("verdict").textContent = says;
-  recordedPart("reasons").innerHTML = reasons.map((reason) => tag("li", {}, reason)).join("");
-  const width = Math.min(Math.max(300, recordedPart("picture").clientWidth), WIDEST);
-  recordedPart("picture").innerHTML = calls.length > 0 ? drawRecorded(calls, from, width) : "";
-}
-
-const nothing = { kind: "", says: "", reasons: [], calls: [], from: null };
-
-async function judgeCalls() {
-  const text = withNewline(recordedPart("text").value);
-  recorded.text = text;
-  if (text === "") return showVerdict({ ...nothing, kind: "fault", says: "Paste the text of recorded calls first, or open a file." });
-  showVerdict({ ...nothing, says: text.length < LONG_TEXT ? "" : "The judge is at work." });
-  const said = await askLong("listset_judge_record", text, false);
-  if (withNewline(recordedPart("text").value) === text) showVerdict(verdictOnCalls(askNow, said, text));
-}
-
-function showRecorded(text) {
-  recordedPart("box").open = true;
-  recordedPart("text").value = text;
-  judgeCalls();
-}
-
-function listenToRecorded() {
-  const box = recordedPart("text");
-  box.value = recorded.text;
-  box.oninput = () => {
-    recorded.text = box.value;
-    showVerdict(nothing);
-  };
-  recordedPart("box").ontoggle = () => (recorded.isOpen = recordedPart("box").open);
-  recordedPart("judge").onclick = judgeCalls;
-  recordedPart("example").onclick = () => showRecorded(RECORDED_EXAMPLE);
-  recordedPart("file").onchange = async () => {
-    const text = await recordedPart("file").files[0].text();
-    recordedPart("file").value = "";
-    showRecorded(text);
-  };
-}
-return { drawRecordedBox, showRecorded, listenToRecorded };
-})();
-
 // activities/open.js
 const $activities_open = (() => {
 const { TRACES } = $made_traces;
 const { numberOfLevel } = $data_levels;
 const { byId } = $page_dom;
-const { showMarks } = $page_editor;
-const { isExample, openKept } = $page_example;
+const { isExample, openKept, openTask, openWork, ownTask, showMarks } = $page_work;
 const { HERE, isText, keepWork, keptUnder, works } = $page_kept;
 const { fillWorks, pickExample } = $page_menu;
 const { exampleShown, goTo, held, now, tell } = $page_now;
-const { setView } = $page_places;
+const { setView } = $page_seen;
 const { stopPlay } = $page_play;
 const { entryOf } = $page_state;
 const { keepSoon, visit } = $page_visit;
 const { sceneOfHash } = $page_scene_address;
-const { openTask, openWork, ownTask } = $page_work;
 const { AddressFault, readAddress } = $run_address;
 const { escaped } = $run_markup;
 const { learning } = $story_learning;
-const { keptStory } = $story_kept_story;
+const { keptStory } = $story_kept;
 const { faultOfScene, openScene } = $story_scene;
 const { showCourseText, takeCourseOfAddress } = $activities_courses;
 const { beginJudging } = $activities_judging;
@@ -9254,167 +9652,101 @@ function bringBack() {
 return { openRecorded, openCourseFile, followAddress, showBeforehand, openFirst };
 })();
 
-// story/ask_figure.js
-const $story_ask_figure = (() => {
-const { BREAK_LEVELS } = $data_levels;
-const { now } = $page_now;
-const { QUESTIONS } = $story_ask;
-const { APPENDIX } = $story_ask_more;
-const { Figure } = $story_figure;
-const { LIST_WORDS, part, takeFigure } = $story_scene;
-const CHECK_WORDS = {
-  lock: "the lock is ignored",
-  "hand-over-hand": "it lets go of one lock before it has the next",
-  "second-walk": "it does not walk again",
-  "marks-in-validation": "it does not look at the marks",
-  "mark-in-remove": "it marks a node that is marked already",
-  "mark-in-add": "an add does not look at the mark of its pred",
-  "mark-at-key": "a contains does not look at the mark",
-};
-const ALL = [...QUESTIONS, ...APPENDIX];
-const itemOf = ({ id }) => ALL.find(({ name }) => name === id);
-const isEmbed = () => now.place.view === "embed";
-
-function takeBranch({ lines, opening, lacks = null, isFree = false }) {
-  const item = itemOf(now.place);
-  const calls = isFree ? {} : item.calls;
-  return takeFigure(new Figure(freshBox(), {
-    list: item.list, lacks, lines, calls, threads: item.threads ?? 2, quota: item.quota ?? 4, opening: opening ?? item.opening,
-    operations: operationsIn(item),
-    strip: true, scrub: true, again: false, free: isFree, short: true, roomFor: 552, high: isEmbed() ? 0.34 : 0.23, least: isEmbed() ? 110 : 180,
-    code: !isEmbed(), codeTitle: LIST_WORDS[item.list], codeNote: lacks === null ? "" : `Here ${CHECK_WORDS[lacks]}.`,
-    struck: BREAK_LEVELS[lacks]?.missing,
-  }));
+// page/controls.js
+const $page_controls = (() => {
+const { byId } = $page_dom;
+const { newSchedule, runBox, runWithOpening, showMarks, watchEditor } = $page_work;
+const { openFile, refreshReport, savePicture, saveText } = $page_files;
+const { keepUnder, keptUnder } = $page_kept;
+const { changeSpeed, goByHand, toggleKeys, toggleLecture, togglePlay, wantsLessMotion } = $page_play;
+const { cancelLong } = $page_long_run;
+const { chooseInList } = $page_menu;
+const { change, dispatch, now } = $page_now;
+const { copyLink, keepSoon } = $page_visit;
+function stopUnable(event) {
+  if (event.target.closest?.('[aria-disabled="true"]') == null) return;
+  event.stopPropagation();
+  event.preventDefault();
 }
 
-const operationsIn = ({ lines, rest }) => [...lines, ...rest].filter((line) => line.startsWith("begin")).map((line) => line.split(" ")[2]);
-
-function freshBox() {
-  const box = Object.assign(document.createElement("div"), { id: "figure" });
-  part("#figure").replaceWith(box);
-  return box;
-}
-return { CHECK_WORDS, ALL, itemOf, isEmbed, takeBranch };
-})();
-
-// story/ask_branches.js
-const $story_ask_branches = (() => {
-const { now } = $page_now;
-const { tag } = $run_markup;
-const { CHECK_WORDS, itemOf, takeBranch } = $story_ask_figure;
-const { LiveRun } = $story_live_run;
-const { drawLedger, isOddRun, part, scene, setScene } = $story_scene;
-function takeOwnBranch(branch) {
-  const figure = takeBranch({ ...branch, isFree: true });
-  Object.assign(figure, { onFork: fork, onStep: grow });
-  return figure;
+function skipToRun() {
+  const first = { stage: "#next", scene: "#scene :is(.option, .fig button, .card, #sides-turns button, .foot .primary)" };
+  document.querySelector(first[now.place.screen])?.focus();
 }
 
-function fork(figure) {
-  const { branches, at } = now.scene;
-  const { lacks, opening, isFixed } = branches[at];
-  const isOwn = at > 0 && !isFixed && figure.run.count === figure.run.trace.total;
-  if (isOwn) return;
-  const number = 1 + branches.filter((one, index) => index > 0 && !one.isFixed).length;
-  const lines = figure.run.linesHere();
-  const own = { name: `What if ${number}`, lines, lacks, opening, from: figure.run.count };
-  figure.run.take(lines);
-  setScene({ branches: [...branches, own], at: branches.length });
+function listenToBar() {
+  byId("back").onclick = () => goByHand(now.run.count - 1);
+  byId("next").onclick = () => goByHand(now.run.count + 1);
+  byId("play").onclick = togglePlay;
+  byId("speed").onchange = changeSpeed;
+  byId("speed").value = wantsLessMotion() ? "slow" : "medium";
+  byId("slider").oninput = () => goByHand(Number(byId("slider").value));
+  byId("all-threads").onclick = () => dispatch("prefs", { allThreads: !now.prefs.allThreads });
+  byId("keys").onclick = toggleKeys;
+  byId("skip").onclick = skipToRun;
+  for (const name of ["lecture", "leave"]) byId(name).onclick = toggleLecture;
+  byId("link-here").onclick = copyLink;
+  byId("long-cancel").onclick = cancelLong;
 }
 
-function grow(figure) {
-  const { branches, at } = now.scene;
-  if (at === 0 || branches[at].isFixed) return;
-  const lines = [...figure.run.lines];
-  figure.isLost = figure.run.isBroken();
-  setScene({ branches: branches.map((one, index) => (index === at ? { ...one, lines } : one)), stage: "task" });
-  figure.draw();
+function listenToSettings() {
+  const kept = keptUnder(SETTINGS) ?? {};
+  change("prefs", { hides: kept.hides !== false, letters: kept.letters !== false });
+  byId("hides").checked = now.prefs.hides;
+  byId("single-keys").checked = now.prefs.letters;
+  for (const [name, id] of [["hides", "hides"], ["letters", "single-keys"]]) {
+    byId(id).onchange = () => {
+      dispatch("prefs", { [name]: byId(id).checked });
+      keepUnder(SETTINGS, { hides: now.prefs.hides, letters: now.prefs.letters });
+    };
+  }
+}
+const SETTINGS = "listset-settings";
+
+function listenToWork() {
+  const box = byId("schedule");
+  byId("examples").onchange = () => chooseInList(byId("examples").value);
+  byId("run").onclick = runBox;
+  byId("opening").onchange = runWithOpening;
+  byId("link").onclick = copyLink;
+  byId("new").onclick = () => newSchedule(byId("new-list").value, byId("new-threads").value, byId("new-quota").value);
+  box.onscroll = showMarks;
+  watchEditor();
+  box.oninput = () => {
+    showMarks();
+    keepSoon();
+  };
+  box.onkeydown = (event) => {
+    if (event.key === "Enter" && (event.ctrlKey || event.metaKey)) runBox();
+  };
 }
 
-async function openBranch(at, plays = false) {
-  const branch = now.scene.branches[at];
-  const figure = takeOwnBranch(branch);
-  figure.isLost = figure.run.isBroken();
-  figure.set({ hidesDock: at === 0 || branch.isFixed === true });
-  setScene({ at, stage: plays ? "playing" : "done" });
-  if (!plays) return;
-  const asked = now.scene.branches[0].from;
-  const hasOwnRun = itemOf(now.place).without !== undefined;
-  await figure.replay(hasOwnRun ? 0 : Math.min(asked, figure.run.trace.total - 1));
-  if (scene.figure !== figure) return;
-  setScene({ stage: "done" });
+function listenToFiles() {
+  byId("report-box").ontoggle = refreshReport;
+  byId("file").onchange = () => openFile(byId("file").files[0]).then(() => (byId("file").value = ""));
+  byId("save-schedule").onclick = () => saveText("page.schedule", byId("schedule").value);
+  byId("save-trace").onclick = () => saveText("page.trace", now.run.trace.text);
+  byId("save-picture").onclick = savePicture;
 }
 
-const goBack = () => openBranch(0);
-const seeAgain = () => scene.figure.replay(now.scene.branches[0].from);
-
-function whatIf() {
-  const { figure } = scene;
-  figure.set({ hidesDock: false });
-  if (now.scene.at === 0) figure.moveTo(now.scene.branches[0].from);
-  setScene({ stage: "task" });
-  part("#figure").scrollIntoView({ block: "center", behavior: "smooth" });
+function placeParts() {
+  const narrow = matchMedia("(max-width: 940px)");
+  const place = () => {
+    for (const name of ["schedule-box", "new-box", "files-box", "threads-box"]) byId(name).open = !narrow.matches;
+  };
+  narrow.addEventListener("change", place);
+  place();
 }
-
-function withoutCheck(item) {
-  const { branches } = now.scene;
-  const known = branches.findIndex(({ isFixed }) => isFixed);
-  if (known !== -1) return openBranch(known, true);
-  const { lines = sameLines(item), opening } = item.without ?? {};
-  setScene({ branches: [...branches, { name: "Without this check", lines, opening, lacks: item.lacks, isFixed: true }] });
-  openBranch(branches.length, true);
-}
-
-function sameLines({ list, opening, lines, rest, lacks }) {
-  const whole = new LiveRun({ list, opening, lines: [...lines, ...rest] });
-  const broken = new LiveRun({ list, lacks, opening });
-  broken.take(whole.lines);
-  return [...broken.linesHere(), ...[0, 1].filter((thread) => !broken.isIdle(thread)).map((thread) => `go ${thread} out`)];
-}
-
-
-const ownWords = ({ from, lacks = null }, isBroken) => {
-  const proved = "Whatever you choose, some order of the calls explains their answers: that is proved of each run of this list.";
-  const broken = "No order of its calls explains their answers and what is left: you have broken this list.";
-  return `<b>Your own branch.</b> It leaves the example at step ${from}. ${isBroken ? broken : lacks === null ? proved : ""}`;
-};
-
-function fixedWords({ lacks }, isBroken) {
-  const { without, broken } = itemOf(now.place);
-  const which = `This is ${without === undefined ? "the same run" : "a run"} of a list with one check less: ${CHECK_WORDS[lacks]}.`;
-  const proved = "No order of the calls explains their answers and what is left; that is proved.";
-  return `<b>${isBroken ? broken : "Not broken yet."}</b> ${which} ${isBroken ? proved : "Some order still explains the answers."}`;
-}
-
-function talkOfBranch(branch) {
-  const { run } = scene.figure;
-  const isBroken = run.isBroken();
-  const ledger = isBroken && isOddRun(run) ? drawLedger(run) : "";
-  const words = branch.isFixed ? fixedWords(branch, isBroken) : ownWords(branch, isBroken);
-  const change = branch.isFixed ? '<button data-do="if">Change it from here on</button>' : "";
-  return `<div class="reveal${isBroken ? " bad" : ""}">${ledger}<div><p class="why">${words}</p>
-    <p class="line"><button data-do="home">← Back to the example</button>${change}</p></div></div>`;
-}
-
-function drawBranches({ branches, at }) {
-  const box = part("#branches");
-  box.hidden = branches.length === 1;
-  part("#what-if-mark").hidden = at === 0 || branches[at].isFixed === true;
-  const button = ({ name }, index) =>
-    tag("button", { class: "small", "data-do": "branch", "data-branch": index, "aria-pressed": index === at }, index === 0 ? "" : "↳ ", name);
-  box.innerHTML = branches.map(button).join("");
-}
-return { openBranch, goBack, seeAgain, whatIf, withoutCheck, talkOfBranch, drawBranches };
+return { stopUnable, listenToBar, listenToSettings, listenToWork, listenToFiles, placeParts };
 })();
 
 // story/ask_view.js
 const $story_ask_view = (() => {
 const { now } = $page_now;
 const { QUESTIONS } = $story_ask;
-const { drawBranches, goBack, openBranch, seeAgain, talkOfBranch, whatIf, withoutCheck } = $story_ask_branches;
-const { ALL, isEmbed, itemOf, takeBranch } = $story_ask_figure;
+const { ALL, drawBranches, goBack, isEmbed, itemOf, openBranch, seeAgain, takeBranch, talkOfBranch, whatIf, withoutCheck } = $story_ask_branches;
 const { isNarrow } = $story_figure_parts;
-const { keepStory, keptStory } = $story_kept_story;
+const { keepStory, keptStory } = $story_kept;
 const { LiveRun } = $story_live_run;
 const { FIGURE_AND_TALK, head, LIST_WORDS, numberOfKey, optionButtons, part, replyTo, scene, setScene, talk, threadOfKey } = $story_scene;
 const here = () => itemOf(now.place);
@@ -9521,36 +9853,6 @@ const askView = {
 return { askView };
 })();
 
-// story/break_map.js
-const $story_break_map = (() => {
-const { LACKING } = $made_classics;
-const { BREAK_LEVELS, THREE_MORE, TEN, numberOfLevel } = $data_levels;
-const { drawCard } = $story_ask_map;
-const { isBrokenOnce } = $story_kept_story;
-const { foot, head, LIST_WORDS } = $story_scene;
-function cardOf(name) {
-  const isDone = isBrokenOnce(name);
-  const { story, lacks } = BREAK_LEVELS[name];
-  const state = isDone ? { says: lacks, state: "done" } : { says: "" };
-  return drawCard({ href: `#break=${numberOfLevel(name)}`, list: LIST_WORDS[LACKING[name]], title: story, ...state });
-}
-
-function html() {
-  const count = TEN.filter(isBrokenOnce).length;
-  const next = TEN.find((name) => !isBrokenOnce(name)) ?? TEN[0];
-  const lead = `<p class="lead">Ten lists, from one lock to none. Each lacks one check. Let A and B step until a number is lost, or two
-    answers cannot both be right. Then say what is missing.</p>`;
-  const score = count === 0 ? "" : `<p class="score"><b>${count}</b> of ${TEN.length} broken</p>`;
-  return `${head("", "Break it", lead + score, "title")}<div class="cards">${TEN.map(cardOf).join("")}</div>
-    <h2>Three more</h2><div class="cards">${THREE_MORE.map(cardOf).join("")}</div>
-    ${foot("", `<a class="button primary" href="#break=${numberOfLevel(next)}">${count === 0 ? "Begin" : "Go on"} →</a>`)}`;
-}
-
-/** @type {import("./scene.js").View} */
-const breakMapView = { kind: "asks", title: () => "Break it · Why not just one lock?", html };
-return { breakMapView };
-})();
-
 // story/break_view.js
 const $story_break_view = (() => {
 const { LACKING } = $made_classics;
@@ -9561,7 +9863,7 @@ const { addressOf } = $run_address;
 const { departureOf, isTaskDone, NO_TASK } = $run_broken;
 const { wayOn } = $story_assignment;
 const { Figure } = $story_figure;
-const { isBrokenOnce, isNamed, keepBrokenLine, keepNamed } = $story_kept_story;
+const { isBrokenOnce, isNamed, keepBrokenLine, keepNamed } = $story_kept;
 const { runOfText } = $story_live_run;
 const { FIGURE_AND_TALK, drawLedger, foot, head, hintAndOn, isOddRun, LIST_WORDS, numberOfKey, optionButtons, part, scene, setScene, takeFigure, talk, threadOfKey } = $story_scene;
 const HINTS = 3;
@@ -9685,8 +9987,7 @@ function answer(index) {
 
 function replay() {
   const { figure } = scene;
-  const departs = departureOf(askNow, figure.run.trace);
-  figure.replay(Math.max(0, (departs?.event ?? 1) - 2));
+  figure.replay(Math.max(0, (departureOf(askNow, figure.run.trace) ?? 1) - 2));
 }
 
 function hint() {
@@ -10183,7 +10484,7 @@ const $story_path_view = (() => {
 const { now } = $page_now;
 const { Figure } = $story_figure;
 const { isNarrow } = $story_figure_parts;
-const { keepStory, keptStory, startAfresh } = $story_kept_story;
+const { keepStory, keptStory, startAfresh } = $story_kept;
 const { SCREENS } = $story_path;
 const { barHtml, dots, endHtml, GONE, HERO, LAST, welcome } = $story_path_parts;
 const { FIGURE_AND_TALK, drawLedger, head, numberOfKey, optionButtons, part, replyTo, scene, setScene, takeFigure, talk, threadOfKey } = $story_scene;
@@ -10367,26 +10668,6 @@ const pathView = {
   },
 };
 return { pathView };
-})();
-
-// data/own_course.js
-const $data_own_course = (() => {
-const OWN_COURSE = `listset-course 1
-course Monday
-lesson first
-title A key that is gone
-list lazy
-threads 2
-quota 0
-opening 5
-question
-  Let a contains of thread 0 answer false, although 5 was in the set when it began: thread 1 removes it meanwhile.
-goal
-  call C of 0: contains, key 5, answers false
-  call R of 1: remove, key 5, answers true, begins after C, ends during C
-  say A contains of thread 0 answers false; a remove of thread 1 begins after it, and answers true while it is open.
-`;
-return { OWN_COURSE };
 })();
 
 // story/handins.js
@@ -10613,16 +10894,87 @@ const handInDeeds = { csv: () => saveText("hand-ins.csv", `\ufeff${csvOf(given.r
 return { handInsHtml, beginHandIns, handInDeeds };
 })();
 
-// story/homework_view.js
-const $story_homework_view = (() => {
-const { LISTS } = $made_rows;
+// story/teach_view.js
+const $story_teach_view = (() => {
 const { LACKING } = $made_classics;
+const { LISTS } = $made_rows;
 const { BREAK_LEVELS } = $data_levels;
-const { linkTo } = $page_visit;
 const { escaped, tag } = $run_markup;
 const { seedOf } = $run_seed;
+const { linkTo } = $page_visit;
+const { QUESTIONS } = $story_ask;
 const { addressOfTasks, allLevels, bookCourse } = $story_assignment;
-const { copyText, part } = $story_scene;
+const { beginHandIns, handInDeeds, handInsHtml } = $story_handins_view;
+const { startAfresh } = $story_kept;
+const { copyText, head, part } = $story_scene;
+/** @type {[number, string, string, string][]} */
+const LECTURE = [
+  [4, "Lose a number", "#story=2&view=lecture", "No lock. Let the class call out A or B until a number is lost."],
+  [4, "One lock", "#story=3&view=lecture", "A has the lock and is stopped. How far does B get? Let the class guess, then press 1, 2 or 3."],
+  [5, "FineList: hand over hand", "#story=4&view=lecture", "A has locked 3 and 7. How far does B get now? Then let B follow A, node by node."],
+  [5, "A walk without locks", "#story=5&view=lecture", "Both lock what they change, and 5 gets lost all the same. Let the class find the order."],
+  [6, "Why a second walk", "#ask=stale-pred&view=lecture", "May A write? After the answer, press “And without this check?”: 5 is lost."],
+  [5, "LazyList: a mark", "#story=7&view=lecture", "B has marked 5, and its node is still in the chain. What may A answer?"],
+  [5, "In another thread’s step", "#ask=read-in-anothers-step&view=lecture", "A will answer false. When is that right? In a step of B."],
+  [3, "Who waits?", "#sides=coarse.lazy&quota=4&calls=0.add.5,1.contains.5&turns=0.0.0.0&view=lecture",
+    "Press B three times: LazyList has answered, CoarseList tries its lock."],
+  [5, "LockFreeList: compare-and-set", "#story=9&view=lecture", "Two removes of 5, no lock. Who comes first? Let the class decide, then step A and B."],
+  [3, "Everybody judges", "#seed=lazy.2.5.2.17&judge", "Write the link on the board. All get the same run, without its answers."],
+];
+const PANELS = { slides: "Lecture", embed: "Embed", homework: "Homework", handins: "Hand-ins", own: "Your own lessons" };
+
+function lectureHtml() {
+  const slide = ([minutes, title, href, says]) =>
+    tag("li", {}, tag("span", { class: "minutes" }, `${minutes}′`), `<div><b>${title}</b><p class="small">${says}</p></div>`,
+      tag("a", { class: "button", href, target: "_blank" }, "Open slide ↗"),
+      tag("button", { class: "quiet", "data-do": "link", "data-link": href }, "Copy link"));
+  const sum = LECTURE.reduce((total, [minutes]) => total + minutes, 0);
+  return `<section class="panel" id="slides"><h2>A lecture of ${sum} minutes</h2>
+    <p class="prose">Each link opens one slide, as large as the screen. A presenter’s keys and the arrows step; A and B let a thread go on; Escape
+    leads back. Ask the class first, then step.</p><ol class="plan">${LECTURE.map(slide).join("")}</ol></section>`;
+}
+
+
+const titleOf = (name) => QUESTIONS.find((item) => item.name === name).title;
+const snippetOf = (name) =>
+  `<iframe src="${linkTo(`#ask=${name}&view=embed`)}" width="800" height="420" style="border:0" loading="lazy" title="${titleOf(name)}"></iframe>`;
+
+function embedHtml() {
+  const option = ({ name, title, list }) => tag("option", { value: name }, `${title} (${LISTS[list].name})`);
+  return `<section class="panel" id="embed"><h2>A question in your own page</h2>
+    <p class="prose">The question, the list, the answers, then the run: in 800 × 420 pixels, for a course page or a blog.</p>
+    <div class="line"><label>Question <select id="embed-which">${QUESTIONS.map(option).join("")}</select></label>
+    <button data-do="snippet">Copy the snippet</button></div><pre id="embed-text" class="snippet" tabindex="0"></pre>
+    <div class="frame"><iframe id="embed-frame" width="800" height="420" title="how it looks" loading="lazy"></iframe></div></section>`;
+}
+
+function beginEmbed() {
+  const which = part("#embed-which");
+  which.value = "two-removers";
+  which.onchange = () => {
+    part("#embed-text").textContent = snippetOf(which.value);
+    part("#embed-frame").src = `${location.pathname}?embed=${which.value}#ask=${which.value}&view=embed`; // a frame of its own, not this page
+  };
+  which.onchange();
+}
+
+const OWN_COURSE = `listset-course 1
+course Monday
+lesson first
+title A key that is gone
+list lazy
+threads 2
+quota 0
+opening 5
+question
+  Let a contains of thread 0 answer false, although 5 was in the set when it began: thread 1 removes it meanwhile.
+goal
+  call C of 0: contains, key 5, answers false
+  call R of 1: remove, key 5, answers true, begins after C, ends during C
+  say A contains of thread 0 answers false; a remove of thread 1 begins after it, and answers true while it is open.
+`;
+
+
 const FIRST_NUMBER = 17;
 const work = { seeds: [] };
 const piece = (name) => part(`#hw-${name}`);
@@ -10695,70 +11047,7 @@ const homeworkDeeds = {
   },
   copy: () => copyText(linkTo(addressNow()), "The link is copied."),
 };
-return { homeworkHtml, beginHomework, homeworkDeeds };
-})();
 
-// story/teach_view.js
-const $story_teach_view = (() => {
-const { LISTS } = $made_rows;
-const { OWN_COURSE } = $data_own_course;
-const { linkTo } = $page_visit;
-const { escaped, tag } = $run_markup;
-const { QUESTIONS } = $story_ask;
-const { beginHandIns, handInDeeds, handInsHtml } = $story_handins_view;
-const { beginHomework, homeworkDeeds, homeworkHtml } = $story_homework_view;
-const { startAfresh } = $story_kept_story;
-const { copyText, head, part } = $story_scene;
-/** @type {[number, string, string, string][]} */
-const LECTURE = [
-  [4, "Lose a number", "#story=2&view=lecture", "No lock. Let the class call out A or B until a number is lost."],
-  [4, "One lock", "#story=3&view=lecture", "A has the lock and is stopped. How far does B get? Let the class guess, then press 1, 2 or 3."],
-  [5, "FineList: hand over hand", "#story=4&view=lecture", "A has locked 3 and 7. How far does B get now? Then let B follow A, node by node."],
-  [5, "A walk without locks", "#story=5&view=lecture", "Both lock what they change, and 5 gets lost all the same. Let the class find the order."],
-  [6, "Why a second walk", "#ask=stale-pred&view=lecture", "May A write? After the answer, press “And without this check?”: 5 is lost."],
-  [5, "LazyList: a mark", "#story=7&view=lecture", "B has marked 5, and its node is still in the chain. What may A answer?"],
-  [5, "In another thread’s step", "#ask=read-in-anothers-step&view=lecture", "A will answer false. When is that right? In a step of B."],
-  [3, "Who waits?", "#sides=coarse.lazy&quota=4&calls=0.add.5,1.contains.5&turns=0.0.0.0&view=lecture",
-    "Press B three times: LazyList has answered, CoarseList tries its lock."],
-  [5, "LockFreeList: compare-and-set", "#story=9&view=lecture", "Two removes of 5, no lock. Who comes first? Let the class decide, then step A and B."],
-  [3, "Everybody judges", "#seed=lazy.2.5.2.17&judge", "Write the link on the board. All get the same run, without its answers."],
-];
-const PANELS = { slides: "Lecture", embed: "Embed", homework: "Homework", handins: "Hand-ins", own: "Your own lessons" };
-
-function lectureHtml() {
-  const slide = ([minutes, title, href, says]) =>
-    tag("li", {}, tag("span", { class: "minutes" }, `${minutes}′`), `<div><b>${title}</b><p class="small">${says}</p></div>`,
-      tag("a", { class: "button", href, target: "_blank" }, "Open slide ↗"),
-      tag("button", { class: "quiet", "data-do": "link", "data-link": href }, "Copy link"));
-  const sum = LECTURE.reduce((total, [minutes]) => total + minutes, 0);
-  return `<section class="panel" id="slides"><h2>A lecture of ${sum} minutes</h2>
-    <p class="prose">Each link opens one slide, as large as the screen. A presenter’s keys and the arrows step; A and B let a thread go on; Escape
-    leads back. Ask the class first, then step.</p><ol class="plan">${LECTURE.map(slide).join("")}</ol></section>`;
-}
-
-
-const titleOf = (name) => QUESTIONS.find((item) => item.name === name).title;
-const snippetOf = (name) =>
-  `<iframe src="${linkTo(`#ask=${name}&view=embed`)}" width="800" height="420" style="border:0" loading="lazy" title="${titleOf(name)}"></iframe>`;
-
-function embedHtml() {
-  const option = ({ name, title, list }) => tag("option", { value: name }, `${title} (${LISTS[list].name})`);
-  return `<section class="panel" id="embed"><h2>A question in your own page</h2>
-    <p class="prose">The question, the list, the answers, then the run: in 800 × 420 pixels, for a course page or a blog.</p>
-    <div class="line"><label>Question <select id="embed-which">${QUESTIONS.map(option).join("")}</select></label>
-    <button data-do="snippet">Copy the snippet</button></div><pre id="embed-text" class="snippet" tabindex="0"></pre>
-    <div class="frame"><iframe id="embed-frame" width="800" height="420" title="how it looks" loading="lazy"></iframe></div></section>`;
-}
-
-function beginEmbed() {
-  const which = part("#embed-which");
-  which.value = "two-removers";
-  which.onchange = () => {
-    part("#embed-text").textContent = snippetOf(which.value);
-    part("#embed-frame").src = `${location.pathname}?embed=${which.value}#ask=${which.value}&view=embed`; // a frame of its own, not this page
-  };
-  which.onchange();
-}
 
 const OWN = `<section class="panel" id="own"><h2>Lessons of your own</h2>
   <p class="prose">A course is a text: of each lesson a question, a list, the numbers in it, and what a solution shows. Write it under Solve,
@@ -10798,569 +11087,42 @@ const teachView = {
     afresh: startAfresh,
   },
 };
-return { teachView };
-})();
-
-// page/keys.js
-const $page_keys = (() => {
-const { byId } = $page_dom;
-const { now, show } = $page_now;
-const { setView } = $page_places;
-const { goByHand, goToTurn, togglePlay } = $page_play;
-const keysOf = { scene: (event) => event }; // what keys do in a scene
-
-function pressKey(event) {
-  if (/^(TEXTAREA|INPUT|SELECT)$/.test(event.target.tagName) && event.target.id !== "slider") return;
-  if (event.ctrlKey || event.metaKey || event.altKey || event.target.closest("[role=slider]") !== null) return;
-  if (event.key === "Escape" && now.place.view !== null) return toggleLecture();
-  if (now.place.screen === "scene") return keysOf.scene(event);
-  const { total } = now.run.trace;
-  const far = now.place.view === "lecture" ? 1 : 10; // what a lecturer's pointer sends
-  const steps = { ArrowRight: 1, ArrowLeft: -1, PageDown: far, PageUp: -far, Home: -total, End: total };
-  if (event.key in steps) {
-    event.preventDefault();
-    if (event.shiftKey && event.key.startsWith("Arrow")) goToTurn(steps[event.key]);
-    else goByHand(now.run.count + steps[event.key]);
-  } else if (event.key === " " && !/^(BUTTON|SUMMARY|A)$/.test(event.target.tagName)) {
-    event.preventDefault();
-    togglePlay();
-  } else if (event.key === "?" || (event.key === "p" && now.prefs.letters)) ({ "?": toggleKeys, p: togglePlay })[event.key]();
-}
-
-function toggleKeys() {
-  byId("key-help").hidden = !byId("key-help").hidden;
-  byId("keys").setAttribute("aria-expanded", String(!byId("key-help").hidden));
-}
-
-function toggleLecture() {
-  const isLeft = document.activeElement === byId("leave");
-  setView(now.place.view === null ? "lecture" : null);
-  show();
-  if (isLeft) (byId("sides-lecture") ?? byId("lecture")).focus();
-}
-return { keysOf, pressKey, toggleKeys, toggleLecture };
-})();
-
-// run/sides.js
-const $run_sides = (() => {
-const { titleOf } = $run_schedule_text;
-const { letterOf } = $run_markup;
-const { State } = $run_state;
-const { isTrace, MOST_NUMBER, Trace } = $run_trace;
-const MOST_TURNS = 500;
-
-class ProgramFault extends Error {}
-
-function readProgram(text) {
-  const program = [];
-  for (const line of text.split("\n").filter((one) => one.trim() !== "")) {
-    const [, number, letter, calls] = /^\s*(?:t?(\d+)|([A-Z]))\s*:\s*(.+?)\s*$/i.exec(line) ?? [];
-    const thread = Number(number ?? letter?.toUpperCase().charCodeAt(0) - "A".charCodeAt(0));
-    if (!(thread < 64)) throw new ProgramFault(`"${line.slice(0, 60)}" is no line as "A: add 5, remove 5"`);
-    for (const call of calls.split(",").map((one) => one.trim())) {
-      const [, operation, key] = /^(add|remove|contains|ceiling) (0|[1-9]\d{0,9})$/.exec(call) ?? [];
-      if (key === undefined || Number(key) > MOST_NUMBER) throw new ProgramFault(`"${call.slice(0, 40)}" is no call as "add 5"`);
-      (program[thread] ??= []).push(`${operation} ${key}`);
-    }
-  }
-  if (program.length === 0) throw new ProgramFault('a program has lines as "A: add 5, remove 5"');
-  return Array.from(program, (calls) => calls ?? []);
-}
-
-function programText(program) {
-  const lines = program.map((calls, thread) => (calls.length === 0 ? "" : `${letterOf(thread)}: ${calls.join(", ")}\n`));
-  return lines.join("");
-}
-
-class Side {
-  constructor(ask, kind, { program, quota, opening }) {
-    this.ask = ask;
-    this.kind = kind;
-    this.lines = [];
-    this.counts = [0];
-    const set = [titleOf(2), `list ${kind}`, `threads ${program.length}`, `quota ${quota}`];
-    this.head = [...set, ...opening.map((key) => `opening ${key}`)];
-    this.run();
-  }
-
-  get schedule() {
-    return [...this.head, ...this.lines, ""].join("\n");
-  }
-
-  run() {
-    const { text } = this.ask("listset_trace", this.schedule);
-    if (!isTrace(text)) throw new ProgramFault(text.trim());
-    this.trace = new Trace(text, 2);
-    this.state = new State(this.trace);
-    this.state.moveTo(this.trace.total);
-  }
-
-  isOpen(thread) {
-    return this.state.threads[thread].pc !== 0;
-  }
-
-  take(line) {
-    if (line !== null) {
-      this.lines.push(line);
-      this.run();
-    }
-    this.counts.push(this.trace.total);
-  }
-}
-
-class Sides {
-  constructor(ask, kinds, { program, quota, opening }) {
-    this.program = program;
-    this.turns = [];
-    this.sides = kinds.map((kind) => new Side(ask, kind, { program, quota, opening }));
-  }
-
-  linesOf(thread) {
-    if (thread >= this.program.length) return null;
-    const isOpen = this.sides.map((side) => side.isOpen(thread));
-    if (isOpen.includes(true)) return isOpen.map((open) => (open ? `go ${thread} 1` : null));
-    const next = this.program[thread]?.[this.sides[0].trace.callsOf[thread].length];
-    return next === undefined ? null : this.sides.map(() => `begin ${thread} ${next}`);
-  }
-
-  turn(thread) {
-    const lines = this.linesOf(thread);
-    if (lines === null || this.turns.length === MOST_TURNS) return false;
-    this.sides.forEach((side, at) => side.take(lines[at]));
-    this.turns.push(thread);
-    return true;
-  }
-}
-return { ProgramFault, readProgram, programText, Sides };
-})();
-
-// activities/compare.js
-const $activities_compare = (() => {
-const { LISTS } = $made_rows;
-const { byId, redraw } = $page_dom;
-const { toggleLecture } = $page_keys;
-const { askNow, now } = $page_now;
-const { copied, linkTo } = $page_visit;
-const { addressOf, readAddress, warningOf } = $run_address;
-const { chipOf, escaped, tag } = $run_markup;
-const { sentenceOf } = $run_sentences;
-const { ProgramFault, programText, readProgram, Sides } = $run_sides;
-const { ShownRun } = $story_live_run;
-const { head, setScene, threadOfKey } = $story_scene;
-const { StillFigure } = $story_still_figure;
-const PRESETS = [
-  ["Who waits?", "#sides=coarse.lazy&quota=4&calls=0.add.5,1.contains.5&turns=0.0.0.0.1.1.1"],
-  ["Two removes of neighbours", "#sides=fine.optimistic&quota=4&opening=3.5.7&calls=0.remove.3,1.remove.7&turns=0.0.0.1.1.1"],
-  ["A reader beside a writer", "#sides=lazy.lock-free&quota=4&opening=3.5.7&calls=0.remove.5,1.contains.5&turns=0.0.0.0.0.1.1"],
-];
-const PICTURE = '<h2></h2><div class="pair"></div><p class="note"><a class="button">Watch this run</a></p>';
-const SIDES = ["one", "other"];
-const shown = { sides: null, at: 0, quota: 4, opening: [], figures: [] }; // at: how many turns are shown
-const sidesPart = (name) => byId(`sides-${name}`);
-
-const listsOf = ({ given }) => (given.sides ?? "coarse.lazy").split(".");
-
-function html(place) {
-  const preset = ([name, href]) => tag("a", { class: "button", href }, escaped(name));
-  const listOf = (at) => Object.entries(LISTS).map(([kind, { name }]) =>
-    tag("option", { value: kind, ...(kind === listsOf(place)[at] ? { selected: "" } : {}) }, name));
-  const choice = (name, at) => tag("label", {}, ["left ", "right "][at], tag("select", { id: `sides-${name}` }, ...listOf(at)));
-  const lead = `<p class="lead">The same calls on two lists. A turn of a thread executes its next step in both; a call that has ended waits for
-    the other list. Who has to wait, and who is done? <a class="beside" href="tables.html#progress">Progress of each list: blocking, lock-free, wait-free</a></p>`;
-  return `<section class="screen">${head("", "Two lists, one program", lead)}
-    <div id="sides-presets" class="line">${PRESETS.map(preset).join(" ")}</div>
-    <details id="sides-own"><summary>Your own program</summary><div class="line small">${SIDES.map(choice).join("")}
-      <label>initial keys <input id="sides-opening" spellcheck="false" placeholder="no keys" size="8"></label>
-      <label>calls <textarea id="sides-program" rows="2" cols="24" spellcheck="false"></textarea></label>
-      <button data-do="begin">Run this program</button> <button data-do="copy">Copy link</button></div></details>
-    <p id="sides-told" role="status"></p><div id="sides-pictures"></div></section>
-    <footer class="foot"><button class="quiet" data-do="back" aria-label="one turn back">◂</button>
-      <input id="sides-slider" type="range" min="0" value="0" aria-label="turn"> <span id="sides-where" class="small"></span> <span id="sides-turns"></span>
-      <button class="quiet" id="sides-lecture" data-do="lecture" title="show this as one slide for a lecture hall; Escape leads back">Lecture view</button></footer>`;
-}
-
-function begin({ given }) {
-  /** @type {Record<string, string>} */
-  const { calls, turns = "", quota, opening = "" } = { ...readAddress(PRESETS[0][1]).sides, ...given };
-  const program = [];
-  for (const call of calls.split(",").filter((one) => one !== "")) {
-    const [thread, operation, key] = call.split(".");
-    (program[Number(thread)] ??= []).push(`${operation} ${key}`);
-  }
-  sidesPart("program").value = programText(Array.from(program, (own) => own ?? []));
-  sidesPart("opening").value = opening.replaceAll(".", " ");
-  for (const name of SIDES) sidesPart(name).onchange = () => beginSides();
-  sidesPart("slider").oninput = () => turnTo(Number(sidesPart("slider").value));
-  Object.assign(shown, { sides: null, quota: Number(quota), figures: [] });
-  beginSides(turns.split(".").filter((thread) => thread !== "").map(Number));
-}
-
-function beginSides(turns = []) {
-  try {
-    const program = readProgram(sidesPart("program").value);
-    const opening = sidesPart("opening").value.split(/[\s,]+/).filter((key) => key !== "");
-    const kinds = SIDES.map((name) => sidesPart(name).value);
-    Object.assign(shown, { sides: new Sides(askNow, kinds, { program, quota: shown.quota, opening }), opening });
-    for (const thread of turns) if (!shown.sides.turn(thread)) break;
-    sidesPart("told").textContent = "";
-    takeTurns();
-  } catch (fault) {
-    if (!(fault instanceof ProgramFault)) throw fault;
-    sidesPart("told").textContent = fault.message;
-  }
-}
-
-function takeTurns() {
-  shown.at = shown.sides.turns.length;
-  setScene({ text: addressOfSides() });
-}
-
-function turnOf(thread) {
-  const { sides, at } = shown;
-  if (at < sides.turns.length) beginSides(sides.turns.slice(0, at));
-  const isMade = shown.sides.turn(thread);
-  takeTurns();
-  if (!isMade) sidesPart("told").innerHTML = `${chipOf(thread)} has ended all its calls in both lists.`;
-}
-
-function turnTo(at) {
-  shown.at = Math.min(Math.max(at, 0), shown.sides.turns.length);
-  draw();
-}
-
-
-function draw() {
-  const { sides, at } = shown;
-  if (sides === null) return;
-  const button = (_, thread) => tag("button", { "data-do": "turn", "data-thread": thread }, `${chipOf(thread)} next step`);
-  redraw(sidesPart("turns"), sides.program.map(button).join(" "));
-  const words = `turn ${at} of ${sides.turns.length}`;
-  Object.assign(sidesPart("slider"), { max: sides.turns.length, value: at });
-  sidesPart("slider").setAttribute("aria-valuetext", words);
-  sidesPart("where").textContent = words;
-  figuresOf(sides.sides).forEach((figure, place) => drawSide(sides.sides[place], figure));
-}
-
-function figuresOf(sides) {
-  const { figures } = shown;
-  if (figures.length > 0 && sides.every((side, at) => figures[at].spec.list === side.kind)) return figures;
-  end();
-  sidesPart("pictures").innerHTML = sides.map(({ kind }) => tag("section", { "aria-label": LISTS[kind].name }, PICTURE)).join("");
-  const boxes = sidesPart("pictures").querySelectorAll(".pair");
-  const specOf = ({ kind, trace, state }) => ({ list: kind, run: new ShownRun(trace, state), code: false, sentence: sentenceOf, roomFor: 560, high: 0.3 });
-  figures.push(...sides.map((side, at) => new StillFigure(boxes[at], specOf(side))));
-  return figures;
-}
-
-const end = () => shown.figures.splice(0).forEach((figure) => figure.end());
-
-function drawSide(side, figure) {
-  const { at, sides: { turns } } = shown;
-  const count = side.counts[at];
-  const box = figure.box.parentElement;
-  box.querySelector("h2").innerHTML = `${LISTS[side.kind].name} <small>${count} events</small>`;
-  box.querySelector("a").href = addressOf(side.schedule, count) ?? "#";
-  side.state.moveTo(count);
-  figure.take(new ShownRun(side.trace, side.state, count), undefined, now.prefs.hides);
-  const hasWaited = at > 0 && count === side.counts[at - 1];
-  if (hasWaited) figure.tell(`${chipOf(turns[at - 1])} has ended its call here, and waits for the other list.`);
-}
-
-function addressOfSides() {
-  const { sides, quota, opening } = shown;
-  const calls = sides.program.flatMap((own, thread) => own.map((call) => `${thread}.${call.replace(" ", ".")}`));
-  const parts = [`sides=${sides.sides.map(({ kind }) => kind).join(".")}`, `quota=${quota}`];
-  if (opening.length > 0) parts.push(`opening=${opening.join(".")}`);
-  return `#${[...parts, `calls=${calls.join()}`, `turns=${sides.turns.join(".")}`].join("&")}`;
-}
-
-async function copySides() {
-  const link = linkTo(addressOfSides());
-  const isCopied = await copied(link);
-  sidesPart("told").innerHTML = `${isCopied ? "The link is copied" : "Copy this link"}: <code>${escaped(link)}</code>${warningOf(link)}`;
-}
-
-function press(event) {
-  const { sides, at } = shown;
-  const by = { ArrowRight: 1, PageDown: 1, ArrowLeft: -1, PageUp: -1, Home: -Infinity, End: Infinity }[event.key];
-  if (sides === null) return;
-  if (by !== undefined) {
-    event.preventDefault();
-    turnTo(at + by);
-  } else if (threadOfKey(event) in sides.program) turnOf(threadOfKey(event));
-}
-
-/** @type {import("../story/scene.js").View} */
-const compareView = {
-  kind: "compare",
-  title: (place) => `${listsOf(place).map((kind) => LISTS[kind].name).join(" beside ")} · Why not just one lock?`,
-  html,
-  begin,
-  draw,
-  end,
-  press,
-  deeds: {
-    begin: () => beginSides(),
-    copy: copySides,
-    back: () => turnTo(shown.at - 1),
-    turn: ({ dataset }) => turnOf(Number(dataset.thread)),
-    lecture: toggleLecture,
-  },
-};
-return { compareView };
-})();
-
-// activities/judge_map.js
-const $activities_judge_map = (() => {
-const { CLASSICS } = $made_classics;
-const { examples } = $page_example;
-const { keptUnder } = $page_kept;
-const { escaped, inLetters } = $run_markup;
-const { itemOf } = $story_ask_figure;
-const { drawCard } = $story_ask_map;
-const { head, LIST_WORDS } = $story_scene;
-const { JUDGED } = $activities_judging;
-const { drawRecordedBox, listenToRecorded } = $activities_recorded;
-const { listenToSeedForm, seedForm } = $activities_watch;
-function html() {
-  const judged = Object.keys(keptUnder(JUDGED) ?? {});
-  const cardOf = ({ name, kind }) => {
-    const state = judged.some((run) => run.startsWith(`${name} `)) ? "done" : "";
-    const { title } = itemOf({ id: name });
-    return drawCard({ href: `#example=${name}&judge`, list: LIST_WORDS[kind], title, says: escaped(inLetters(CLASSICS[name].question)), state });
-  };
-  const lead = `<p class="lead">You see a run without its replies. Say what each call
-    answers, and put a point where it takes effect. The proved <code>check</code> judges your order: any order that explains the run
-    is right.</p>`;
-  return `${head("", "Judge a run yourself", lead, "title")}<h2>A random run</h2>${seedForm("judge-seed", "Judge a run")}${drawRecordedBox()}<h2>An example, by its question</h2>
-    <div class="cards">${examples().map(cardOf).join("")}</div>`;
-}
-
-function begin() {
-  listenToSeedForm("judge-seed", "&judge");
-  listenToRecorded();
-}
-
-/** @type {import("../story/scene.js").View} */
-const judgeMapView = { kind: "asks", title: () => "Judge · Why not just one lock?", html, begin };
-return { judgeMapView };
-})();
-
-// activities/read.js
-const $activities_read = (() => {
-const { byId } = $page_dom;
-const { escaped, tag } = $run_markup;
-const { drawCard } = $story_ask_map;
-const { head } = $story_scene;
-const PAGES = [
-  ["how-it-works.html", "How it works", "The five lists, from one lock to none, each with the runs that show why."],
-  ["classic.html", "The examples", "Eighteen runs, each with its question, the answer, and what goes wrong without the check."],
-  ["tables.html", "The step tables", "Each list row by row: what a step reads and writes, and which row comes next."],
-  ["tables.html#progress", "Progress: blocking, lock-free, wait-free", "Which calls of each list may block, and within how many steps a call ends."],
-];
-const TERMS = {
-  event: "The begin of a call, or one step of it: one load, store or compare-and-exchange of one word.",
-  schedule: "Which thread makes the next step, from the first event to the last. It is the whole input of a run.",
-  history: "The calls with their begin, end, thread and reply. Two calls overlap if neither ends before the other begins.",
-  pending: "A call that has begun and not ended.",
-  "takes effect": "At its linearization point: the moment between begin and end at which a call counts in the order.",
-  order: "The calls one after the other. It explains a run if a sequential set gives the same replies in this order.",
-  linearizable: "Some order explains the replies, and keeps each pair of calls that do not overlap as they were.",
-  "row, step table": "The algorithm as numbered steps; a row says what the thread does next.",
-  "pred, curr": "The two nodes that a walk holds: curr is the next one behind pred.",
-  marked: "A node whose key is removed; it may still be in the chain until it is unlinked.",
-  "quota, slot": "How many keys a thread can add in all. Each needs a slot, a node of its own; then add answers full.",
-  "not linearizable": "Proved of a report by a few of its calls: no order of them explains their replies.",
-};
-
-function html() {
-  const cards = PAGES.map(([href, title, says]) => drawCard({ href, list: "", title, says: escaped(says) }));
-  const terms = Object.entries(TERMS).map(([term, says]) => `<div><dt>${term}</dt><dd>${escaped(says)}</dd></div>`);
-  const isAlone = document.body.dataset.alone !== undefined; // the page is one file, without the others beside it
-  const pages = isAlone ? "" : tag("div", { class: "cards" }, ...cards);
-  return `${head("", "Read", "", "title")}${pages}<h2>Terms</h2>${tag("dl", { class: "words card" }, ...terms)}
-    <h2>What is proved, and what is not</h2><div class="panel prose">${byId("proved").innerHTML}</div>`;
-}
-
-/** @type {import("../story/scene.js").View} */
-const readView = { kind: "asks", title: () => "Read · Why not just one lock?", html };
-return { PAGES, readView };
-})();
-
-// activities/views.js
-const $activities_views = (() => {
-const { askMapView } = $story_ask_map;
-const { askView } = $story_ask_view;
-const { assignmentView } = $story_assignment_view;
-const { breakMapView } = $story_break_map;
-const { breakView } = $story_break_view;
-const { codeView } = $story_code_view;
-const { learnMapView } = $story_learn_map;
-const { learnView } = $story_learn_view;
-const { pathView } = $story_path_view;
-const { VIEWS } = $story_scene;
-const { teachView } = $story_teach_view;
-const { compareView } = $activities_compare;
-const { judgeMapView } = $activities_judge_map;
-const { readView } = $activities_read;
-function takeViews() {
-  Object.assign(VIEWS, { story: pathView, code: codeView, teachers: teachView, assignment: assignmentView });
-  Object.assign(VIEWS, { ask: askView, "ask map": askMapView, break: breakView, "break map": breakMapView });
-  Object.assign(VIEWS, { learn: learnView, "learn map": learnMapView, judge: judgeMapView, compare: compareView, read: readView });
-}
-return { takeViews };
-})();
-
-// page/save_picture.js
-const $page_save_picture = (() => {
-const { byId } = $page_dom;
-const { saveText } = $page_files;
-const DRAWN_BY = ["fill", "stroke", "stroke-width", "stroke-dasharray", "fill-opacity", "stroke-opacity", "opacity", "font-family",
-  "font-size", "font-weight", "font-style", "text-anchor", "paint-order", "text-decoration-line"];
-
-function drawnOut(svg) {
-  const copy = svg.cloneNode(true);
-  const parts = [...svg.querySelectorAll("*")];
-  [...copy.querySelectorAll("*")].forEach((part, index) => {
-    const style = getComputedStyle(parts[index]);
-    for (const name of DRAWN_BY) part.style.setProperty(name, style.getPropertyValue(name));
-  });
-  return copy;
-}
-
-function wholePicture() {
-  const drawings = [...byId("stage").querySelectorAll(":is(.list, .strip, #judge-bars) svg")].filter((svg) => svg.clientWidth > 0);
-  const boxes = drawings.map((svg) => ({ svg, width: svg.clientWidth, height: svg.clientHeight }));
-  const width = Math.max(...boxes.map((box) => box.width));
-  let y = 0;
-  const placed = boxes.map(({ svg, width: own, height }) => {
-    const copy = drawnOut(svg);
-    Object.entries({ x: 0, y, width: own, height }).forEach(([name, value]) => copy.setAttribute(name, value));
-    y += height + 8;
-    return new XMLSerializer().serializeToString(copy);
-  });
-  const ground = `<rect width="100%" height="100%" fill="${getComputedStyle(document.body).backgroundColor}"/>`;
-  const frame = `width="${width}" height="${y}" viewBox="0 0 ${width} ${y}"`;
-  return `<svg xmlns="http://www.w3.org/2000/svg" ${frame}>${ground}${placed.join("")}</svg>\n`;
-}
-
-const savePicture = () => saveText("page.svg", wholePicture());
-return { savePicture };
-})();
-
-// page/controls.js
-const $page_controls = (() => {
-const { byId } = $page_dom;
-const { showMarks, watchEditor } = $page_editor;
-const { openFile, refreshReport, saveText } = $page_files;
-const { keepUnder, keptUnder } = $page_kept;
-const { toggleKeys, toggleLecture } = $page_keys;
-const { cancelLong } = $page_long_run;
-const { chooseInList } = $page_menu;
-const { change, dispatch, now } = $page_now;
-const { changeSpeed, goByHand, togglePlay, wantsLessMotion } = $page_play;
-const { savePicture } = $page_save_picture;
-const { copyLink, keepSoon } = $page_visit;
-const { newSchedule, runBox, runWithOpening } = $page_work;
-function stopUnable(event) {
-  if (event.target.closest?.('[aria-disabled="true"]') == null) return;
-  event.stopPropagation();
-  event.preventDefault();
-}
-
-function skipToRun() {
-  const first = { stage: "#next", scene: "#scene :is(.option, .fig button, .card, #sides-turns button, .foot .primary)" };
-  document.querySelector(first[now.place.screen])?.focus();
-}
-
-function listenToBar() {
-  byId("back").onclick = () => goByHand(now.run.count - 1);
-  byId("next").onclick = () => goByHand(now.run.count + 1);
-  byId("play").onclick = togglePlay;
-  byId("speed").onchange = changeSpeed;
-  byId("speed").value = wantsLessMotion() ? "slow" : "medium";
-  byId("slider").oninput = () => goByHand(Number(byId("slider").value));
-  byId("all-threads").onclick = () => dispatch("prefs", { allThreads: !now.prefs.allThreads });
-  byId("keys").onclick = toggleKeys;
-  byId("skip").onclick = skipToRun;
-  for (const name of ["lecture", "leave"]) byId(name).onclick = toggleLecture;
-  byId("link-here").onclick = copyLink;
-  byId("long-cancel").onclick = cancelLong;
-}
-
-function listenToSettings() {
-  const kept = keptUnder(SETTINGS) ?? {};
-  change("prefs", { hides: kept.hides !== false, letters: kept.letters !== false });
-  byId("hides").checked = now.prefs.hides;
-  byId("single-keys").checked = now.prefs.letters;
-  for (const [name, id] of [["hides", "hides"], ["letters", "single-keys"]]) {
-    byId(id).onchange = () => {
-      dispatch("prefs", { [name]: byId(id).checked });
-      keepUnder(SETTINGS, { hides: now.prefs.hides, letters: now.prefs.letters });
-    };
-  }
-}
-const SETTINGS = "listset-settings";
-
-function listenToWork() {
-  const box = byId("schedule");
-  byId("examples").onchange = () => chooseInList(byId("examples").value);
-  byId("run").onclick = runBox;
-  byId("opening").onchange = runWithOpening;
-  byId("link").onclick = copyLink;
-  byId("new").onclick = () => newSchedule(byId("new-list").value, byId("new-threads").value, byId("new-quota").value);
-  box.onscroll = showMarks;
-  watchEditor();
-  box.oninput = () => {
-    showMarks();
-    keepSoon();
-  };
-  box.onkeydown = (event) => {
-    if (event.key === "Enter" && (event.ctrlKey || event.metaKey)) runBox();
-  };
-}
-
-function listenToFiles() {
-  byId("report-box").ontoggle = refreshReport;
-  byId("file").onchange = () => openFile(byId("file").files[0]).then(() => (byId("file").value = ""));
-  byId("save-schedule").onclick = () => saveText("page.schedule", byId("schedule").value);
-  byId("save-trace").onclick = () => saveText("page.trace", now.run.trace.text);
-  byId("save-picture").onclick = savePicture;
-}
-
-function placeParts() {
-  const narrow = matchMedia("(max-width: 940px)");
-  const place = () => {
-    for (const name of ["schedule-box", "new-box", "files-box", "threads-box"]) byId(name).open = !narrow.matches;
-  };
-  narrow.addEventListener("change", place);
-  place();
-}
-return { stopUnable, listenToBar, listenToSettings, listenToWork, listenToFiles, placeParts };
+return { OWN_COURSE, teachView };
 })();
 
 // main.js
 const $main = (() => {
 const { listenToBench, showBar, showRun } = $activities_bench;
 const { listenToCourses, listenToHandIn } = $activities_courses;
+const { compareView } = $activities_compare;
 const { drawJudging, listenToJudging } = $activities_judging;
+const { MAPS } = $activities_maps;
 const { followAddress, openCourseFile, openFirst, openRecorded, showBeforehand } = $activities_open;
-const { showPlace } = $activities_place;
-const { takeViews } = $activities_views;
+const { showPlace } = $activities_watch;
 const { Engine } = $engine_engine;
 const { listenToBar, listenToFiles, listenToSettings, listenToWork, placeParts, stopUnable } = $page_controls;
 const { byId } = $page_dom;
-const { showMarks } = $page_editor;
+const { showHeader, showMarks } = $page_work;
 const { refreshReport } = $page_files;
-const { keysOf, pressKey } = $page_keys;
+const { keysOf, pressKey } = $page_play;
 const { fillExamples, fillWorks, showQuestion } = $page_menu;
 const { held, on, show, takeTrace } = $page_now;
-const { services, showParts } = $page_places;
+const { services, showParts } = $page_seen;
 const { keepNow, keepSoon } = $page_visit;
-const { showHeader } = $page_work;
 const { Trace } = $run_trace;
-const { isScene, leaveScene, listenToScene, pressInScene, renderScene } = $story_scene;
+const { askView } = $story_ask_view;
+const { assignmentView } = $story_assignment_view;
+const { breakView } = $story_break_view;
+const { codeView } = $story_code_view;
+const { learnView } = $story_learn_view;
+const { pathView } = $story_path_view;
+const { isScene, leaveScene, listenToScene, pressInScene, renderScene, VIEWS } = $story_scene;
+const { teachView } = $story_teach_view;
 const EMPTY_TRACE = "listset-trace 1\nlist lazy\nthreads 2\nquota 4\nend\n";
+
+const SCENES = {
+  story: pathView, ask: askView, break: breakView, learn: learnView, code: codeView, teachers: teachView, assignment: assignmentView, compare: compareView,
+};
 
 function listen() {
   listenToBar();
@@ -11422,7 +11184,7 @@ async function startEngine() {
 
 async function startPage() {
   document.body.dataset.ready = "begun";
-  takeViews();
+  Object.assign(VIEWS, SCENES, MAPS);
   connect();
   listen();
   if (!showBeforehand()) takeEmpty();
@@ -11440,5 +11202,5 @@ if (typeof document !== "undefined") startPage(); // in node there is none
 return {  };
 })();
 
-return Object.assign({}, $made_rows, $run_markup, $run_trace, $run_state, $draw_labels, $draw_history, $draw_contents, $made_code, $draw_listing, $draw_table, $draw_threads, $page_dom, $engine_answers, $run_faults, $run_judged, $run_schedule_text, $run_outcomes, $run_sentences, $page_state, $page_now, $page_editor, $made_classics, $page_play, $run_broken, $run_draft, $story_phases, $story_live_run, $draw_glide, $draw_places, $draw_arrows, $draw_list, $data_book_code, $story_code, $story_tale, $story_dock, $story_figure_parts, $story_figure_press, $story_figure, $story_still_figure, $run_address, $run_seed, $data_levels, $page_scene_address, $page_address_of, $made_book, $run_moments, $course_goal_words, $course_course_text, $course_lesson, $page_kept, $story_kept_story, $story_assignment, $course_hand_in, $run_check_trace, $run_recorded, $engine_engine, $engine_worker, $page_long_run, $made_traces, $page_example, $page_work, $page_files, $page_visit, $story_scene, $story_assignment_view, $activities_watch, $activities_place, $activities_bench, $course_course_link, $story_ask, $story_ask_more, $story_ask_map, $story_kept_lessons, $story_learning, $story_learn_map, $draw_judged, $activities_judging, $activities_courses, $page_menu, $page_seen, $page_places, $activities_recorded, $activities_open, $story_ask_figure, $story_ask_branches, $story_ask_view, $story_break_map, $story_break_view, $story_code_view, $story_learn_view, $story_path, $story_path_parts, $story_path_view, $data_own_course, $story_handins, $story_handins_view, $story_homework_view, $story_teach_view, $page_keys, $run_sides, $activities_compare, $activities_judge_map, $activities_read, $activities_views, $page_save_picture, $page_controls);
+return Object.assign({}, $made_rows, $run_markup, $run_trace, $run_state, $draw_labels, $draw_history, $draw_contents, $made_code, $draw_listing, $draw_tables, $page_dom, $made_traces, $engine_answers, $made_classics, $run_judged, $run_schedule_text, $run_broken, $made_book, $run_outcomes, $run_sentences, $page_state, $page_now, $page_kept, $engine_engine, $engine_worker, $page_long_run, $page_seen, $page_play, $page_work, $story_tale, $story_live_run, $draw_glide, $draw_places, $draw_arrows, $draw_list, $data_book_code, $story_code, $story_dock, $story_figure_parts, $story_figure, $story_still_figure, $run_address, $run_seed, $data_levels, $page_scene_address, $run_moments, $course_goal_words, $course_course_text, $course_lesson, $story_kept, $story_assignment, $course_hand_in, $run_check_trace, $run_recorded, $page_files, $page_visit, $story_scene, $story_assignment_view, $activities_watch, $activities_bench, $story_learning, $draw_judged, $activities_judging, $story_ask, $story_ask_more, $story_ask_branches, $activities_recorded, $activities_maps, $activities_courses, $run_sides, $activities_compare, $page_menu, $activities_open, $page_controls, $story_ask_view, $story_break_view, $story_code_view, $story_learn_view, $story_path, $story_path_parts, $story_path_view, $story_handins, $story_handins_view, $story_teach_view);
 })();

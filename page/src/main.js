@@ -1,25 +1,36 @@
 // The page: its parts are put together, and it starts.
 import { listenToBench, showBar, showRun } from "./activities/bench.js";
 import { listenToCourses, listenToHandIn } from "./activities/courses.js";
+import { compareView } from "./activities/compare.js";
 import { drawJudging, listenToJudging } from "./activities/judging.js";
+import { MAPS } from "./activities/maps.js";
 import { followAddress, openCourseFile, openFirst, openRecorded, showBeforehand } from "./activities/open.js";
-import { showPlace } from "./activities/place.js";
-import { takeViews } from "./activities/views.js";
+import { showPlace } from "./activities/watch.js";
 import { Engine } from "./engine/engine.js";
 import { listenToBar, listenToFiles, listenToSettings, listenToWork, placeParts, stopUnable } from "./page/controls.js";
 import { byId } from "./page/dom.js";
-import { showMarks } from "./page/editor.js";
+import { showHeader, showMarks } from "./page/work.js";
 import { refreshReport } from "./page/files.js";
-import { keysOf, pressKey } from "./page/keys.js";
+import { keysOf, pressKey } from "./page/play.js";
 import { fillExamples, fillWorks, showQuestion } from "./page/menu.js";
 import { held, on, show, takeTrace } from "./page/now.js";
-import { services, showParts } from "./page/places.js";
+import { services, showParts } from "./page/seen.js";
 import { keepNow, keepSoon } from "./page/visit.js";
-import { showHeader } from "./page/work.js";
 import { Trace } from "./run/trace.js";
-import { isScene, leaveScene, listenToScene, pressInScene, renderScene } from "./story/scene.js";
+import { askView } from "./story/ask_view.js";
+import { assignmentView } from "./story/assignment_view.js";
+import { breakView } from "./story/break_view.js";
+import { codeView } from "./story/code_view.js";
+import { learnView } from "./story/learn_view.js";
+import { pathView } from "./story/path_view.js";
+import { isScene, leaveScene, listenToScene, pressInScene, renderScene, VIEWS } from "./story/scene.js";
+import { teachView } from "./story/teach_view.js";
 
 const EMPTY_TRACE = "listset-trace 1\nlist lazy\nthreads 2\nquota 4\nend\n";
+
+const SCENES = {
+  story: pathView, ask: askView, break: breakView, learn: learnView, code: codeView, teachers: teachView, assignment: assignmentView, compare: compareView,
+};
 
 function listen() {
   listenToBar();
@@ -83,7 +94,7 @@ async function startEngine() {
 
 async function startPage() {
   document.body.dataset.ready = "begun";
-  takeViews();
+  Object.assign(VIEWS, SCENES, MAPS);
   connect();
   listen();
   if (!showBeforehand()) takeEmpty();

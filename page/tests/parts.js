@@ -111,11 +111,6 @@ function checkGoingOn(engine, texts) {
     check(`read step by step: ${schedule.slice(0, 100)}`, trace.before !== null && read(trace) === read(whole));
     check(`made step by step: ${schedule.slice(0, 100)}`, held(state) === held(plain));
     check("a trace that goes another way is read anew", new Trace(whole.text.replace(" saw ", "  saw "), whole.version, trace).before === null);
-    const line = "begin 0 add 9";
-    const own = inPage("scheduleAndLine")(whole, whole.total, line, scheduleOfTrace(whole));
-    check("a line more, of the text that was run", own === inPage("scheduleAndLine")(whole, whole.total, line));
-    const middle = inPage("scheduleAndLine")(whole, 2, line, scheduleOfTrace(whole));
-    check("and from an event in the middle", middle === inPage("scheduleAndLine")(whole, 2, line) && middle.endsWith(`${line}\n`));
   }
 }
 

@@ -1,7 +1,7 @@
 // Compare: two lists side by side, under one program of calls, with some programs to begin with. The turns are in the address.
 import { LISTS } from "../../made/rows.js";
 import { byId, redraw } from "../page/dom.js";
-import { toggleLecture } from "../page/keys.js";
+import { toggleLecture } from "../page/play.js";
 import { askNow, now } from "../page/now.js";
 import { copied, linkTo } from "../page/visit.js";
 import { addressOf, readAddress, warningOf } from "../run/address.js";

@@ -1,6 +1,6 @@
 // Below the lessons: what is handed in, and courses: one is chosen, opened from a file or a link, written, tried, and handed out as a link or a file.
 import { BOOK, BOOK_NAME } from "../../made/book.js";
-import { courseAddress, courseOfAddress } from "../course/course_link.js";
+import { courseAddress, courseOfAddress } from "../course/course_text.js";
 import { handInText } from "../course/hand_in.js";
 import { triedCourse } from "../course/lesson.js";
 import { byId } from "../page/dom.js";
@@ -10,10 +10,10 @@ import { askNow, held } from "../page/now.js";
 import { copied, linkTo } from "../page/visit.js";
 import { AddressFault, warningOf } from "../run/address.js";
 import { counted } from "../run/markup.js";
-import { brokenLines } from "../story/kept_story.js";
-import { drawLearnMap } from "../story/learn_map.js";
+import { brokenLines } from "../story/kept.js";
 import { learning } from "../story/learning.js";
 import { JUDGED } from "./judging.js";
+import { drawLearnMap } from "./maps.js";
 
 const lessonPart = (name) => byId(`lesson-${name}`);
 

@@ -1,12 +1,17 @@
 // The bench: a run step by step, of an example or of a number, with its question above it.
 import { LISTS } from "../../made/rows.js";
-import { byId } from "../page/dom.js";
-import { examples } from "../page/example.js";
-import { works } from "../page/kept.js";
-import { askNow, isJudging, now } from "../page/now.js";
-import { openTask } from "../page/work.js";
 import { tag } from "../run/markup.js";
+import { scheduleOfTrace } from "../run/schedule_text.js";
 import { anotherSeed, partsOfSeed, scheduleOfSeed, seedOf } from "../run/seed.js";
+import { byId } from "../page/dom.js";
+import { works } from "../page/kept.js";
+import { askNow, held, isJudging, now } from "../page/now.js";
+import { addressOfAssignment, addressOfCode, titleIn } from "../page/scene_address.js";
+import { examples, openTask } from "../page/work.js";
+import { homeworkOf } from "../story/assignment.js";
+import { titleOfAssignment } from "../story/assignment_view.js";
+import { linesOf } from "../story/live_run.js";
+import { titleOfScene } from "../story/scene.js";
 
 // The example that is shown without an engine, at the event before its question.
 export const FIRST = { example: "marked-in-chain", event: 20 };
@@ -35,7 +40,7 @@ export function openSeed(seed, count) {
   openTask({ kind: "seed", id: seed, work: works.newName(`run ${partsOfSeed(seed).number}`) }, text, count);
 }
 
-export function taskOfWatch() {
+function taskOfWatch() {
   const more = isJudging() ? "&judge" : "";
   if (now.task.kind === "seed") drawSeedBox(now.task.id, more);
   const names = examples().map(({ name }) => name);
@@ -55,4 +60,34 @@ function drawSeedBox(seed, more) {
     const wanted = Number(byId("seed-input").value);
     if (wanted > 0) location.hash = `#seed=${seedOf(kind, wanted)}${more}`;
   };
+}
+
+// ---- What stands above the stage: the links to what is before and after the task, and the title of the window.
+
+// A task of the assignment that was opened last leads back to it.
+function showHome() {
+  const homework = now.place.view === null ? homeworkOf(now.place, now.task) : null;
+  byId("home").hidden = homework === null;
+  if (homework === null) return;
+  byId("home").textContent = `← Back to ${titleOfAssignment(homework)}`;
+  byId("home").href = addressOfAssignment(homework);
+}
+
+// The link that goes on from the event that is shown has its address when it is pressed: a long run has a long one.
+export function aimGoOn() {
+  const { trace, count } = now.run;
+  byId("go-on-here").hash = addressOfCode(trace.kind, trace.opening, linesOf(scheduleOfTrace(trace, count)), trace);
+}
+
+// After each time that the run was drawn: the task, the title.
+export function showPlace() {
+  document.title = titleIn(held.state, titleOfScene);
+  showHome();
+  if (now.place.screen !== "stage") return;
+  const links = taskOfWatch();
+  for (const name of ["before", "next"]) {
+    byId(`task-${name}`).hidden = links[name] === null;
+    if (links[name] !== null) byId(`task-${name}`).href = links[name];
+  }
+  [byId("task-all").hash, byId("task-all").textContent] = links.all;
 }

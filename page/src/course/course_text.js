@@ -1,6 +1,7 @@
 // Lessons as text, so that a teacher writes them without a script. A course is a title line, its name, and one lesson after
 // another; the head of book.course tells of each word. Each fault is told by its line.
 import { LACKING } from "../../made/classics.js";
+import { AddressFault, LONGEST_ADDRESS } from "../run/address.js";
 import { titleOf } from "../run/schedule_text.js";
 import { GoalFault, readGoal } from "./goal_words.js";
 
@@ -151,4 +152,29 @@ export function lessonText({ list, threads, quota, opening }, lines) {
   const isOfVersionTwo = opening.length > 0 || lines.some((line) => line.includes(" ceiling "));
   const header = [titleOf(isOfVersionTwo ? 2 : 1), `list ${list}`, `threads ${threads}`, `quota ${quota}`];
   return [...header, ...opening.map((key) => `opening ${key}`), ...lines, ""].join("\n");
+}
+
+// ---- A course in a link: its text, packed, behind #course=, so that nothing comes from a network.
+
+async function passed(bytes, stream) {
+  return new Uint8Array(await new Response(new Blob([bytes]).stream().pipeThrough(stream)).arrayBuffer());
+}
+
+// The part of a link with a course, or null where it would be too long. Lines that are passed over are left out.
+export async function courseAddress(text) {
+  const lines = text.split("\n").filter((line) => line.trim() !== "" && !line.startsWith("#"));
+  const bytes = await passed(new TextEncoder().encode(`${lines.join("\n")}\n`), new CompressionStream("deflate-raw"));
+  const letters = btoa(Array.from(bytes, (byte) => String.fromCharCode(byte)).join(""));
+  const address = `#course=${letters.replaceAll("+", "-").replaceAll("/", "_").replace(/=+$/, "")}`;
+  return address.length <= LONGEST_ADDRESS ? address : null;
+}
+
+// The text of a course that an address has.
+export async function courseOfAddress(letters) {
+  try {
+    const bytes = Uint8Array.from(atob(letters.replaceAll("-", "+").replaceAll("_", "/")), (letter) => letter.charCodeAt(0));
+    return new TextDecoder().decode(await passed(bytes, new DecompressionStream("deflate-raw")));
+  } catch {
+    throw new AddressFault("the course of the address cannot be unpacked: the link is cut");
+  }
 }

@@ -1,11 +1,9 @@
 // What a lesson says of a schedule: whether it is a solution, which conditions of the goal its run meets, and why none is looked
 // at. A lesson is tried when it is read: its start does not reach its goal, and its answer does.
-import { readFault } from "../engine/answers.js";
+import { readFault, sentenceOn } from "../engine/answers.js";
 import { askList, TO_BREAK, verdictOnLacking } from "../run/broken.js";
-import { scheduleOfDraft } from "../run/draft.js";
-import { sentenceOn } from "../run/faults.js";
+import { eventsAsked, scheduleOfDraft, versionOf } from "../run/schedule_text.js";
 import { Run } from "../run/moments.js";
-import { eventsAsked, versionOf } from "../run/schedule_text.js";
 import { HEADER_LINES, isTrace, Trace } from "../run/trace.js";
 import { lessonText, readCourse } from "./course_text.js";
 import { conditionsOf, TooManyWays } from "./goal_words.js";

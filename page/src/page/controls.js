@@ -1,16 +1,13 @@
 // What the buttons, the slider and the box of the schedule do.
 import { byId } from "./dom.js";
-import { showMarks, watchEditor } from "./editor.js";
-import { openFile, refreshReport, saveText } from "./files.js";
+import { newSchedule, runBox, runWithOpening, showMarks, watchEditor } from "./work.js";
+import { openFile, refreshReport, savePicture, saveText } from "./files.js";
 import { keepUnder, keptUnder } from "./kept.js";
-import { toggleKeys, toggleLecture } from "./keys.js";
+import { changeSpeed, goByHand, toggleKeys, toggleLecture, togglePlay, wantsLessMotion } from "./play.js";
 import { cancelLong } from "./long_run.js";
 import { chooseInList } from "./menu.js";
 import { change, dispatch, now } from "./now.js";
-import { changeSpeed, goByHand, togglePlay, wantsLessMotion } from "./play.js";
-import { savePicture } from "./save_picture.js";
 import { copyLink, keepSoon } from "./visit.js";
-import { newSchedule, runBox, runWithOpening } from "./work.js";
 
 // What cannot be pressed now does nothing.
 export function stopUnable(event) {

@@ -4,10 +4,9 @@ import { CLASSICS } from "../../made/classics.js";
 import { inLetters, tag } from "../run/markup.js";
 import { eventsAsked } from "../run/schedule_text.js";
 import { byId, redraw } from "./dom.js";
-import { examples, openKept } from "./example.js";
+import { examples, openExample, openKept, openWork } from "./work.js";
 import { works } from "./kept.js";
 import { exampleShown, held, isJudging, now } from "./now.js";
-import { openExample, openWork } from "./work.js";
 
 const WORK = "work: ";
 

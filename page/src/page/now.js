@@ -1,7 +1,6 @@
 // The state of the page as it is now, and what changes it. Each change is an action of state.js; then all is drawn anew by one render.
 // No other module of the page but dom.js and state.js is imported here, and so none has to be imported in a circle.
-import { readFault } from "../engine/answers.js";
-import { sentenceOn } from "../run/faults.js";
+import { readFault, sentenceOn } from "../engine/answers.js";
 import { LEVELS } from "../run/judged.js";
 import { scheduleOfTrace } from "../run/schedule_text.js";
 import { momentAt } from "../run/sentences.js";

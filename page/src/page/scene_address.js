@@ -1,8 +1,12 @@
 // The addresses of the scenes, as #story=2, #ask=snip, #code=lazy&opening=3.7&s=b0.add.5,g0.4, #teachers, and of an assignment. Both ways.
+import { CLASSICS } from "../../made/classics.js";
+import { LISTS } from "../../made/rows.js";
 import { levelOfNumber } from "../data/levels.js";
 import { AddressFault, addressOf, LONGEST_ADDRESS, longLine } from "../run/address.js";
 import { startOfLacking } from "../run/broken.js";
+import { inLetters } from "../run/markup.js";
 import { eventsAsked } from "../run/schedule_text.js";
+import { partsOfSeed } from "../run/seed.js";
 
 const SCENES = ["assignment", "story", "ask", "code", "teachers"]; // run/address.js reads the others, with their schedules
 const SCENE_VIEWS = ["lecture", "embed"];
@@ -59,5 +63,39 @@ const ADDRESSES = {
 };
 
 // `given` has what is not of the state: the packed course, or null for the book's.
-export const addressOfScene = ({ place, scene }, given) =>
+const addressOfScene = ({ place, scene }, given) =>
   `${(ADDRESSES[place.activity] ?? plainAddress)(place, scene, given)}${place.view === null ? "" : `&view=${place.view}`}`;
+
+// ---- The address and the title of what is shown: both follow from the state alone.
+
+function ofRun(state) {
+  const { task, run } = state;
+  if (task.kind === "own") return addressOf(run.text, run.count, run.lacks);
+  return `#${task.kind}=${task.id}&event=${run.count}`;
+}
+
+// The address of a state, from # on, or null where it has none. `given` has what is not of the state: the packed course, or null for
+// the book.
+export function addressIn(state, given) {
+  const { place, exercise } = state;
+  if (place.screen === "scene") return addressOfScene(state, given);
+  const view = place.view === null ? "" : `&view=${place.view}`;
+  const address = ofRun(state);
+  return address === null ? null : `${address}${exercise === null ? "" : "&judge"}${view}`;
+}
+
+const WHOLE = "Why not just one lock?";
+
+// The title of the window.
+export function titleIn(state, titleOfScene) {
+  const { place, task, run } = state;
+  const list = run.trace === null ? "" : LISTS[run.trace.kind].name;
+  if (place.screen === "scene") return titleOfScene(place);
+  const judged = state.exercise === null ? "" : "Judge: ";
+  const ofTask = {
+    example: () => `${judged}${inLetters(CLASSICS[task.id].question)}`,
+    seed: () => `${judged}Run ${partsOfSeed(task.id).number} of ${list}`,
+    own: () => `${judged}${task.work}: ${list}`,
+  };
+  return `${ofTask[task.kind]()} · ${WHOLE}`;
+}

@@ -1,7 +1,7 @@
 // The address bar follows what is shown, and what is kept in the browser does too.
 import { warningOf } from "../run/address.js";
 import { escaped } from "../run/markup.js";
-import { addressIn } from "./address_of.js";
+import { addressIn } from "./scene_address.js";
 import { HERE, keepUnder, keepWork } from "./kept.js";
 import { held, now, tell } from "./now.js";
 import { entryOf } from "./state.js";

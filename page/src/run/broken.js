@@ -4,14 +4,9 @@
 // The verdict comes from proved functions: one judges the order by the moments that the table names, another all other orders. That this
 // one order is refused does not say that there is none.
 import { LACKING } from "../../made/classics.js";
-import { LISTS } from "../../made/rows.js";
 import { readReport, readVerdict } from "../engine/answers.js";
 import { nameOfCall } from "./judged.js";
-import { escaped } from "./markup.js";
-import { isFailed, isLock } from "./outcomes.js";
 import { scheduleOfTrace, titleOf } from "./schedule_text.js";
-import { momentAt, sentenceOf } from "./sentences.js";
-import { State } from "./state.js";
 import { eventsInCommon, isTrace, Trace } from "./trace.js";
 
 const LACKING_THREADS = 2;
@@ -78,28 +73,9 @@ function callInWords({ calls }, { thread, begun }) {
   return `${nameOfCall(call)} ${call.ended === null ? "is open" : `answers ${call.reply}`}`;
 }
 
-// Where the whole list departs from the run of such a list: the event, and what each does there; null where it does not, or has no
-// trace.
+// The event at which the whole list departs from the run of such a list; null where it does not, or has no trace.
 export function departureOf(ask, trace) {
   const { text } = ask("listset_trace", scheduleOfTrace(trace));
-  if (!isTrace(text)) return null;
-  const whole = new Trace(text, trace.version);
-  const event = eventsInCommon(trace, whole) + 1;
-  if (event > trace.total) return null;
-  const rows = [trace, whole].map((one) => (event > one.total ? null : one.event(event).changes.pc));
-  const told = (one) => {
-    if (event > one.total) return "makes no such event.";
-    const goesOn = rows[0] === rows[1] ? "" : rowInWords(one, event);
-    return `${sentenceOf(momentAt(new State(one), event))}${goesOn}`;
-  };
-  return { event, here: told(trace), whole: told(whole) };
-}
-
-// The row at which the thread of an event stands after it, where its call goes on and the sentence does not tell the row.
-function rowInWords(trace, number) {
-  const event = trace.event(number);
-  const row = event.changes.pc;
-  const { step } = LISTS[trace.kind].rows[row] ?? { step: "which the correct list does not have" };
-  const isSaid = event.deed === "exchange" && isFailed(event) && isLock(event.word);
-  return row === 0 || isSaid ? "" : ` It continues at row ${row}, ${escaped(step)}.`;
+  const event = isTrace(text) ? eventsInCommon(trace, new Trace(text, trace.version)) + 1 : Infinity;
+  return event > trace.total ? null : event;
 }

@@ -1,6 +1,5 @@
 // Calls that were recorded from a set of the reader's own: what the proved judge says of them, in words, and the calls that are drawn.
-import { callsOfRecording, leavesKey, readVerdict } from "../engine/answers.js";
-import { sentenceOn } from "./faults.js";
+import { callsOfRecording, leavesKey, readVerdict, sentenceOn } from "../engine/answers.js";
 import { nameOfCall } from "./judged.js";
 
 // Two threads looked for a key, did not find it, and put it in.

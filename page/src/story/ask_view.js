@@ -2,10 +2,9 @@
 // changed (ask_branches.js).
 import { now } from "../page/now.js";
 import { QUESTIONS } from "./ask.js";
-import { drawBranches, goBack, openBranch, seeAgain, talkOfBranch, whatIf, withoutCheck } from "./ask_branches.js";
-import { ALL, isEmbed, itemOf, takeBranch } from "./ask_figure.js";
+import { ALL, drawBranches, goBack, isEmbed, itemOf, openBranch, seeAgain, takeBranch, talkOfBranch, whatIf, withoutCheck } from "./ask_branches.js";
 import { isNarrow } from "./figure_parts.js";
-import { keepStory, keptStory } from "./kept_story.js";
+import { keepStory, keptStory } from "./kept.js";
 import { LiveRun } from "./live_run.js";
 import { FIGURE_AND_TALK, head, LIST_WORDS, numberOfKey, optionButtons, part, replyTo, scene, setScene, talk, threadOfKey } from "./scene.js";
 

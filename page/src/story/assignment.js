@@ -13,7 +13,7 @@ import { NO_TASK } from "../run/broken.js";
 import { inLetters } from "../run/markup.js";
 import { eventsAsked } from "../run/schedule_text.js";
 import { partsOfSeed, scheduleOfSeed } from "../run/seed.js";
-import { brokenLines, keptStory } from "./kept_story.js";
+import { brokenLines, keptStory } from "./kept.js";
 
 const known = { course: null };
 

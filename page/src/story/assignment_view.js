@@ -5,7 +5,7 @@ import { saveText } from "../page/files.js";
 import { now } from "../page/now.js";
 import { counted, escaped, tag } from "../run/markup.js";
 import { linesDone, tasksOf } from "./assignment.js";
-import { keepStory, keptStory, startAfresh } from "./kept_story.js";
+import { keepStory, keptStory, startAfresh } from "./kept.js";
 import { copyText, foot, head, part } from "./scene.js";
 
 export const titleOfAssignment = ({ id }) => id || "Assignment";

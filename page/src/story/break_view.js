@@ -8,7 +8,7 @@ import { addressOf } from "../run/address.js";
 import { departureOf, isTaskDone, NO_TASK } from "../run/broken.js";
 import { wayOn } from "./assignment.js";
 import { Figure } from "./figure.js";
-import { isBrokenOnce, isNamed, keepBrokenLine, keepNamed } from "./kept_story.js";
+import { isBrokenOnce, isNamed, keepBrokenLine, keepNamed } from "./kept.js";
 import { runOfText } from "./live_run.js";
 import { FIGURE_AND_TALK, drawLedger, foot, head, hintAndOn, isOddRun, LIST_WORDS, numberOfKey, optionButtons, part, scene, setScene, takeFigure, talk, threadOfKey } from "./scene.js";
 
@@ -138,8 +138,7 @@ function answer(index) {
 // The winning run once more, from where the whole list would have gone another way.
 function replay() {
   const { figure } = scene;
-  const departs = departureOf(askNow, figure.run.trace);
-  figure.replay(Math.max(0, (departs?.event ?? 1) - 2));
+  figure.replay(Math.max(0, (departureOf(askNow, figure.run.trace) ?? 1) - 2));
 }
 
 function hint() {

@@ -1,7 +1,7 @@
 // A live figure: the list, a sentence, the code, and a button for each thread. Pressing a button lets that thread do its next bit.
 import { momentAt } from "../run/sentences.js";
 import { drawFigure, frameOf, isNarrow, markLostNodes } from "./figure_parts.js";
-import { beginOwn, chooseCall, pressed } from "./figure_press.js";
+import { beginOwn, chooseCall, pressed } from "./dock.js";
 import { LiveRun } from "./live_run.js";
 
 const BIT = 300; // milliseconds between two steps of one press

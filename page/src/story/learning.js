@@ -1,14 +1,14 @@
 // Solve, what is open: the course, its lesson, the tries of that which are kept, and the verdict on a run. No part of the page is drawn
 // here.
 import { BOOK, BOOK_NAME } from "../../made/book.js";
-import { courseAddress } from "../course/course_link.js";
+import { courseAddress } from "../course/course_text.js";
 import { judged, triedCourse } from "../course/lesson.js";
 import { works } from "../page/kept.js";
 import { askNow } from "../page/now.js";
 import { visit } from "../page/visit.js";
 import { eventsAsked } from "../run/schedule_text.js";
 import { bookCourse } from "./assignment.js";
-import { KeptLessons } from "./kept_lessons.js";
+import { KeptLessons } from "./kept.js";
 import { linesOf } from "./live_run.js";
 
 class Learning {

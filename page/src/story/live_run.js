@@ -2,12 +2,11 @@
 // No step is computed here: how far a thread goes in one deed is read off the engine's own trace.
 import { askNow } from "../page/now.js";
 import { askList, verdictOnLacking } from "../run/broken.js";
-import { scheduleOfDraft } from "../run/draft.js";
+import { openingIn, scheduleOfDraft, scheduleOfTrace, titleOf } from "../run/schedule_text.js";
 import { isFailed, isLock } from "../run/outcomes.js";
-import { openingIn, scheduleOfTrace, titleOf } from "../run/schedule_text.js";
 import { keysInChain, promisedKeys, State } from "../run/state.js";
 import { isTrace, Trace } from "../run/trace.js";
-import { joinedRows, phaseAt } from "./phases.js";
+import { joinedRows, phaseAt } from "./tale.js";
 
 const MOST_STEPS = 80; // of one call, in the short lists of the story
 

@@ -2,7 +2,7 @@
 import { now } from "../page/now.js";
 import { Figure } from "./figure.js";
 import { isNarrow } from "./figure_parts.js";
-import { keepStory, keptStory, startAfresh } from "./kept_story.js";
+import { keepStory, keptStory, startAfresh } from "./kept.js";
 import { SCREENS } from "./path.js";
 import { barHtml, dots, endHtml, GONE, HERO, LAST, welcome } from "./path_parts.js";
 import { FIGURE_AND_TALK, drawLedger, head, numberOfKey, optionButtons, part, replyTo, scene, setScene, takeFigure, talk, threadOfKey } from "./scene.js";
