@@ -2736,12 +2736,17 @@ return { MOST_JUDGED, LEVELS, exerciseOf, nameOfCall, lastMoment, repliesOf, Own
 // run/schedule_text.js
 const $run_schedule_text = (() => {
 const { HEADER_LINES, isTrace, Trace } = $run_trace;
-const titleOf = (version) => `listset-schedule ${version}`;
-const versionOf = (schedule) => (schedule.startsWith(`${titleOf(2)}\n`) ? 2 : 1);
+function scheduleText({ list, threads, quota, opening = [], version = null }, lines = []) {
+  const needed = opening.length > 0 || lines.some((line) => line.includes(" ceiling ")) ? 2 : 1;
+  const head = [`listset-schedule ${version ?? needed}`, `list ${list}`, `threads ${threads}`, `quota ${quota}`];
+  return [...head, ...opening.map((key) => `opening ${key}`), ...lines, ""].join("\n");
+}
+
+const TITLE_OF_SECOND = "listset-schedule 2";
+const versionOf = (schedule) => (schedule.startsWith(`${TITLE_OF_SECOND}\n`) ? 2 : 1);
 
 function scheduleOfTrace(trace, count = trace.total) {
-  const lines = [titleOf(trace.version), `list ${trace.kind}`, `threads ${trace.threads}`, `quota ${trace.quota}`];
-  for (const key of trace.opening) lines.push(`opening ${key}`);
+  const lines = [];
   let [steps, before] = [0, null];
   for (let number = 1; number <= count; number++) {
     const event = trace.event(number);
@@ -2752,7 +2757,7 @@ function scheduleOfTrace(trace, count = trace.total) {
     else lines.push(`go ${event.thread} ${steps}`);
     before = event.line;
   }
-  return [...lines, ""].join("\n");
+  return scheduleText({ ...trace, list: trace.kind }, lines);
 }
 
 function openingIn(schedule) {
@@ -2764,7 +2769,7 @@ function openingIn(schedule) {
 function withOpening(schedule, keys) {
   const lines = schedule.split("\n");
   lines.splice(HEADER_LINES, openingIn(schedule).length, ...keys.map((key) => `opening ${key}`));
-  if (keys.length > 0 && lines[0] === titleOf(1)) lines[0] = titleOf(2);
+  if (keys.length > 0 && lines[0] === "listset-schedule 1") lines[0] = TITLE_OF_SECOND;
   return lines.join("\n");
 }
 
@@ -2806,7 +2811,7 @@ function scheduleOfLackingDraft(ask, lacks, text) {
   }
   return { text: [...lines, ""].join("\n"), fault: null };
 }
-return { titleOf, versionOf, scheduleOfTrace, openingIn, withOpening, eventsAsked, scheduleOfDraft };
+return { scheduleText, versionOf, scheduleOfTrace, openingIn, withOpening, eventsAsked, scheduleOfDraft };
 })();
 
 // run/broken.js
@@ -2814,11 +2819,8 @@ const $run_broken = (() => {
 const { LACKING } = $made_classics;
 const { readReport, readVerdict } = $engine_answers;
 const { nameOfCall } = $run_judged;
-const { scheduleOfTrace, titleOf } = $run_schedule_text;
+const { scheduleOfTrace, scheduleText } = $run_schedule_text;
 const { eventsInCommon, isTrace, Trace } = $run_trace;
-const LACKING_THREADS = 2;
-const LACKING_QUOTA = 2;
-const LACKING_OPENING = [3, 7]; // what such a list opens with, until the reader changes that
 const EXPLAINED = "Not broken yet: some order explains this run.";
 const BY_POINTS = "Not by its linearization points: check refuses that order.";
 const OTHER = "Another order explains these replies.";
@@ -2832,10 +2834,7 @@ const isTaskDone = (lacks, { kind }) => kind === "broken" && lacks !== NO_TASK;
 const askList = (ask, name, lacks, text) =>
   lacks === null ? ask(name, text) : ask("listset_lacking", lacks, text, name.slice("listset_".length));
 
-function startOfLacking(name) {
-  const set = [titleOf(2), `list ${LACKING[name]}`, `threads ${LACKING_THREADS}`, `quota ${LACKING_QUOTA}`];
-  return [...set, ...LACKING_OPENING.map((key) => `opening ${key}`), ""].join("\n");
-}
+const startOfLacking = (name) => scheduleText({ list: LACKING[name], threads: 2, quota: 2, opening: [3, 7] });
 
 function verdictOnLacking(ask, lacks, schedule) {
   const { status, text } = askList(ask, "listset_replay", lacks, schedule);
@@ -3374,232 +3373,6 @@ const BOOK = [
 return { BOOK_NAME, BOOK };
 })();
 
-// run/outcomes.js
-const $run_outcomes = (() => {
-const { LISTS } = $made_rows;
-const { chipOf, keyText, said } = $run_markup;
-const { keyNumber, keysInChain, linkTarget, ownerOf } = $run_state;
-const { firstOpeningNode } = $run_trace;
-const isLock = (word) => word.endsWith(".lock");
-const mono = (text) => `<b class="mono">${text}</b>`;
-const isDone = (event) => event.deed === "store" || (event.deed === "exchange" && event.saw === event.from);
-const isFailed = (event) => event.deed === "exchange" && event.saw !== event.from;
-const ownerIn = (word) => word.split(".")[0];
-const isLinkOf = (event) => event.word?.endsWith(".link");
-const lockNames = (words) => `the lock${words.length > 1 ? "s" : ""} of ${words.map(ownerIn).join(" and ")}`;
-const setsMark = (event) => isLinkOf(event) && event.to?.endsWith("*") === true;
-
-function marksOf(trace) {
-  if (trace.marks !== undefined) return trace.marks;
-  trace.marks = new Map();
-  for (const event of trace.starred.map((number) => trace.event(number))) {
-    if (setsMark(event) && isDone(event)) trace.marks.set(ownerIn(event.word), event);
-  }
-  return trace.marks;
-}
-
-function wholeName({ trace, event }, name) {
-  const whose = isOpeningNode(trace, name) ? "the node of an opening key" : `${chipOf(ownerOf(trace, name))}'s node`;
-  const mark = marksOf(trace).get(name);
-  if (mark === undefined || mark.number > event.number) return `${name}</b>, ${whose}`;
-  return `${name}</b>, ${whose}, which ${chipOf(mark.thread)} marked at event ${mark.number}`;
-}
-
-const hasInChain = (state, key) => keysInChain(state).includes(Number(key));
-
-const OUTCOMES = {
-  change({ trace, state, event, held, hadKey }) {
-    const { put, took } = event;
-    const had = trace.lacks !== null && hadKey;
-    const hasNow = (key) => trace.lacks !== null && hasInChain(state, key);
-    if (put !== undefined) {
-      if (had) return `<b>This should add ${put} to the set, but ${put} is in it already.</b>`;
-      if (trace.lacks === null || hasNow(put)) return `<b>This adds ${put} to the set</b>, in slot ${held.used} of ${trace.quota}.`;
-      return `<b>This should add ${put} to the set, but its node is not in the chain: ${put} is lost.</b>`;
-    }
-    if (took === undefined) return "";
-    if (trace.lacks !== null && !had) return `<b>This should remove ${took} from the set, but ${took} is not in it any more.</b>`;
-    return hasNow(took) ? `<b>This should remove ${took} from the set, but the chain still has it.</b>` : `<b>This removes ${took} from the set.</b>`;
-  },
-
-  mark({ state, event }) {
-    if (!setsMark(event) || !isDone(event)) return "";
-    const owner = ownerIn(event.word);
-    return state.chain().includes(owner) ? `${owner} is still in the chain.` : `${owner} is not in the chain any more.`;
-  },
-
-  unlink(moment) {
-    const { state, event, before, wasInChain } = moment;
-    const gone = before.curr;
-    if (!wasInChain || !isLinkOf(event) || !isDone(event) || gone === "tail" || gone === ownerIn(event.word)) return "";
-    if (linkTarget(state.nodes[gone].link) !== event.to || state.chain().includes(gone)) return "";
-    return `<b>This unlinks ${wholeName(moment, gone)}.`;
-  },
-
-  leftInChain({ state, event, before }) {
-    if (!isFailed(event) || event.answer === undefined) return "";
-    if (!state.chain().includes(before.curr)) return `${before.curr} is not in the chain any more.`;
-    return `<b>${before.curr} stays in the chain, marked,</b> for a later walk to unlink.`;
-  },
-
-  validation({ event, held, row }) {
-    if (row?.invalid === undefined || held.pc !== row.invalid || held.reply !== "none") return "";
-    const owner = ownerIn(event.word);
-    let reason = `${owner} leads to ${said(event.saw)} now, not to ${held.curr}`;
-    if (event.saw.endsWith("*")) reason = `${owner} is marked`;
-    if (event.word.endsWith(".key")) reason = `the second walk is past the key of ${held.pred} and has not found it`;
-    return `<b>The validation fails:</b> ${reason}. It will unlock both nodes and start again.`;
-  },
-
-  valid({ held, row }) {
-    if (row?.invalid === undefined || !row.then.includes("decide on")) return "";
-    return held.pc === row.invalid && held.reply === "none" ? "" : "The validation succeeds.";
-  },
-
-  again({ event, held, row }) {
-    if (row?.again === undefined || held.pc !== row.again || event.answer !== undefined) return "";
-    const reason = event.saw?.endsWith("*") && event.deed === "load" ? `${ownerIn(event.word)} is marked: it` : "It";
-    return `<b>${reason} starts its walk again${/with the same slot/.test(row.book) ? ", with the same slot" : ""}.</b>`;
-  },
-
-  markMet({ trace, state, event, held, row }) {
-    if (event.deed !== "load" || !event.saw.endsWith("*") || [row?.invalid, row?.again].includes(held.pc)) return "";
-    const owner = ownerIn(event.word);
-    const where = state.chain().includes(owner) ? "and still" : "and no longer";
-    if (event.answer !== undefined) return `<b>${owner} is marked</b>, ${where} in the chain.`;
-    if (event.changes.curr !== undefined) return `${owner} is marked: the walk passes over it.`;
-    const next = LISTS[trace.kind].rows[held.pc]?.step ?? "";
-    if (next.startsWith("exchange pred.link")) return `<b>${owner} is marked:</b> the next step tries to unlink it.`;
-    if (!next.startsWith("exchange curr.link")) return "";
-    return `<b>${owner} is marked already:</b> the next step will fail.`;
-  },
-
-  walk({ trace, event, held, row }) {
-    if (event.deed !== "load" || row === undefined) return "";
-    if (row.below !== undefined) return walkAtKey(event, held);
-    if (row.then.includes("node = next(s)")) return `The second walk reaches ${held.node}.`;
-    if (row.then.includes("node is pred")) return secondWalkAtKey(held, row);
-    if (!row.then.includes("curr = next(s)")) return "";
-    const opening = isOpeningNode(trace, held.curr) ? ", the node of an opening key" : "";
-    return `The walk reaches ${held.curr}${opening}.`;
-  },
-
-  decision({ trace, event, held, before }) {
-    const { adds, removes } = LISTS[trace.kind];
-    if (event.answer !== undefined || held.reply !== "none" || before.pc === held.pc) return "";
-    const { operation, key } = held.call;
-    const found = event.word?.endsWith(".key") ? "The" : `${held.curr} ${operation === "add" ? "does not have" : "has"} the key ${key}: the`;
-    if (operation === "add" && held.pc === adds) return `${found} add goes ahead.`;
-    return operation === "remove" && held.pc === removes ? `${found} remove goes ahead.` : "";
-  },
-
-  reply({ trace, event }) {
-    const { reply } = event.changes;
-    if (reply === undefined || reply === "none" || event.answer !== undefined) return "";
-    const slots = { 0: "it has no slot", 1: "its one slot is used" }[trace.quota] ?? `its ${trace.quota} slots are used`;
-    const used = reply === "full" ? `: ${slots}` : "";
-    return `<b>It will answer ${reply}</b>${used}.`;
-  },
-
-  locks({ state, event }) {
-    if (!event.word || !isLock(event.word) || !isDone(event) || event.answer !== undefined) return "";
-    const own = state.locks()[`t${event.thread}`];
-    if (own === undefined) return "It holds no lock now.";
-    return event.deed === "exchange" && own.length === 1 ? "" : `It holds ${lockNames(own)}.`;
-  },
-};
-
-const isBelow = (saw, key) => keyNumber(saw) < Number(key);
-
-function walkAtKey(event, held) {
-  const owner = ownerIn(event.word);
-  const { key } = held.call;
-  if (isBelow(event.saw, key)) return `${keyText(event.saw)} is below ${key}: the walk continues.`;
-  if (event.saw === String(key)) return `<b>The walk stops at ${owner},</b> which has its key.`;
-  return `<b>The walk stops at ${owner},</b> the first with a key above ${key}.`;
-}
-
-function secondWalkAtKey(held, row) {
-  if (held.pc === row.invalid) return "";
-  if (held.node === held.pred) return `The second walk reaches pred, ${held.pred}.`;
-  return `This is not pred, ${held.pred}: the second walk continues.`;
-}
-
-const isOpeningNode = (trace, name) => /^n/.test(name) && Number(name.slice(1)) >= firstOpeningNode(trace);
-return { isLock, mono, isFailed, ownerIn, setsMark, hasInChain, OUTCOMES };
-})();
-
-// run/sentences.js
-const $run_sentences = (() => {
-const { LISTS } = $made_rows;
-const { callText, chipOf, holderOf, letterOf, said } = $run_markup;
-const { hasInChain, isFailed, isLock, mono, OUTCOMES, ownerIn, setsMark } = $run_outcomes;
-const lockedBy = (word) => (word === "list.lock" ? "the list" : mono(ownerIn(word)));
-
-function deedText(event, row) {
-  const word = event.word && mono(event.word);
-  if (event.deed === "begin") return `begins ${callText(event.call)}.`;
-  if (event.deed === "load") return `reads ${word}: ${said(event.saw)}.`;
-  if (isLock(event.word)) return lockText(event, row);
-  const change = event.deed === "store" ? `${word} := ${said(event.to)}` : `${word}: ${said(event.from)} → ${said(event.to)}`;
-  const finds = isFailed(event) ? `, but finds ${said(event.saw)}` : "";
-  if (setsMark(event)) return `${isFailed(event) ? "tries to mark" : "marks"} ${mono(ownerIn(event.word))} (${change})${finds}.`;
-  if (event.deed === "store") return `sets ${word} to ${said(event.to)}.`;
-  return `${isFailed(event) ? "tries to change" : "changes"} ${word} from ${said(event.from)} to ${said(event.to)}${finds}.`;
-}
-
-function lockText(event, row) {
-  const name = lockedBy(event.word);
-  if (event.deed === "store") return `unlocks ${name}.`;
-  if (!isFailed(event)) return `locks ${name}.`;
-  const then = event.changes.pc === row ? "It will try again" : `It continues all the same, at row ${event.changes.pc}`;
-  return `tries to lock ${name}, but ${holderOf(event.saw)} holds it. ${then}.`;
-}
-
-function effectText({ trace, event }, hidden) {
-  const { call } = event;
-  if (event.answer === undefined) return "";
-  const answers = `<b>${callText(call)} answers ${hidden.includes("reply") ? "… what?" : event.answer}</b>`;
-  const mayFitNowhere = trace.lacks !== null && !call.changes && call.at === event.number;
-  if (hidden.includes("effect") || mayFitNowhere) return hidden.includes("reply") ? answers : `${answers}.`;
-  if (call.at === event.number) return `${answers}, and takes effect here.`;
-  const other = trace.event(call.at).thread;
-  const whose = other === event.thread ? "" : `, <b>a step of ${letterOf(other)}</b>`;
-  return `${answers}; it took effect at event ${call.at}${whose}.`;
-}
-
-function openingText(trace) {
-  if (trace.opening.length === 0) return "Before the first event the list is empty, and every thread is idle.";
-  const some = trace.opening.slice(0, 20).join(", ");
-  return `Before the first event the set is {${some}${trace.opening.length > 20 ? ", …" : ""}}, and every thread is idle.`;
-}
-
-function momentAt(state, count) {
-  const { trace } = state;
-  const event = count > 0 ? trace.event(count) : null;
-  state.moveTo(Math.max(count - 1, 0));
-  const before = event === null ? null : { ...state.threads[event.thread] };
-  const changed = event?.put ?? event?.took;
-  const hadKey = trace.lacks !== null && changed !== undefined && hasInChain(state, changed);
-  const wasInChain = trace.lacks === null || before === null || state.chain().includes(before.curr);
-  state.moveTo(count);
-  if (event === null) return { trace, state, event };
-  const row = event.deed === "begin" ? undefined : LISTS[trace.kind].rows[before.pc];
-  return { trace, state, event, before, hadKey, wasInChain, held: state.threads[event.thread], row };
-}
-
-function sentenceOf(moment, hidden = []) {
-  const { trace, event } = moment;
-  if (event === null) return `${openingText(trace)}${trace.total === 0 ? " Let one begin a call." : ""}`;
-  if (event.deed === "begin") return `${chipOf(event.thread)} ${deedText(event)}`;
-  const told = Object.keys(OUTCOMES).filter((name) => !hidden.includes(name));
-  const outcomes = told.map((name) => OUTCOMES[name](moment));
-  const parts = [chipOf(event.thread), deedText(event, moment.before.pc), ...outcomes, effectText(moment, hidden)];
-  return parts.filter((text) => text !== "").join(" ");
-}
-return { momentAt, sentenceOf };
-})();
-
 // page/state.js
 const $page_state = (() => {
 /**
@@ -3707,41 +3480,20 @@ const $page_now = (() => {
 const { readFault, sentenceOn } = $engine_answers;
 const { LEVELS } = $run_judged;
 const { scheduleOfTrace } = $run_schedule_text;
-const { momentAt } = $run_sentences;
 const { State } = $run_state;
 const { byId } = $page_dom;
 const { exampleIn, reduce, stateAtFirst } = $page_state;
 const NO_ENGINE = "The replayer does not run in this browser: no schedule can be run, no report checked. A file of listset trace can be opened.";
 
-/** @type {{ state: import("./state.js").State, engine: any, render: (state: any, moment: any) => void }} */
-const held = { state: stateAtFirst(), engine: null, render: () => {} };
-
-const now = {
-  get place() {
-    return held.state.place;
-  },
-  get scene() {
-    return held.state.scene;
-  },
-  get run() {
-    return held.state.run;
-  },
-  get task() {
-    return held.state.task;
-  },
-  get exercise() {
-    return held.state.exercise;
-  },
-  get prefs() {
-    return held.state.prefs;
-  },
-};
+const now = stateAtFirst();
+/** @type {{ engine: any, render: () => void }} */
+const held = { engine: null, render: () => {} };
 
 function change(type, given = {}) {
-  held.state = reduce(held.state, { ...given, type });
+  Object.assign(now, reduce(now, { ...given, type }));
 }
 
-const show = () => held.render(held.state, momentAt(now.run.state, now.run.count));
+const show = () => held.render();
 
 function dispatch(type, given) {
   change(type, given);
@@ -3757,7 +3509,7 @@ function announce(what, ...given) {
 
 const isJudging = () => now.exercise !== null;
 const hiddenOutcomes = () => (isJudging() ? LEVELS[now.exercise.level].hidden : []);
-const exampleShown = () => exampleIn(held.state);
+const exampleShown = () => exampleIn(now);
 
 function goTo(count) {
   tell("");
@@ -3813,7 +3565,7 @@ function tellLine(text) {
   const { line, cause } = readFault(text);
   tellFault(line, cause ?? "", text);
 }
-return { NO_ENGINE, held, now, change, show, dispatch, on, announce, isJudging, hiddenOutcomes, exampleShown, goTo, tell, takeTrace, takeScheduleOfTrace, askNow, tellFault, tellTrouble, tellLine };
+return { NO_ENGINE, now, held, change, show, dispatch, on, announce, isJudging, hiddenOutcomes, exampleShown, goTo, tell, takeTrace, takeScheduleOfTrace, askNow, tellFault, tellTrouble, tellLine };
 })();
 
 // page/kept.js
@@ -4288,7 +4040,7 @@ const $page_work = (() => {
 const { EXAMPLES, TRACES } = $made_traces;
 const { readExamples } = $engine_answers;
 const { askList } = $run_broken;
-const { eventsAsked, openingIn, scheduleOfDraft, versionOf, withOpening } = $run_schedule_text;
+const { eventsAsked, openingIn, scheduleOfDraft, scheduleText, versionOf, withOpening } = $run_schedule_text;
 const { eventsInCommon, isTrace, Trace } = $run_trace;
 const { byId } = $page_dom;
 const { keepWork, works } = $page_kept;
@@ -4319,7 +4071,7 @@ const openExample = (name, count) =>
   openTask({ kind: "example", id: name, work: works.newName(`from ${name}`) }, exampleText(name), count);
 
 const newSchedule = (list, threads, quota) =>
-  openTask(ownTask("my schedule"), `listset-schedule 1\nlist ${list}\nthreads ${threads}\nquota ${quota}\n`, 0);
+  openTask(ownTask("my schedule"), scheduleText({ list, threads, quota }), 0);
 
 function runBox() {
   const box = byId("schedule").value;
@@ -4429,6 +4181,232 @@ function showMarks() {
   byId("run").textContent = isStale ? "Run the changes" : "Run";
 }
 return { beginTask, openTask, ownTask, openWork, openExample, newSchedule, runBox, runWithOpening, showHeader, examples, isExample, openKept, watchEditor, scrollToLine, showMarks };
+})();
+
+// run/outcomes.js
+const $run_outcomes = (() => {
+const { LISTS } = $made_rows;
+const { chipOf, keyText, said } = $run_markup;
+const { keyNumber, keysInChain, linkTarget, ownerOf } = $run_state;
+const { firstOpeningNode } = $run_trace;
+const isLock = (word) => word.endsWith(".lock");
+const mono = (text) => `<b class="mono">${text}</b>`;
+const isDone = (event) => event.deed === "store" || (event.deed === "exchange" && event.saw === event.from);
+const isFailed = (event) => event.deed === "exchange" && event.saw !== event.from;
+const ownerIn = (word) => word.split(".")[0];
+const isLinkOf = (event) => event.word?.endsWith(".link");
+const lockNames = (words) => `the lock${words.length > 1 ? "s" : ""} of ${words.map(ownerIn).join(" and ")}`;
+const setsMark = (event) => isLinkOf(event) && event.to?.endsWith("*") === true;
+
+function marksOf(trace) {
+  if (trace.marks !== undefined) return trace.marks;
+  trace.marks = new Map();
+  for (const event of trace.starred.map((number) => trace.event(number))) {
+    if (setsMark(event) && isDone(event)) trace.marks.set(ownerIn(event.word), event);
+  }
+  return trace.marks;
+}
+
+function wholeName({ trace, event }, name) {
+  const whose = isOpeningNode(trace, name) ? "the node of an opening key" : `${chipOf(ownerOf(trace, name))}'s node`;
+  const mark = marksOf(trace).get(name);
+  if (mark === undefined || mark.number > event.number) return `${name}</b>, ${whose}`;
+  return `${name}</b>, ${whose}, which ${chipOf(mark.thread)} marked at event ${mark.number}`;
+}
+
+const hasInChain = (state, key) => keysInChain(state).includes(Number(key));
+
+const OUTCOMES = {
+  change({ trace, state, event, held, hadKey }) {
+    const { put, took } = event;
+    const had = trace.lacks !== null && hadKey;
+    const hasNow = (key) => trace.lacks !== null && hasInChain(state, key);
+    if (put !== undefined) {
+      if (had) return `<b>This should add ${put} to the set, but ${put} is in it already.</b>`;
+      if (trace.lacks === null || hasNow(put)) return `<b>This adds ${put} to the set</b>, in slot ${held.used} of ${trace.quota}.`;
+      return `<b>This should add ${put} to the set, but its node is not in the chain: ${put} is lost.</b>`;
+    }
+    if (took === undefined) return "";
+    if (trace.lacks !== null && !had) return `<b>This should remove ${took} from the set, but ${took} is not in it any more.</b>`;
+    return hasNow(took) ? `<b>This should remove ${took} from the set, but the chain still has it.</b>` : `<b>This removes ${took} from the set.</b>`;
+  },
+
+  mark({ state, event }) {
+    if (!setsMark(event) || !isDone(event)) return "";
+    const owner = ownerIn(event.word);
+    return state.chain().includes(owner) ? `${owner} is still in the chain.` : `${owner} is not in the chain any more.`;
+  },
+
+  unlink(moment) {
+    const { state, event, before, wasInChain } = moment;
+    const gone = before.curr;
+    if (!wasInChain || !isLinkOf(event) || !isDone(event) || gone === "tail" || gone === ownerIn(event.word)) return "";
+    if (linkTarget(state.nodes[gone].link) !== event.to || state.chain().includes(gone)) return "";
+    return `<b>This unlinks ${wholeName(moment, gone)}.`;
+  },
+
+  leftInChain({ state, event, before }) {
+    if (!isFailed(event) || event.answer === undefined) return "";
+    if (!state.chain().includes(before.curr)) return `${before.curr} is not in the chain any more.`;
+    return `<b>${before.curr} stays in the chain, marked,</b> for a later walk to unlink.`;
+  },
+
+  validation({ event, held, row }) {
+    if (row?.invalid === undefined || held.pc !== row.invalid || held.reply !== "none") return "";
+    const owner = ownerIn(event.word);
+    let reason = `${owner} leads to ${said(event.saw)} now, not to ${held.curr}`;
+    if (event.saw.endsWith("*")) reason = `${owner} is marked`;
+    if (event.word.endsWith(".key")) reason = `the second walk is past the key of ${held.pred} and has not found it`;
+    return `<b>The validation fails:</b> ${reason}. It will unlock both nodes and start again.`;
+  },
+
+  valid({ held, row }) {
+    if (row?.invalid === undefined || !row.then.includes("decide on")) return "";
+    return held.pc === row.invalid && held.reply === "none" ? "" : "The validation succeeds.";
+  },
+
+  again({ event, held, row }) {
+    if (row?.again === undefined || held.pc !== row.again || event.answer !== undefined) return "";
+    const reason = event.saw?.endsWith("*") && event.deed === "load" ? `${ownerIn(event.word)} is marked: it` : "It";
+    return `<b>${reason} starts its walk again${/with the same slot/.test(row.book) ? ", with the same slot" : ""}.</b>`;
+  },
+
+  markMet({ trace, state, event, held, row }) {
+    if (event.deed !== "load" || !event.saw.endsWith("*") || [row?.invalid, row?.again].includes(held.pc)) return "";
+    const owner = ownerIn(event.word);
+    const where = state.chain().includes(owner) ? "and still" : "and no longer";
+    if (event.answer !== undefined) return `<b>${owner} is marked</b>, ${where} in the chain.`;
+    if (event.changes.curr !== undefined) return `${owner} is marked: the walk passes over it.`;
+    const next = LISTS[trace.kind].rows[held.pc]?.step ?? "";
+    if (next.startsWith("exchange pred.link")) return `<b>${owner} is marked:</b> the next step tries to unlink it.`;
+    if (!next.startsWith("exchange curr.link")) return "";
+    return `<b>${owner} is marked already:</b> the next step will fail.`;
+  },
+
+  walk({ trace, event, held, row }) {
+    if (event.deed !== "load" || row === undefined) return "";
+    if (row.below !== undefined) return walkAtKey(event, held);
+    if (row.then.includes("node = next(s)")) return `The second walk reaches ${held.node}.`;
+    if (row.then.includes("node is pred")) return secondWalkAtKey(held, row);
+    if (!row.then.includes("curr = next(s)")) return "";
+    const opening = isOpeningNode(trace, held.curr) ? ", the node of an opening key" : "";
+    return `The walk reaches ${held.curr}${opening}.`;
+  },
+
+  decision({ trace, event, held, before }) {
+    const { adds, removes } = LISTS[trace.kind];
+    if (event.answer !== undefined || held.reply !== "none" || before.pc === held.pc) return "";
+    const { operation, key } = held.call;
+    const found = event.word?.endsWith(".key") ? "The" : `${held.curr} ${operation === "add" ? "does not have" : "has"} the key ${key}: the`;
+    if (operation === "add" && held.pc === adds) return `${found} add goes ahead.`;
+    return operation === "remove" && held.pc === removes ? `${found} remove goes ahead.` : "";
+  },
+
+  reply({ trace, event }) {
+    const { reply } = event.changes;
+    if (reply === undefined || reply === "none" || event.answer !== undefined) return "";
+    const slots = { 0: "it has no slot", 1: "its one slot is used" }[trace.quota] ?? `its ${trace.quota} slots are used`;
+    const used = reply === "full" ? `: ${slots}` : "";
+    return `<b>It will answer ${reply}</b>${used}.`;
+  },
+
+  locks({ state, event }) {
+    if (!event.word || !isLock(event.word) || !isDone(event) || event.answer !== undefined) return "";
+    const own = state.locks()[`t${event.thread}`];
+    if (own === undefined) return "It holds no lock now.";
+    return event.deed === "exchange" && own.length === 1 ? "" : `It holds ${lockNames(own)}.`;
+  },
+};
+
+const isBelow = (saw, key) => keyNumber(saw) < Number(key);
+
+function walkAtKey(event, held) {
+  const owner = ownerIn(event.word);
+  const { key } = held.call;
+  if (isBelow(event.saw, key)) return `${keyText(event.saw)} is below ${key}: the walk continues.`;
+  if (event.saw === String(key)) return `<b>The walk stops at ${owner},</b> which has its key.`;
+  return `<b>The walk stops at ${owner},</b> the first with a key above ${key}.`;
+}
+
+function secondWalkAtKey(held, row) {
+  if (held.pc === row.invalid) return "";
+  if (held.node === held.pred) return `The second walk reaches pred, ${held.pred}.`;
+  return `This is not pred, ${held.pred}: the second walk continues.`;
+}
+
+const isOpeningNode = (trace, name) => /^n/.test(name) && Number(name.slice(1)) >= firstOpeningNode(trace);
+return { isLock, mono, isFailed, ownerIn, setsMark, hasInChain, OUTCOMES };
+})();
+
+// run/sentences.js
+const $run_sentences = (() => {
+const { LISTS } = $made_rows;
+const { callText, chipOf, holderOf, letterOf, said } = $run_markup;
+const { hasInChain, isFailed, isLock, mono, OUTCOMES, ownerIn, setsMark } = $run_outcomes;
+const lockedBy = (word) => (word === "list.lock" ? "the list" : mono(ownerIn(word)));
+
+function deedText(event, row) {
+  const word = event.word && mono(event.word);
+  if (event.deed === "begin") return `begins ${callText(event.call)}.`;
+  if (event.deed === "load") return `reads ${word}: ${said(event.saw)}.`;
+  if (isLock(event.word)) return lockText(event, row);
+  const change = event.deed === "store" ? `${word} := ${said(event.to)}` : `${word}: ${said(event.from)} → ${said(event.to)}`;
+  const finds = isFailed(event) ? `, but finds ${said(event.saw)}` : "";
+  if (setsMark(event)) return `${isFailed(event) ? "tries to mark" : "marks"} ${mono(ownerIn(event.word))} (${change})${finds}.`;
+  if (event.deed === "store") return `sets ${word} to ${said(event.to)}.`;
+  return `${isFailed(event) ? "tries to change" : "changes"} ${word} from ${said(event.from)} to ${said(event.to)}${finds}.`;
+}
+
+function lockText(event, row) {
+  const name = lockedBy(event.word);
+  if (event.deed === "store") return `unlocks ${name}.`;
+  if (!isFailed(event)) return `locks ${name}.`;
+  const then = event.changes.pc === row ? "It will try again" : `It continues all the same, at row ${event.changes.pc}`;
+  return `tries to lock ${name}, but ${holderOf(event.saw)} holds it. ${then}.`;
+}
+
+function effectText({ trace, event }, hidden) {
+  const { call } = event;
+  if (event.answer === undefined) return "";
+  const answers = `<b>${callText(call)} answers ${hidden.includes("reply") ? "… what?" : event.answer}</b>`;
+  const mayFitNowhere = trace.lacks !== null && !call.changes && call.at === event.number;
+  if (hidden.includes("effect") || mayFitNowhere) return hidden.includes("reply") ? answers : `${answers}.`;
+  if (call.at === event.number) return `${answers}, and takes effect here.`;
+  const other = trace.event(call.at).thread;
+  const whose = other === event.thread ? "" : `, <b>a step of ${letterOf(other)}</b>`;
+  return `${answers}; it took effect at event ${call.at}${whose}.`;
+}
+
+function openingText(trace) {
+  if (trace.opening.length === 0) return "Before the first event the list is empty, and every thread is idle.";
+  const some = trace.opening.slice(0, 20).join(", ");
+  return `Before the first event the set is {${some}${trace.opening.length > 20 ? ", …" : ""}}, and every thread is idle.`;
+}
+
+function momentAt(state, count) {
+  const { trace } = state;
+  const event = count > 0 ? trace.event(count) : null;
+  state.moveTo(Math.max(count - 1, 0));
+  const before = event === null ? null : { ...state.threads[event.thread] };
+  const changed = event?.put ?? event?.took;
+  const hadKey = trace.lacks !== null && changed !== undefined && hasInChain(state, changed);
+  const wasInChain = trace.lacks === null || before === null || state.chain().includes(before.curr);
+  state.moveTo(count);
+  if (event === null) return { trace, state, event };
+  const row = event.deed === "begin" ? undefined : LISTS[trace.kind].rows[before.pc];
+  return { trace, state, event, before, hadKey, wasInChain, held: state.threads[event.thread], row };
+}
+
+function sentenceOf(moment, hidden = []) {
+  const { trace, event } = moment;
+  if (event === null) return `${openingText(trace)}${trace.total === 0 ? " Let one begin a call." : ""}`;
+  if (event.deed === "begin") return `${chipOf(event.thread)} ${deedText(event)}`;
+  const told = Object.keys(OUTCOMES).filter((name) => !hidden.includes(name));
+  const outcomes = told.map((name) => OUTCOMES[name](moment));
+  const parts = [chipOf(event.thread), deedText(event, moment.before.pc), ...outcomes, effectText(moment, hidden)];
+  return parts.filter((text) => text !== "").join(" ");
+}
+return { momentAt, sentenceOf };
 })();
 
 // story/tale.js
@@ -4597,7 +4575,7 @@ return { phaseAt, joinedRows, phaseText, answerText, taleOf };
 const $story_live_run = (() => {
 const { askNow } = $page_now;
 const { askList, verdictOnLacking } = $run_broken;
-const { openingIn, scheduleOfDraft, scheduleOfTrace, titleOf } = $run_schedule_text;
+const { openingIn, scheduleOfDraft, scheduleOfTrace, scheduleText } = $run_schedule_text;
 const { isFailed, isLock } = $run_outcomes;
 const { keysInChain, promisedKeys, State } = $run_state;
 const { isTrace, Trace } = $run_trace;
@@ -4665,9 +4643,7 @@ class LiveRun extends ShownRun {
   }
 
   textOf(lines) {
-    const { list, threads, quota, opening, version } = this.spec;
-    const head = [titleOf(version), `list ${list}`, `threads ${threads}`, `quota ${quota}`];
-    return `${[...head, ...opening.map((key) => `opening ${key}`), ...lines].join("\n")}\n`;
+    return scheduleText(this.spec, lines);
   }
 
   traceOf(lines) {
@@ -5858,6 +5834,7 @@ return { StillFigure };
 const $run_address = (() => {
 const { LACKING } = $made_classics;
 const { LISTS } = $made_rows;
+const { scheduleText, versionOf } = $run_schedule_text;
 const LONGEST_ADDRESS = 30000; // characters; a longer schedule has no address
 const SHORT_WORDS = { begin: "b", go: "g" };
 const LONG_WORDS = { b: "begin", g: "go" };
@@ -5888,8 +5865,6 @@ const ADDRESS_PARTS = {
 
 class AddressFault extends Error {}
 
-const neededVersion = (lines) => (lines.some((line) => /^(opening |begin \d+ ceiling )/.test(line)) ? 2 : 1);
-
 function addressOf(text, event, lacks = null) {
   if (text.length > 2 * LONGEST_ADDRESS) return null; // an address has more than half of the letters
   const [title, list, threads, quota, ...lines] = text.split("\n").slice(0, -1);
@@ -5897,8 +5872,9 @@ function addressOf(text, event, lacks = null) {
   const opening = lines.filter(isOpening).map((line) => line.slice("opening ".length));
   const events = lines.filter((line) => !isOpening(line)).map(shortLine);
   const version = title?.split(" ")[1];
+  const needed = versionOf(scheduleText({ list, threads, quota, opening }, lines));
   const parts = [`list=${list?.split(" ")[1]}`, `threads=${threads?.split(" ")[1]}`, `quota=${quota?.split(" ")[1]}`];
-  if (version !== String(neededVersion(lines))) parts.push(`version=${version}`);
+  if (version !== String(needed)) parts.push(`version=${version}`);
   if (opening.length > 0) parts.push(`opening=${opening.join(".")}`);
   parts.push(`s=${events.join()}`, `event=${event}`);
   if (lacks !== null) parts.push(`lacks=${Object.keys(LACKING).indexOf(lacks) + 1}`);
@@ -5971,16 +5947,13 @@ function partsOf(hash) {
 function textOfParts(parts) {
   const missing = ["list", "threads", "quota"].find((name) => parts[name] === undefined);
   if (missing !== undefined) throw new AddressFault(`the address has no "${missing}"`);
-  const opening = (parts.opening?.split(".") ?? []).map((key) => `opening ${key}`);
   const events = (parts.s ? parts.s.split(",") : []).map(longLine);
-  const lines = [...opening, ...events];
-  const title = `listset-schedule ${parts.version ?? neededVersion(lines)}`;
-  return [title, `list ${parts.list}`, `threads ${parts.threads}`, `quota ${parts.quota}`, ...lines, ""].join("\n");
+  return scheduleText({ ...parts, opening: parts.opening?.split(".") }, events);
 }
 
 const warningOf = (link) =>
   link.startsWith("file:") ? " Others cannot open it, since it leads to a file on this computer: copy it from a page on a web server." : "";
-return { LONGEST_ADDRESS, AddressFault, addressOf, longLine, readAddress, warningOf };
+return { LONGEST_ADDRESS, AddressFault, addressOf, shortLine, longLine, readAddress, warningOf };
 })();
 
 // run/seed.js
@@ -6255,7 +6228,7 @@ const $page_scene_address = (() => {
 const { CLASSICS } = $made_classics;
 const { LISTS } = $made_rows;
 const { levelOfNumber } = $data_levels;
-const { AddressFault, addressOf, LONGEST_ADDRESS, longLine } = $run_address;
+const { AddressFault, addressOf, LONGEST_ADDRESS, longLine, shortLine } = $run_address;
 const { startOfLacking } = $run_broken;
 const { inLetters } = $run_markup;
 const { eventsAsked } = $run_schedule_text;
@@ -6273,7 +6246,6 @@ function sceneOfHash(hash) {
 }
 
 const START_OF_CODE = [3, 7];
-const shortLine = (line) => `${line[0]}${line.split(" ").slice(1).join(".")}`;
 const linesOfCode = (s) => s.split(",").filter((line) => /^(b\d+\.[a-z]+\.\d+|g\d+\.\d+)$/.test(line)).map(longLine);
 
 const SET_OF_CODE = { threads: 2, quota: 9 };
@@ -6551,7 +6523,6 @@ return { GoalFault, CLAUSES, readGoal, TooManyWays, conditionsOf };
 const $course_course_text = (() => {
 const { LACKING } = $made_classics;
 const { AddressFault, LONGEST_ADDRESS } = $run_address;
-const { titleOf } = $run_schedule_text;
 const { GoalFault, readGoal } = $course_goal_words;
 const COURSE_TITLE = "listset-course 1";
 const MOST_COURSE = 1000000; // characters of a course
@@ -6690,12 +6661,6 @@ function readCourse(text) {
   return { name: reader.name, lessons, faults: reader.faults };
 }
 
-function lessonText({ list, threads, quota, opening }, lines) {
-  const isOfVersionTwo = opening.length > 0 || lines.some((line) => line.includes(" ceiling "));
-  const header = [titleOf(isOfVersionTwo ? 2 : 1), `list ${list}`, `threads ${threads}`, `quota ${quota}`];
-  return [...header, ...opening.map((key) => `opening ${key}`), ...lines, ""].join("\n");
-}
-
 
 async function passed(bytes, stream) {
   return new Uint8Array(await new Response(new Blob([bytes]).stream().pipeThrough(stream)).arrayBuffer());
@@ -6717,17 +6682,17 @@ async function courseOfAddress(letters) {
     throw new AddressFault("the course of the address cannot be unpacked: the link is cut");
   }
 }
-return { COURSE_TITLE, readCourse, lessonText, courseAddress, courseOfAddress };
+return { COURSE_TITLE, readCourse, courseAddress, courseOfAddress };
 })();
 
 // course/lesson.js
 const $course_lesson = (() => {
 const { readFault, sentenceOn } = $engine_answers;
 const { askList, TO_BREAK, verdictOnLacking } = $run_broken;
-const { eventsAsked, scheduleOfDraft, versionOf } = $run_schedule_text;
+const { eventsAsked, scheduleOfDraft, scheduleText, versionOf } = $run_schedule_text;
 const { Run } = $run_moments;
 const { HEADER_LINES, isTrace, Trace } = $run_trace;
-const { lessonText, readCourse } = $course_course_text;
+const { readCourse } = $course_course_text;
 const { conditionsOf, TooManyWays } = $course_goal_words;
 const MOST_EVENTS = 1000; // of a solution
 const OTHER_SET = "The list, the number of threads, the quota and the opening keys are to be those of the lesson.";
@@ -6793,7 +6758,7 @@ function missingIn({ reason, conditions }) {
 }
 
 function troubleOf(ask, lesson) {
-  const start = scheduleOfDraft(ask, lessonText(lesson, lesson.start), lesson.lacks);
+  const start = scheduleOfDraft(ask, scheduleText(lesson, lesson.start), lesson.lacks);
   if (start.fault !== null) return refusedLine(ask, lesson, "start", readFault(start.fault));
   lesson.begun = start.text;
   const begin = runOfSchedule(ask, start.text, lesson.lacks);
@@ -6805,7 +6770,7 @@ function troubleOf(ask, lesson) {
   if (met.every(({ isMet }) => isMet)) return { line: lesson.line, says: "its start meets the goal already" };
   lesson.solution = null;
   if (lesson.answer.length === 0) return null;
-  const answer = scheduleOfDraft(ask, lessonText(lesson, [...lesson.start, ...lesson.answer]), lesson.lacks);
+  const answer = scheduleOfDraft(ask, scheduleText(lesson, [...lesson.start, ...lesson.answer]), lesson.lacks);
   if (answer.fault !== null) return refusedLine(ask, lesson, "answer", readFault(answer.fault));
   lesson.solution = answer.text;
   const verdict = judged(ask, lesson, answer.text);
@@ -7489,12 +7454,12 @@ const { warningOf } = $run_address;
 const { escaped } = $run_markup;
 const { addressIn } = $page_scene_address;
 const { HERE, keepUnder, keepWork } = $page_kept;
-const { held, now, tell } = $page_now;
+const { now, tell } = $page_now;
 const { entryOf } = $page_state;
 const MOMENT = 400; // milliseconds: the bar follows once nothing has moved for so long, since browsers refuse quick changes of it
 const visit = { timer: 0, entry: null, isRead: false, course: null };
 
-const addressHere = () => addressIn(held.state, visit);
+const addressHere = () => addressIn(now, visit);
 
 function keepSoon() {
   clearTimeout(visit.timer);
@@ -7509,10 +7474,10 @@ function keepNow() {
 
 function setAddress() {
   const address = addressHere();
-  const entry = entryOf(held.state);
+  const entry = entryOf(now);
   const isNew = visit.entry !== null && visit.entry !== entry;
   visit.entry = entry;
-  if (held.state.place.view !== "embed") keepUnder(HERE, address);
+  if (now.place.view !== "embed") keepUnder(HERE, address);
   if (!isNew && location.hash === (address ?? "")) return;
   const { text, count, lacks } = now.run;
   const kept = address === null ? { text, count, lacks } : null;
@@ -7803,7 +7768,7 @@ const { scheduleOfTrace } = $run_schedule_text;
 const { anotherSeed, partsOfSeed, scheduleOfSeed, seedOf } = $run_seed;
 const { byId } = $page_dom;
 const { works } = $page_kept;
-const { askNow, held, isJudging, now } = $page_now;
+const { askNow, isJudging, now } = $page_now;
 const { addressOfAssignment, addressOfCode, titleIn } = $page_scene_address;
 const { examples, openTask } = $page_work;
 const { homeworkOf } = $story_assignment;
@@ -7873,7 +7838,7 @@ function aimGoOn() {
 }
 
 function showPlace() {
-  document.title = titleIn(held.state, titleOfScene);
+  document.title = titleIn(now, titleOfScene);
   showHome();
   if (now.place.screen !== "stage") return;
   const links = taskOfWatch();
@@ -7898,7 +7863,7 @@ const { scrollToLine } = $page_work;
 const { hiddenOutcomes, isJudging, now, show, tell } = $page_now;
 const { goByHand, isPlaying } = $page_play;
 const { escaped } = $run_markup;
-const { sentenceOf } = $run_sentences;
+const { momentAt, sentenceOf } = $run_sentences;
 const { ShownRun } = $story_live_run;
 const { StillFigure } = $story_still_figure;
 const { aimGoOn } = $activities_watch;
@@ -7919,8 +7884,9 @@ function figureOfTask(run) {
   return bench.figure;
 }
 
-function showRun(moment) {
+function showRun() {
   const { trace, state, count } = now.run;
+  const moment = momentAt(state, count);
   const run = new ShownRun(trace, state, count);
   const figure = figureOfTask(run);
   figure.box.classList.toggle("judged", isJudging());
@@ -9162,7 +9128,7 @@ return { takeCourseOfAddress, showCourseText, listenToCourses, listenToHandIn };
 
 // run/sides.js
 const $run_sides = (() => {
-const { titleOf } = $run_schedule_text;
+const { scheduleText } = $run_schedule_text;
 const { letterOf } = $run_markup;
 const { State } = $run_state;
 const { isTrace, MOST_NUMBER, Trace } = $run_trace;
@@ -9197,13 +9163,12 @@ class Side {
     this.kind = kind;
     this.lines = [];
     this.counts = [0];
-    const set = [titleOf(2), `list ${kind}`, `threads ${program.length}`, `quota ${quota}`];
-    this.head = [...set, ...opening.map((key) => `opening ${key}`)];
+    this.set = { version: 2, list: kind, threads: program.length, quota, opening };
     this.run();
   }
 
   get schedule() {
-    return [...this.head, ...this.lines, ""].join("\n");
+    return scheduleText(this.set, this.lines);
   }
 
   run() {
@@ -9609,7 +9574,7 @@ async function followAddress(event) {
   const kept = event.state;
   if (typeof kept?.text === "string") openLink({ text: kept.text, event: kept.count, lacks: kept.lacks });
   else await openAddress(location.hash);
-  visit.entry = entryOf(held.state);
+  visit.entry = entryOf(now);
   keepSoon();
 }
 
@@ -9637,7 +9602,7 @@ async function openFirst() {
   if (!isNamed && (isWrong || addressKept() === "" || !(await openAddress(addressBack())))) firstVisit();
   bringBack();
   if (!isNamed && said !== "") tell(said);
-  Object.assign(visit, { isRead: true, entry: entryOf(held.state) });
+  Object.assign(visit, { isRead: true, entry: entryOf(now) });
   keepSoon();
 }
 
@@ -11106,7 +11071,7 @@ const { showHeader, showMarks } = $page_work;
 const { refreshReport } = $page_files;
 const { keysOf, pressKey } = $page_play;
 const { fillExamples, fillWorks, showQuestion } = $page_menu;
-const { held, on, show, takeTrace } = $page_now;
+const { held, now, on, show, takeTrace } = $page_now;
 const { services, showParts } = $page_seen;
 const { keepNow, keepSoon } = $page_visit;
 const { Trace } = $run_trace;
@@ -11143,16 +11108,12 @@ function listen() {
   window.addEventListener("pagehide", keepNow);
 }
 
-function render(state, moment) {
-  showParts(state);
-  if (isScene(state)) {
-    renderScene(state);
-    showPlace();
-    return keepSoon();
-  }
-  leaveScene();
-  showRun(moment);
-  for (const draw of [showBar, showQuestion, drawJudging, showPlace, showMarks]) draw();
+function render() {
+  showParts(now);
+  const isInScene = isScene(now);
+  if (isInScene) renderScene(now);
+  else leaveScene();
+  for (const draw of isInScene ? [showPlace] : [showRun, showBar, showQuestion, drawJudging, showPlace, showMarks]) draw();
   keepSoon();
 }
 
@@ -11202,5 +11163,5 @@ if (typeof document !== "undefined") startPage(); // in node there is none
 return {  };
 })();
 
-return Object.assign({}, $made_rows, $run_markup, $run_trace, $run_state, $draw_labels, $draw_history, $draw_contents, $made_code, $draw_listing, $draw_tables, $page_dom, $made_traces, $engine_answers, $made_classics, $run_judged, $run_schedule_text, $run_broken, $made_book, $run_outcomes, $run_sentences, $page_state, $page_now, $page_kept, $engine_engine, $engine_worker, $page_long_run, $page_seen, $page_play, $page_work, $story_tale, $story_live_run, $draw_glide, $draw_places, $draw_arrows, $draw_list, $data_book_code, $story_code, $story_dock, $story_figure_parts, $story_figure, $story_still_figure, $run_address, $run_seed, $data_levels, $page_scene_address, $run_moments, $course_goal_words, $course_course_text, $course_lesson, $story_kept, $story_assignment, $course_hand_in, $run_check_trace, $run_recorded, $page_files, $page_visit, $story_scene, $story_assignment_view, $activities_watch, $activities_bench, $story_learning, $draw_judged, $activities_judging, $story_ask, $story_ask_more, $story_ask_branches, $activities_recorded, $activities_maps, $activities_courses, $run_sides, $activities_compare, $page_menu, $activities_open, $page_controls, $story_ask_view, $story_break_view, $story_code_view, $story_learn_view, $story_path, $story_path_parts, $story_path_view, $story_handins, $story_handins_view, $story_teach_view);
+return Object.assign({}, $made_rows, $run_markup, $run_trace, $run_state, $draw_labels, $draw_history, $draw_contents, $made_code, $draw_listing, $draw_tables, $page_dom, $made_traces, $engine_answers, $made_classics, $run_judged, $run_schedule_text, $run_broken, $made_book, $page_state, $page_now, $page_kept, $engine_engine, $engine_worker, $page_long_run, $page_seen, $page_play, $page_work, $run_outcomes, $run_sentences, $story_tale, $story_live_run, $draw_glide, $draw_places, $draw_arrows, $draw_list, $data_book_code, $story_code, $story_dock, $story_figure_parts, $story_figure, $story_still_figure, $run_address, $run_seed, $data_levels, $page_scene_address, $run_moments, $course_goal_words, $course_course_text, $course_lesson, $story_kept, $story_assignment, $course_hand_in, $run_check_trace, $run_recorded, $page_files, $page_visit, $story_scene, $story_assignment_view, $activities_watch, $activities_bench, $story_learning, $draw_judged, $activities_judging, $story_ask, $story_ask_more, $story_ask_branches, $activities_recorded, $activities_maps, $activities_courses, $run_sides, $activities_compare, $page_menu, $activities_open, $page_controls, $story_ask_view, $story_break_view, $story_code_view, $story_learn_view, $story_path, $story_path_parts, $story_path_view, $story_handins, $story_handins_view, $story_teach_view);
 })();

@@ -13,7 +13,7 @@ import { showHeader, showMarks } from "./page/work.js";
 import { refreshReport } from "./page/files.js";
 import { keysOf, pressKey } from "./page/play.js";
 import { fillExamples, fillWorks, showQuestion } from "./page/menu.js";
-import { held, on, show, takeTrace } from "./page/now.js";
+import { held, now, on, show, takeTrace } from "./page/now.js";
 import { services, showParts } from "./page/seen.js";
 import { keepNow, keepSoon } from "./page/visit.js";
 import { Trace } from "./run/trace.js";
@@ -52,16 +52,12 @@ function listen() {
 }
 
 // All that is seen follows from the state: first what is there at all, then what stands in it.
-function render(state, moment) {
-  showParts(state);
-  if (isScene(state)) {
-    renderScene(state);
-    showPlace();
-    return keepSoon();
-  }
-  leaveScene();
-  showRun(moment);
-  for (const draw of [showBar, showQuestion, drawJudging, showPlace, showMarks]) draw();
+function render() {
+  showParts(now);
+  const isInScene = isScene(now);
+  if (isInScene) renderScene(now);
+  else leaveScene();
+  for (const draw of isInScene ? [showPlace] : [showRun, showBar, showQuestion, drawJudging, showPlace, showMarks]) draw();
   keepSoon();
 }
 

@@ -10,7 +10,7 @@ import { scrollToLine } from "../page/work.js";
 import { hiddenOutcomes, isJudging, now, show, tell } from "../page/now.js";
 import { goByHand, isPlaying } from "../page/play.js";
 import { escaped } from "../run/markup.js";
-import { sentenceOf } from "../run/sentences.js";
+import { momentAt, sentenceOf } from "../run/sentences.js";
 import { ShownRun } from "../story/live_run.js";
 import { StillFigure } from "../story/still_figure.js";
 import { aimGoOn } from "./watch.js";
@@ -33,8 +33,9 @@ function figureOfTask(run) {
   return bench.figure;
 }
 
-export function showRun(moment) {
+export function showRun() {
   const { trace, state, count } = now.run;
+  const moment = momentAt(state, count);
   const run = new ShownRun(trace, state, count);
   const figure = figureOfTask(run);
   figure.box.classList.toggle("judged", isJudging());

@@ -127,7 +127,7 @@ export async function followAddress(event) {
   const kept = event.state;
   if (typeof kept?.text === "string") openLink({ text: kept.text, event: kept.count, lacks: kept.lacks });
   else await openAddress(location.hash);
-  visit.entry = entryOf(held.state);
+  visit.entry = entryOf(now);
   keepSoon();
 }
 
@@ -158,7 +158,7 @@ export async function openFirst() {
   if (!isNamed && (isWrong || addressKept() === "" || !(await openAddress(addressBack())))) firstVisit();
   bringBack();
   if (!isNamed && said !== "") tell(said);
-  Object.assign(visit, { isRead: true, entry: entryOf(held.state) });
+  Object.assign(visit, { isRead: true, entry: entryOf(now) });
   keepSoon();
 }
 

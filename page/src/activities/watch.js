@@ -5,7 +5,7 @@ import { scheduleOfTrace } from "../run/schedule_text.js";
 import { anotherSeed, partsOfSeed, scheduleOfSeed, seedOf } from "../run/seed.js";
 import { byId } from "../page/dom.js";
 import { works } from "../page/kept.js";
-import { askNow, held, isJudging, now } from "../page/now.js";
+import { askNow, isJudging, now } from "../page/now.js";
 import { addressOfAssignment, addressOfCode, titleIn } from "../page/scene_address.js";
 import { examples, openTask } from "../page/work.js";
 import { homeworkOf } from "../story/assignment.js";
@@ -81,7 +81,7 @@ export function aimGoOn() {
 
 // After each time that the run was drawn: the task, the title.
 export function showPlace() {
-  document.title = titleIn(held.state, titleOfScene);
+  document.title = titleIn(now, titleOfScene);
   showHome();
   if (now.place.screen !== "stage") return;
   const links = taskOfWatch();

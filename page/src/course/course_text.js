@@ -2,7 +2,6 @@
 // another; the head of book.course tells of each word. Each fault is told by its line.
 import { LACKING } from "../../made/classics.js";
 import { AddressFault, LONGEST_ADDRESS } from "../run/address.js";
-import { titleOf } from "../run/schedule_text.js";
 import { GoalFault, readGoal } from "./goal_words.js";
 
 export const COURSE_TITLE = "listset-course 1";
@@ -145,13 +144,6 @@ export function readCourse(text) {
   const twice = lessons.filter((lesson, index) => lessons.findIndex(({ name }) => name === lesson.name) < index);
   for (const { name, line } of twice) reader.fault(line, `there is a lesson ${name} above`);
   return { name: reader.name, lessons, faults: reader.faults };
-}
-
-// The text of a schedule, or of a draft, of the lesson's set with these lines.
-export function lessonText({ list, threads, quota, opening }, lines) {
-  const isOfVersionTwo = opening.length > 0 || lines.some((line) => line.includes(" ceiling "));
-  const header = [titleOf(isOfVersionTwo ? 2 : 1), `list ${list}`, `threads ${threads}`, `quota ${quota}`];
-  return [...header, ...opening.map((key) => `opening ${key}`), ...lines, ""].join("\n");
 }
 
 // ---- A course in a link: its text, packed, behind #course=, so that nothing comes from a network.

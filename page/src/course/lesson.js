@@ -2,10 +2,10 @@
 // at. A lesson is tried when it is read: its start does not reach its goal, and its answer does.
 import { readFault, sentenceOn } from "../engine/answers.js";
 import { askList, TO_BREAK, verdictOnLacking } from "../run/broken.js";
-import { eventsAsked, scheduleOfDraft, versionOf } from "../run/schedule_text.js";
+import { eventsAsked, scheduleOfDraft, scheduleText, versionOf } from "../run/schedule_text.js";
 import { Run } from "../run/moments.js";
 import { HEADER_LINES, isTrace, Trace } from "../run/trace.js";
-import { lessonText, readCourse } from "./course_text.js";
+import { readCourse } from "./course_text.js";
 import { conditionsOf, TooManyWays } from "./goal_words.js";
 
 export const MOST_EVENTS = 1000; // of a solution
@@ -81,7 +81,7 @@ export function missingIn({ reason, conditions }) {
 
 // Tries a lesson, which then has the schedules of its start and of its answer: what is wrong with it and at which line, or null.
 function troubleOf(ask, lesson) {
-  const start = scheduleOfDraft(ask, lessonText(lesson, lesson.start), lesson.lacks);
+  const start = scheduleOfDraft(ask, scheduleText(lesson, lesson.start), lesson.lacks);
   if (start.fault !== null) return refusedLine(ask, lesson, "start", readFault(start.fault));
   lesson.begun = start.text;
   const begin = runOfSchedule(ask, start.text, lesson.lacks);
@@ -93,7 +93,7 @@ function troubleOf(ask, lesson) {
   if (met.every(({ isMet }) => isMet)) return { line: lesson.line, says: "its start meets the goal already" };
   lesson.solution = null;
   if (lesson.answer.length === 0) return null;
-  const answer = scheduleOfDraft(ask, lessonText(lesson, [...lesson.start, ...lesson.answer]), lesson.lacks);
+  const answer = scheduleOfDraft(ask, scheduleText(lesson, [...lesson.start, ...lesson.answer]), lesson.lacks);
   if (answer.fault !== null) return refusedLine(ask, lesson, "answer", readFault(answer.fault));
   lesson.solution = answer.text;
   const verdict = judged(ask, lesson, answer.text);

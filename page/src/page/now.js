@@ -3,44 +3,23 @@
 import { readFault, sentenceOn } from "../engine/answers.js";
 import { LEVELS } from "../run/judged.js";
 import { scheduleOfTrace } from "../run/schedule_text.js";
-import { momentAt } from "../run/sentences.js";
 import { State } from "../run/state.js";
 import { byId } from "./dom.js";
 import { exampleIn, reduce, stateAtFirst } from "./state.js";
 
 export const NO_ENGINE = "The replayer does not run in this browser: no schedule can be run, no report checked. A file of listset trace can be opened.";
 
-/** @type {{ state: import("./state.js").State, engine: any, render: (state: any, moment: any) => void }} */
-export const held = { state: stateAtFirst(), engine: null, render: () => {} };
-
-// The parts of the state, to be read.
-export const now = {
-  get place() {
-    return held.state.place;
-  },
-  get scene() {
-    return held.state.scene;
-  },
-  get run() {
-    return held.state.run;
-  },
-  get task() {
-    return held.state.task;
-  },
-  get exercise() {
-    return held.state.exercise;
-  },
-  get prefs() {
-    return held.state.prefs;
-  },
-};
+// The state, to be read.
+export const now = stateAtFirst();
+/** @type {{ engine: any, render: () => void }} */
+export const held = { engine: null, render: () => {} };
 
 // An action, after which nothing is drawn yet.
 export function change(type, given = {}) {
-  held.state = reduce(held.state, { ...given, type });
+  Object.assign(now, reduce(now, { ...given, type }));
 }
 
-export const show = () => held.render(held.state, momentAt(now.run.state, now.run.count));
+export const show = () => held.render();
 
 export function dispatch(type, given) {
   change(type, given);
@@ -58,7 +37,7 @@ export function announce(what, ...given) {
 
 export const isJudging = () => now.exercise !== null;
 export const hiddenOutcomes = () => (isJudging() ? LEVELS[now.exercise.level].hidden : []);
-export const exampleShown = () => exampleIn(held.state);
+export const exampleShown = () => exampleIn(now);
 
 export function goTo(count) {
   tell("");

@@ -2,7 +2,7 @@
 import { CLASSICS } from "../../made/classics.js";
 import { LISTS } from "../../made/rows.js";
 import { levelOfNumber } from "../data/levels.js";
-import { AddressFault, addressOf, LONGEST_ADDRESS, longLine } from "../run/address.js";
+import { AddressFault, addressOf, LONGEST_ADDRESS, longLine, shortLine } from "../run/address.js";
 import { startOfLacking } from "../run/broken.js";
 import { inLetters } from "../run/markup.js";
 import { eventsAsked } from "../run/schedule_text.js";
@@ -22,7 +22,6 @@ export function sceneOfHash(hash) {
 }
 
 export const START_OF_CODE = [3, 7];
-const shortLine = (line) => `${line[0]}${line.split(" ").slice(1).join(".")}`;
 export const linesOfCode = (s) => s.split(",").filter((line) => /^(b\d+\.[a-z]+\.\d+|g\d+\.\d+)$/.test(line)).map(longLine);
 
 export const SET_OF_CODE = { threads: 2, quota: 9 };

@@ -3,7 +3,7 @@ import { warningOf } from "../run/address.js";
 import { escaped } from "../run/markup.js";
 import { addressIn } from "./scene_address.js";
 import { HERE, keepUnder, keepWork } from "./kept.js";
-import { held, now, tell } from "./now.js";
+import { now, tell } from "./now.js";
 import { entryOf } from "./state.js";
 
 const MOMENT = 400; // milliseconds: the bar follows once nothing has moved for so long, since browsers refuse quick changes of it
@@ -11,7 +11,7 @@ const MOMENT = 400; // milliseconds: the bar follows once nothing has moved for 
 // address needs and the state has not.
 export const visit = { timer: 0, entry: null, isRead: false, course: null };
 
-const addressHere = () => addressIn(held.state, visit);
+const addressHere = () => addressIn(now, visit);
 
 // The address and what is kept in the browser follow what is shown.
 export function keepSoon() {
@@ -28,10 +28,10 @@ export function keepNow() {
 // Another task or place is a new entry to come back to; a step is none. A text without an address is kept with its entry.
 function setAddress() {
   const address = addressHere();
-  const entry = entryOf(held.state);
+  const entry = entryOf(now);
   const isNew = visit.entry !== null && visit.entry !== entry;
   visit.entry = entry;
-  if (held.state.place.view !== "embed") keepUnder(HERE, address);
+  if (now.place.view !== "embed") keepUnder(HERE, address);
   if (!isNew && location.hash === (address ?? "")) return;
   const { text, count, lacks } = now.run;
   const kept = address === null ? { text, count, lacks } : null;

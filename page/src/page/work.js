@@ -2,7 +2,7 @@
 import { EXAMPLES, TRACES } from "../../made/traces.js";
 import { readExamples } from "../engine/answers.js";
 import { askList } from "../run/broken.js";
-import { eventsAsked, openingIn, scheduleOfDraft, versionOf, withOpening } from "../run/schedule_text.js";
+import { eventsAsked, openingIn, scheduleOfDraft, scheduleText, versionOf, withOpening } from "../run/schedule_text.js";
 import { eventsInCommon, isTrace, Trace } from "../run/trace.js";
 import { byId } from "./dom.js";
 import { keepWork, works } from "./kept.js";
@@ -37,7 +37,7 @@ export const openExample = (name, count) =>
   openTask({ kind: "example", id: name, work: works.newName(`from ${name}`) }, exampleText(name), count);
 
 export const newSchedule = (list, threads, quota) =>
-  openTask(ownTask("my schedule"), `listset-schedule 1\nlist ${list}\nthreads ${threads}\nquota ${quota}\n`, 0);
+  openTask(ownTask("my schedule"), scheduleText({ list, threads, quota }), 0);
 
 // Runs the text of the box, in which a line may be that of a draft. Its last line gets its newline where it has none. The event
 // stays where the events up to it do; a text with a refused event is shown up to that.

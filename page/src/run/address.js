@@ -7,6 +7,7 @@
 // An address is made a text again; whether that is a schedule says the engine.
 import { LACKING } from "../../made/classics.js";
 import { LISTS } from "../../made/rows.js";
+import { scheduleText, versionOf } from "./schedule_text.js";
 
 export const LONGEST_ADDRESS = 30000; // characters; a longer schedule has no address
 const SHORT_WORDS = { begin: "b", go: "g" };
@@ -38,9 +39,6 @@ const ADDRESS_PARTS = {
 
 export class AddressFault extends Error {}
 
-// The version that a text needs: the second has ceilings and opening keys.
-const neededVersion = (lines) => (lines.some((line) => /^(opening |begin \d+ ceiling )/.test(line)) ? 2 : 1);
-
 // The address of a text at an event, or null where it has none: it is no text of a schedule's form, or too long.
 export function addressOf(text, event, lacks = null) {
   if (text.length > 2 * LONGEST_ADDRESS) return null; // an address has more than half of the letters
@@ -49,8 +47,9 @@ export function addressOf(text, event, lacks = null) {
   const opening = lines.filter(isOpening).map((line) => line.slice("opening ".length));
   const events = lines.filter((line) => !isOpening(line)).map(shortLine);
   const version = title?.split(" ")[1];
+  const needed = versionOf(scheduleText({ list, threads, quota, opening }, lines));
   const parts = [`list=${list?.split(" ")[1]}`, `threads=${threads?.split(" ")[1]}`, `quota=${quota?.split(" ")[1]}`];
-  if (version !== String(neededVersion(lines))) parts.push(`version=${version}`);
+  if (version !== String(needed)) parts.push(`version=${version}`);
   if (opening.length > 0) parts.push(`opening=${opening.join(".")}`);
   parts.push(`s=${events.join()}`, `event=${event}`);
   if (lacks !== null) parts.push(`lacks=${Object.keys(LACKING).indexOf(lacks) + 1}`);
@@ -58,7 +57,7 @@ export function addressOf(text, event, lacks = null) {
   return address.length <= LONGEST_ADDRESS && isAddressOf(address, text) ? address : null;
 }
 
-const shortLine = (line) => {
+export const shortLine = (line) => {
   const [word, ...values] = line.split(" ");
   return `${SHORT_WORDS[word] ?? word}${values.join(".")}`;
 };
@@ -127,11 +126,8 @@ function partsOf(hash) {
 function textOfParts(parts) {
   const missing = ["list", "threads", "quota"].find((name) => parts[name] === undefined);
   if (missing !== undefined) throw new AddressFault(`the address has no "${missing}"`);
-  const opening = (parts.opening?.split(".") ?? []).map((key) => `opening ${key}`);
   const events = (parts.s ? parts.s.split(",") : []).map(longLine);
-  const lines = [...opening, ...events];
-  const title = `listset-schedule ${parts.version ?? neededVersion(lines)}`;
-  return [title, `list ${parts.list}`, `threads ${parts.threads}`, `quota ${parts.quota}`, ...lines, ""].join("\n");
+  return scheduleText({ ...parts, opening: parts.opening?.split(".") }, events);
 }
 
 // What is said of a link that leads to a page on the reader's own disk.

@@ -6,12 +6,9 @@
 import { LACKING } from "../../made/classics.js";
 import { readReport, readVerdict } from "../engine/answers.js";
 import { nameOfCall } from "./judged.js";
-import { scheduleOfTrace, titleOf } from "./schedule_text.js";
+import { scheduleOfTrace, scheduleText } from "./schedule_text.js";
 import { eventsInCommon, isTrace, Trace } from "./trace.js";
 
-const LACKING_THREADS = 2;
-const LACKING_QUOTA = 2;
-const LACKING_OPENING = [3, 7]; // what such a list opens with, until the reader changes that
 export const EXPLAINED = "Not broken yet: some order explains this run.";
 const BY_POINTS = "Not by its linearization points: check refuses that order.";
 const OTHER = "Another order explains these replies.";
@@ -27,10 +24,7 @@ export const isTaskDone = (lacks, { kind }) => kind === "broken" && lacks !== NO
 export const askList = (ask, name, lacks, text) =>
   lacks === null ? ask(name, text) : ask("listset_lacking", lacks, text, name.slice("listset_".length));
 
-export function startOfLacking(name) {
-  const set = [titleOf(2), `list ${LACKING[name]}`, `threads ${LACKING_THREADS}`, `quota ${LACKING_QUOTA}`];
-  return [...set, ...LACKING_OPENING.map((key) => `opening ${key}`), ""].join("\n");
-}
+export const startOfLacking = (name) => scheduleText({ list: LACKING[name], threads: 2, quota: 2, opening: [3, 7] });
 
 // What is said of the run of a schedule on such a list: broken; points, if its own order alone is refused; explained; or refused if it
 // is no run.

@@ -2,14 +2,19 @@
 // `go T to ROW`, on whole lists and broken ones.
 import { HEADER_LINES, isTrace, Trace } from "./trace.js";
 
-// The first line of a schedule of this version, and the version of one that is no other text.
-export const titleOf = (version) => `listset-schedule ${version}`;
-export const versionOf = (schedule) => (schedule.startsWith(`${titleOf(2)}\n`) ? 2 : 1);
+// The text of a schedule, or of a draft, with these lines. Opening keys and ceilings want the second version.
+export function scheduleText({ list, threads, quota, opening = [], version = null }, lines = []) {
+  const needed = opening.length > 0 || lines.some((line) => line.includes(" ceiling ")) ? 2 : 1;
+  const head = [`listset-schedule ${version ?? needed}`, `list ${list}`, `threads ${threads}`, `quota ${quota}`];
+  return [...head, ...opening.map((key) => `opening ${key}`), ...lines, ""].join("\n");
+}
+
+const TITLE_OF_SECOND = "listset-schedule 2";
+export const versionOf = (schedule) => (schedule.startsWith(`${TITLE_OF_SECOND}\n`) ? 2 : 1);
 
 // The schedule of the first `count` events, as the lines of the trace have them.
 export function scheduleOfTrace(trace, count = trace.total) {
-  const lines = [titleOf(trace.version), `list ${trace.kind}`, `threads ${trace.threads}`, `quota ${trace.quota}`];
-  for (const key of trace.opening) lines.push(`opening ${key}`);
+  const lines = [];
   let [steps, before] = [0, null];
   for (let number = 1; number <= count; number++) {
     const event = trace.event(number);
@@ -20,7 +25,7 @@ export function scheduleOfTrace(trace, count = trace.total) {
     else lines.push(`go ${event.thread} ${steps}`);
     before = event.line;
   }
-  return [...lines, ""].join("\n");
+  return scheduleText({ ...trace, list: trace.kind }, lines);
 }
 
 // The opening keys of a schedule's text, as they stand there.
@@ -34,7 +39,7 @@ export function openingIn(schedule) {
 export function withOpening(schedule, keys) {
   const lines = schedule.split("\n");
   lines.splice(HEADER_LINES, openingIn(schedule).length, ...keys.map((key) => `opening ${key}`));
-  if (keys.length > 0 && lines[0] === titleOf(1)) lines[0] = titleOf(2);
+  if (keys.length > 0 && lines[0] === "listset-schedule 1") lines[0] = TITLE_OF_SECOND;
   return lines.join("\n");
 }
 

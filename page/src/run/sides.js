@@ -1,6 +1,6 @@
 // Two lists side by side: one program of calls, and each list with a schedule of its own. A turn of a thread makes its next step in
 // both; one whose call has answered waits for the other, and then both begin the next call. Each is a run by the engine.
-import { titleOf } from "./schedule_text.js";
+import { scheduleText } from "./schedule_text.js";
 import { letterOf } from "./markup.js";
 import { State } from "./state.js";
 import { isTrace, MOST_NUMBER, Trace } from "./trace.js";
@@ -38,13 +38,12 @@ class Side {
     this.kind = kind;
     this.lines = [];
     this.counts = [0];
-    const set = [titleOf(2), `list ${kind}`, `threads ${program.length}`, `quota ${quota}`];
-    this.head = [...set, ...opening.map((key) => `opening ${key}`)];
+    this.set = { version: 2, list: kind, threads: program.length, quota, opening };
     this.run();
   }
 
   get schedule() {
-    return [...this.head, ...this.lines, ""].join("\n");
+    return scheduleText(this.set, this.lines);
   }
 
   run() {

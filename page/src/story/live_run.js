@@ -2,7 +2,7 @@
 // No step is computed here: how far a thread goes in one deed is read off the engine's own trace.
 import { askNow } from "../page/now.js";
 import { askList, verdictOnLacking } from "../run/broken.js";
-import { openingIn, scheduleOfDraft, scheduleOfTrace, titleOf } from "../run/schedule_text.js";
+import { openingIn, scheduleOfDraft, scheduleOfTrace, scheduleText } from "../run/schedule_text.js";
 import { isFailed, isLock } from "../run/outcomes.js";
 import { keysInChain, promisedKeys, State } from "../run/state.js";
 import { isTrace, Trace } from "../run/trace.js";
@@ -75,9 +75,7 @@ export class LiveRun extends ShownRun {
   }
 
   textOf(lines) {
-    const { list, threads, quota, opening, version } = this.spec;
-    const head = [titleOf(version), `list ${list}`, `threads ${threads}`, `quota ${quota}`];
-    return `${[...head, ...opening.map((key) => `opening ${key}`), ...lines].join("\n")}\n`;
+    return scheduleText(this.spec, lines);
   }
 
   traceOf(lines) {
