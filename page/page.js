@@ -7518,6 +7518,7 @@ const { change, dispatch, now } = $page_now;
 const { byId, setHtml } = $page_dom;
 const { copied } = $page_visit;
 const { tag } = $run_markup;
+const { Figure } = $story_figure;
 const { isNarrow } = $story_figure_parts;
 /**
  * @typedef {object} View
@@ -7626,6 +7627,25 @@ const FIGURE_AND_TALK = '<div id="figure"></div><div id="talk" class="talk" aria
 const hintAndOn = ({ href, words }) =>
   `<button id="hint" class="primary" data-do="hint"></button>${tag("a", { id: "go-on", class: "button quiet", href, "data-words": words }, "Skip →")}`;
 
+function drawHintAndOn(isDone, words) {
+  const hint = part("#hint");
+  hint.hidden = isDone;
+  if (hint.textContent !== words) hint.textContent = words;
+  drawOn(isDone, part("#go-on").dataset.words);
+}
+
+function drawOn(isDone, words) {
+  const on = part("#go-on");
+  on.textContent = isDone ? words : "Skip →";
+  on.className = isDone ? "button primary ready" : "button quiet";
+}
+
+function takeFreeFigure(list, spec) {
+  const free = { free: true, strip: true, short: true, roomFor: 694, operations: ["add", "remove", "contains"], codeTitle: LIST_WORDS[list] };
+  return takeFigure(new Figure(part("#figure"), { list, ...free, ...spec }));
+}
+const LACKS_ONE = "One check of this code is not made here.";
+
 const foot = (left, right) => tag("footer", { class: "foot" }, left, tag("span", { class: "spread" }), right);
 
 const optionButtons = (texts, wrong = []) => {
@@ -7664,10 +7684,15 @@ function threadOfKey({ key, ctrlKey, metaKey, altKey }) {
   return key.charCodeAt(0) - "a".charCodeAt(0);
 }
 
+function pressThread(event) {
+  const thread = threadOfKey(event);
+  if (thread !== -1) scene.figure?.press(thread);
+}
+
 const numberOfKey = ({ key }) => (now.prefs.letters && /^[1-9]$/.test(key) ? Number(key) - 1 : -1);
 
 const LIST_WORDS = { coarse: "One lock", fine: "Hand over hand", optimistic: "Optimistic", lazy: "Lazy", "lock-free": "Lock-free" };
-return { VIEWS, scene, part, titleOfScene, faultOfScene, isScene, setScene, copyText, talk, takeFigure, leaveScene, renderScene, openScene, listenToScene, pressInScene, head, FIGURE_AND_TALK, hintAndOn, foot, optionButtons, replyTo, drawLedger, isOddRun, threadOfKey, numberOfKey, LIST_WORDS };
+return { VIEWS, scene, part, titleOfScene, faultOfScene, isScene, setScene, copyText, talk, takeFigure, leaveScene, renderScene, openScene, listenToScene, pressInScene, head, FIGURE_AND_TALK, hintAndOn, drawHintAndOn, drawOn, takeFreeFigure, LACKS_ONE, foot, optionButtons, replyTo, drawLedger, isOddRun, threadOfKey, pressThread, numberOfKey, LIST_WORDS };
 })();
 
 // story/assignment_view.js
@@ -7741,7 +7766,6 @@ function isNamed() {
 
 const fileName = () => `${part("#hand-student").value.trim().toLowerCase().replace(/\W+/g, "-") || "hand-in"}.txt`;
 
-/** @type {import("./scene.js").View} */
 const assignmentView = {
   kind: "assignment",
   title: (place) => `${titleOfAssignment(place)} · Why not just one lock?`,
@@ -9374,7 +9398,6 @@ function press(event) {
   } else if (threadOfKey(event) in sides.program) turnOf(threadOfKey(event));
 }
 
-/** @type {import("../story/scene.js").View} */
 const compareView = {
   kind: "compare",
   title: (place) => `${listsOf(place).map((kind) => LISTS[kind].name).join(" beside ")} · Why not just one lock?`,
@@ -9713,7 +9736,7 @@ const { ALL, drawBranches, goBack, isEmbed, itemOf, openBranch, seeAgain, takeBr
 const { isNarrow } = $story_figure_parts;
 const { keepStory, keptStory } = $story_kept;
 const { LiveRun } = $story_live_run;
-const { FIGURE_AND_TALK, head, LIST_WORDS, numberOfKey, optionButtons, part, replyTo, scene, setScene, talk, threadOfKey } = $story_scene;
+const { drawOn, FIGURE_AND_TALK, head, LIST_WORDS, numberOfKey, optionButtons, part, replyTo, scene, setScene, talk, threadOfKey } = $story_scene;
 const here = () => itemOf(now.place);
 
 function html(place) {
@@ -9774,11 +9797,8 @@ function draw(state) {
   if (state.stage === "") return;
   talk(talkOf(state));
   drawBranches(state);
-  const [show, on] = [part("#show-me"), part("#go-on")];
-  const isGuess = state.stage === "guess";
-  show.hidden = !isGuess;
-  on.textContent = isGuess || state.stage === "playing" ? "Skip →" : "Next question →";
-  on.className = isGuess || state.stage === "playing" ? "button quiet" : "button primary";
+  part("#show-me").hidden = state.stage !== "guess";
+  drawOn(state.stage !== "guess" && state.stage !== "playing", "Next question →");
 }
 
 function press(event) {
@@ -9796,7 +9816,6 @@ function press(event) {
   }
 }
 
-/** @type {import("./scene.js").View} */
 const askView = {
   kind: "ask-one",
   fault: ({ id }) => (ALL.some(({ name }) => name === id) ? null : `there is no question "${id}"`),
@@ -9827,10 +9846,9 @@ const { askNow, now } = $page_now;
 const { addressOf } = $run_address;
 const { departureOf, isTaskDone, NO_TASK } = $run_broken;
 const { wayOn } = $story_assignment;
-const { Figure } = $story_figure;
 const { isBrokenOnce, isNamed, keepBrokenLine, keepNamed } = $story_kept;
 const { runOfText } = $story_live_run;
-const { FIGURE_AND_TALK, drawLedger, foot, head, hintAndOn, isOddRun, LIST_WORDS, numberOfKey, optionButtons, part, scene, setScene, takeFigure, talk, threadOfKey } = $story_scene;
+const { drawHintAndOn, drawLedger, FIGURE_AND_TALK, foot, head, hintAndOn, isOddRun, LACKS_ONE, numberOfKey, optionButtons, pressThread, scene, setScene, takeFreeFigure, talk } = $story_scene;
 const HINTS = 3;
 const levelOf = ({ id }) => levelOfNumber(id);
 const nameNow = () => levelOf(now.place);
@@ -9849,15 +9867,10 @@ function begin(place) {
   const name = levelOf(place);
   const { start } = BREAK_LEVELS[name];
   const list = LACKING[name];
-  const isOfCeiling = name === "mark-in-ceiling";
   const given = place.given.text === undefined ? { opening: [3, 7] } : runOfText(place.given.text);
-  const figure = new Figure(part("#figure"), {
-    list, lacks: name, ...given, chosen: { 0: start[0], 1: start[1] }, free: true, strip: true, short: true, high: 0.24, roomFor: 694,
-    operations: ["add", "remove", "contains", ...(isOfCeiling ? ["ceiling"] : [])], codeTitle: LIST_WORDS[list],
-    codeNote: "One check of this code is not made here.",
-  });
+  const operations = ["add", "remove", "contains", ...(name === "mark-in-ceiling" ? ["ceiling"] : [])];
+  const figure = takeFreeFigure(list, { lacks: name, ...given, chosen: { 0: start[0], 1: start[1] }, high: 0.24, operations, codeNote: LACKS_ONE });
   figure.onStep = looked;
-  takeFigure(figure);
   setScene({ stage: "task", text: figure.run.schedule });
   if (place.given.text !== undefined) looked();
 }
@@ -9921,12 +9934,7 @@ function draw(state) {
   if (state.stage === "") return;
   const isDone = state.stage === "done";
   if (!isDone || !scene.figure.isBusy) talk(isDone ? wonHtml(state) : taskHtml(state));
-  const hint = part("#hint");
-  hint.hidden = isDone;
-  hint.textContent = state.hints === 0 ? "Hint" : state.hints < HINTS ? "Another hint" : "Start over";
-  const on = part("#go-on");
-  on.textContent = isDone ? on.dataset.words : "Skip →";
-  on.className = isDone ? "button primary ready" : "button quiet";
+  drawHintAndOn(isDone, state.hints === 0 ? "Hint" : state.hints < HINTS ? "Another hint" : "Start over");
   if (isDone && isNamed(nameNow())) strike();
 }
 
@@ -9966,7 +9974,6 @@ function afresh() {
   scene.figure.again();
 }
 
-/** @type {import("./scene.js").View} */
 const breakView = {
   kind: "ask-one",
   fault: ({ id }) => (levelOfNumber(id) === undefined ? `there is no level ${id}` : null),
@@ -9976,7 +9983,7 @@ const breakView = {
   draw,
   press: (event) => {
     if (now.scene.stage === "done" && numberOfKey(event) !== -1) answer(numberOfKey(event));
-    else if (threadOfKey(event) !== -1) scene.figure.press(threadOfKey(event));
+    else pressThread(event);
   },
   deeds: { answer: ({ dataset }) => answer(Number(dataset.option)), hint, replay, afresh },
 };
@@ -9990,9 +9997,7 @@ const { now } = $page_now;
 const { addressOfCode, linesOfCode, SET_OF_CODE, START_OF_CODE } = $page_scene_address;
 const { linkTo } = $page_visit;
 const { tag } = $run_markup;
-const { Figure } = $story_figure;
-const { copyText, head, LIST_WORDS, part, scene, setScene, takeFigure, threadOfKey } = $story_scene;
-const OPERATIONS = ["add", "remove", "contains"];
+const { copyText, head, LIST_WORDS, part, pressThread, scene, setScene, takeFreeFigure } = $story_scene;
 const listOf = ({ id }) => (id in LISTS ? id : "lazy");
 const numbersIn = (text) => [...new Set(text.split(/\D+/).filter((key) => /^\d{1,3}$/.test(key)).map(Number))].sort((one, other) => one - other);
 const numberIn = (text, least, most) => (/^\d{1,5}$/.test(text ?? "") ? Math.max(least, Math.min(most, Number(text))) : null);
@@ -10017,17 +10022,14 @@ function html(place) {
 
 function figureOf(place, lines) {
   const list = listOf(place);
-  return new Figure(part("#figure"), {
-    list, lines, opening: openingOf(place), ...setOfPlace(place), operations: OPERATIONS, free: true, strip: true, short: true,
-    roomFor: 694, high: 0.27,
-    codeTitle: LIST_WORDS[list], chosen: { 0: ["add", 5], 1: [list === "coarse" ? "contains" : "remove", 7] },
-  });
+  const chosen = { 0: ["add", 5], 1: [list === "coarse" ? "contains" : "remove", 7] };
+  return takeFreeFigure(list, { lines, opening: openingOf(place), ...setOfPlace(place), high: 0.27, chosen });
 }
 
 function begin(place) {
-  let figure = takeFigure(figureOf(place, linesOfCode(place.given.s ?? "")));
+  let figure = figureOf(place, linesOfCode(place.given.s ?? ""));
   if (figure.run.trace.refused !== null) {
-    figure = takeFigure(figureOf(place, []));
+    figure = figureOf(place, []);
     part("#code-told").hidden = false;
     part("#code-told").textContent = "These steps cannot be made on this list; it begins anew.";
   }
@@ -10048,13 +10050,12 @@ function stepOn() {
   figure.press(thread);
 }
 
-/** @type {import("./scene.js").View} */
 const codeView = {
   kind: "code-place",
   title: (place) => `${LISTS[listOf(place)].name}, step by the code`,
   html,
   begin,
-  press: (event) => threadOfKey(event) !== -1 && scene.figure.press(threadOfKey(event)),
+  press: pressThread,
   deeds: { list: takeList, copy: () => copyText(linkTo(now.scene.text), "The link to this run, at this step, is copied."), step: stepOn },
 };
 return { codeView };
@@ -10068,10 +10069,9 @@ const { now } = $page_now;
 const { versionOf } = $run_schedule_text;
 const { escaped, inLetters, tag } = $run_markup;
 const { wayOn } = $story_assignment;
-const { Figure } = $story_figure;
 const { learning } = $story_learning;
 const { linesOf, runOfText } = $story_live_run;
-const { FIGURE_AND_TALK, foot, head, hintAndOn, LIST_WORDS, part, scene, setScene, takeFigure, talk, threadOfKey } = $story_scene;
+const { drawHintAndOn, FIGURE_AND_TALK, foot, head, hintAndOn, LACKS_ONE, LIST_WORDS, part, pressThread, scene, setScene, takeFreeFigure, talk } = $story_scene;
 const HINT = 1; // of `hints`, in the scene: the hint is shown; the answer is shown
 const ANSWER = 2;
 const shown = { verdict: null, ticks: new Set() }; // of the run that is shown, and what was met before
@@ -10098,14 +10098,11 @@ function begin({ id, given }) {
   const own = given.text ?? panel.lastTry();
   Object.assign(shown, { verdict: null, ticks: new Set() });
   const more = /ceiling/.test(lesson.begun + (lesson.solution ?? "") + lesson.question) ? ["ceiling"] : [];
-  const figure = new Figure(part("#figure"), {
-    ...runOfText(lesson.begun), version: versionOf(lesson.begun), list: lesson.list, lacks: lesson.lacks, free: true, strip: true, scrub: true,
-    short: true, high: 0.24, roomFor: 694, operations: ["add", "remove", "contains", ...more], codeTitle: LIST_WORDS[lesson.list],
-    codeNote: lesson.lacks === null ? "" : "One check of this code is not made here.",
-  });
-  takeFigure(figure);
-  figure.onStep = looked;
-  figure.onFork = goOnFromHere;
+  const operations = ["add", "remove", "contains", ...more];
+  const codeNote = lesson.lacks === null ? "" : LACKS_ONE;
+  const run = { ...runOfText(lesson.begun), version: versionOf(lesson.begun), lacks: lesson.lacks };
+  const figure = takeFreeFigure(lesson.list, { ...run, scrub: true, high: 0.24, operations, codeNote });
+  Object.assign(figure, { onStep: looked, onFork: goOnFromHere });
   if (own !== null && own !== lesson.begun && fits(own)) takeTry(figure, linesOf(own));
   looked();
 }
@@ -10172,14 +10169,8 @@ function draw(state) {
   setHtml(part("#goal"), conditionsHtml());
   talk(isDone ? solvedHtml() : taskHtml(state));
   const { lesson } = learning.panel;
-  const hint = part("#hint");
   const last = lesson.answer.length > 0 ? ANSWER : HINT;
-  const words = lesson.hint !== "" && state.hints < HINT ? "Hint" : state.hints < last ? "Show an answer" : "Start over";
-  hint.hidden = isDone;
-  if (hint.textContent !== words) hint.textContent = words;
-  const on = part("#go-on");
-  on.textContent = isDone ? on.dataset.words : "Skip →";
-  on.className = isDone ? "button primary ready" : "button quiet";
+  drawHintAndOn(isDone, lesson.hint !== "" && state.hints < HINT ? "Hint" : state.hints < last ? "Show an answer" : "Start over");
 }
 
 function hint() {
@@ -10199,7 +10190,6 @@ async function seeAnswer() {
   if (scene.figure === figure) looked();
 }
 
-/** @type {import("./scene.js").View} */
 const learnView = {
   kind: "ask-one",
   fault: ({ id }) => (learning.panel.lessonNamed(id) === undefined ? `no course that is kept here has a lesson "${id}"` : null),
@@ -10207,7 +10197,7 @@ const learnView = {
   html,
   begin,
   draw,
-  press: (event) => threadOfKey(event) !== -1 && scene.figure.press(threadOfKey(event)),
+  press: pressThread,
   deeds: { hint, answer: seeAnswer, replay: () => scene.figure.replay(), afresh: () => scene.figure.again() },
 };
 return { learnView };
@@ -10452,7 +10442,7 @@ const { isNarrow } = $story_figure_parts;
 const { keepStory, keptStory, startAfresh } = $story_kept;
 const { SCREENS } = $story_path;
 const { barHtml, dots, endHtml, GONE, HERO, LAST, welcome } = $story_path_parts;
-const { FIGURE_AND_TALK, drawLedger, head, numberOfKey, optionButtons, part, replyTo, scene, setScene, takeFigure, talk, threadOfKey } = $story_scene;
+const { drawLedger, drawOn, FIGURE_AND_TALK, head, numberOfKey, optionButtons, part, pressThread, replyTo, scene, setScene, takeFigure, talk } = $story_scene;
 const numberOf = ({ id }) => Math.max(1, Math.min(LAST, Number(id) || 1));
 const screenOf = (place) => SCREENS[numberOf(place) - 1] ?? null;
 const here = () => screenOf(now.place);
@@ -10515,8 +10505,7 @@ function drawBar(stage, number) {
   show.hidden = isDone;
   show.className = "primary";
   show.textContent = isNarrow() && stage !== "again" ? "Show me" : SHOW[stage];
-  on.textContent = isDone ? (number === SCREENS.length ? "And now? →" : "Continue →") : "Skip →";
-  on.className = isDone ? "primary ready" : "quiet";
+  drawOn(isDone, number === SCREENS.length ? "And now? →" : "Continue →");
 }
 
 
@@ -10612,10 +10601,9 @@ function press(event) {
     return;
   }
   if (stage === "guess" && numberOfKey(event) !== -1 && numberOfKey(event) < here().options.length) guessed(numberOfKey(event));
-  else if (threadOfKey(event) !== -1) scene.figure?.press(threadOfKey(event));
+  else pressThread(event);
 }
 
-/** @type {import("./scene.js").View} */
 const pathView = {
   kind: "path",
   fault: ({ id }) => (/^\d*$/.test(id) && Number(id) <= LAST ? null : `the path has no screen "${id}"`),
@@ -11037,7 +11025,6 @@ function begin() {
   beginHandIns();
 }
 
-/** @type {import("./scene.js").View} */
 const teachView = {
   kind: "teach",
   title: () => "For teachers · Why not just one lock?",
@@ -11085,6 +11072,7 @@ const { isScene, leaveScene, listenToScene, pressInScene, renderScene, VIEWS } =
 const { teachView } = $story_teach_view;
 const EMPTY_TRACE = "listset-trace 1\nlist lazy\nthreads 2\nquota 4\nend\n";
 
+/** @type {Record<string, import("./story/scene.js").View>} */
 const SCENES = {
   story: pathView, ask: askView, break: breakView, learn: learnView, code: codeView, teachers: teachView, assignment: assignmentView, compare: compareView,
 };

@@ -28,6 +28,7 @@ import { teachView } from "./story/teach_view.js";
 
 const EMPTY_TRACE = "listset-trace 1\nlist lazy\nthreads 2\nquota 4\nend\n";
 
+/** @type {Record<string, import("./story/scene.js").View>} */
 const SCENES = {
   story: pathView, ask: askView, break: breakView, learn: learnView, code: codeView, teachers: teachView, assignment: assignmentView, compare: compareView,
 };

@@ -6,7 +6,7 @@ import { ALL, drawBranches, goBack, isEmbed, itemOf, openBranch, seeAgain, takeB
 import { isNarrow } from "./figure_parts.js";
 import { keepStory, keptStory } from "./kept.js";
 import { LiveRun } from "./live_run.js";
-import { FIGURE_AND_TALK, head, LIST_WORDS, numberOfKey, optionButtons, part, replyTo, scene, setScene, talk, threadOfKey } from "./scene.js";
+import { drawOn, FIGURE_AND_TALK, head, LIST_WORDS, numberOfKey, optionButtons, part, replyTo, scene, setScene, talk, threadOfKey } from "./scene.js";
 
 const here = () => itemOf(now.place);
 
@@ -69,11 +69,8 @@ function draw(state) {
   if (state.stage === "") return;
   talk(talkOf(state));
   drawBranches(state);
-  const [show, on] = [part("#show-me"), part("#go-on")];
-  const isGuess = state.stage === "guess";
-  show.hidden = !isGuess;
-  on.textContent = isGuess || state.stage === "playing" ? "Skip →" : "Next question →";
-  on.className = isGuess || state.stage === "playing" ? "button quiet" : "button primary";
+  part("#show-me").hidden = state.stage !== "guess";
+  drawOn(state.stage !== "guess" && state.stage !== "playing", "Next question →");
 }
 
 function press(event) {
@@ -91,7 +88,6 @@ function press(event) {
   }
 }
 
-/** @type {import("./scene.js").View} */
 export const askView = {
   kind: "ask-one",
   fault: ({ id }) => (ALL.some(({ name }) => name === id) ? null : `there is no question "${id}"`),

@@ -69,7 +69,6 @@ function isNamed() {
 
 const fileName = () => `${part("#hand-student").value.trim().toLowerCase().replace(/\W+/g, "-") || "hand-in"}.txt`;
 
-/** @type {import("./scene.js").View} */
 export const assignmentView = {
   kind: "assignment",
   title: (place) => `${titleOfAssignment(place)} · Why not just one lock?`,

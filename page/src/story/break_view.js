@@ -7,10 +7,9 @@ import { askNow, now } from "../page/now.js";
 import { addressOf } from "../run/address.js";
 import { departureOf, isTaskDone, NO_TASK } from "../run/broken.js";
 import { wayOn } from "./assignment.js";
-import { Figure } from "./figure.js";
 import { isBrokenOnce, isNamed, keepBrokenLine, keepNamed } from "./kept.js";
 import { runOfText } from "./live_run.js";
-import { FIGURE_AND_TALK, drawLedger, foot, head, hintAndOn, isOddRun, LIST_WORDS, numberOfKey, optionButtons, part, scene, setScene, takeFigure, talk, threadOfKey } from "./scene.js";
+import { drawHintAndOn, drawLedger, FIGURE_AND_TALK, foot, head, hintAndOn, isOddRun, LACKS_ONE, numberOfKey, optionButtons, pressThread, scene, setScene, takeFreeFigure, talk } from "./scene.js";
 
 const HINTS = 3;
 const levelOf = ({ id }) => levelOfNumber(id);
@@ -30,15 +29,10 @@ function begin(place) {
   const name = levelOf(place);
   const { start } = BREAK_LEVELS[name];
   const list = LACKING[name];
-  const isOfCeiling = name === "mark-in-ceiling";
   const given = place.given.text === undefined ? { opening: [3, 7] } : runOfText(place.given.text);
-  const figure = new Figure(part("#figure"), {
-    list, lacks: name, ...given, chosen: { 0: start[0], 1: start[1] }, free: true, strip: true, short: true, high: 0.24, roomFor: 694,
-    operations: ["add", "remove", "contains", ...(isOfCeiling ? ["ceiling"] : [])], codeTitle: LIST_WORDS[list],
-    codeNote: "One check of this code is not made here.",
-  });
+  const operations = ["add", "remove", "contains", ...(name === "mark-in-ceiling" ? ["ceiling"] : [])];
+  const figure = takeFreeFigure(list, { lacks: name, ...given, chosen: { 0: start[0], 1: start[1] }, high: 0.24, operations, codeNote: LACKS_ONE });
   figure.onStep = looked;
-  takeFigure(figure);
   setScene({ stage: "task", text: figure.run.schedule });
   if (place.given.text !== undefined) looked();
 }
@@ -106,12 +100,7 @@ function draw(state) {
   if (state.stage === "") return;
   const isDone = state.stage === "done";
   if (!isDone || !scene.figure.isBusy) talk(isDone ? wonHtml(state) : taskHtml(state));
-  const hint = part("#hint");
-  hint.hidden = isDone;
-  hint.textContent = state.hints === 0 ? "Hint" : state.hints < HINTS ? "Another hint" : "Start over";
-  const on = part("#go-on");
-  on.textContent = isDone ? on.dataset.words : "Skip →";
-  on.className = isDone ? "button primary ready" : "button quiet";
+  drawHintAndOn(isDone, state.hints === 0 ? "Hint" : state.hints < HINTS ? "Another hint" : "Start over");
   if (isDone && isNamed(nameNow())) strike();
 }
 
@@ -152,7 +141,6 @@ function afresh() {
   scene.figure.again();
 }
 
-/** @type {import("./scene.js").View} */
 export const breakView = {
   kind: "ask-one",
   fault: ({ id }) => (levelOfNumber(id) === undefined ? `there is no level ${id}` : null),
@@ -162,7 +150,7 @@ export const breakView = {
   draw,
   press: (event) => {
     if (now.scene.stage === "done" && numberOfKey(event) !== -1) answer(numberOfKey(event));
-    else if (threadOfKey(event) !== -1) scene.figure.press(threadOfKey(event));
+    else pressThread(event);
   },
   deeds: { answer: ({ dataset }) => answer(Number(dataset.option)), hint, replay, afresh },
 };

@@ -5,7 +5,7 @@ import { isNarrow } from "./figure_parts.js";
 import { keepStory, keptStory, startAfresh } from "./kept.js";
 import { SCREENS } from "./path.js";
 import { barHtml, dots, endHtml, GONE, HERO, LAST, welcome } from "./path_parts.js";
-import { FIGURE_AND_TALK, drawLedger, head, numberOfKey, optionButtons, part, replyTo, scene, setScene, takeFigure, talk, threadOfKey } from "./scene.js";
+import { drawLedger, drawOn, FIGURE_AND_TALK, head, numberOfKey, optionButtons, part, pressThread, replyTo, scene, setScene, takeFigure, talk } from "./scene.js";
 
 const numberOf = ({ id }) => Math.max(1, Math.min(LAST, Number(id) || 1));
 const screenOf = (place) => SCREENS[numberOf(place) - 1] ?? null;
@@ -70,8 +70,7 @@ function drawBar(stage, number) {
   show.hidden = isDone;
   show.className = "primary";
   show.textContent = isNarrow() && stage !== "again" ? "Show me" : SHOW[stage];
-  on.textContent = isDone ? (number === SCREENS.length ? "And now? →" : "Continue →") : "Skip →";
-  on.className = isDone ? "primary ready" : "quiet";
+  drawOn(isDone, number === SCREENS.length ? "And now? →" : "Continue →");
 }
 
 // ---- a deed: is it what was asked for?
@@ -170,10 +169,9 @@ function press(event) {
     return;
   }
   if (stage === "guess" && numberOfKey(event) !== -1 && numberOfKey(event) < here().options.length) guessed(numberOfKey(event));
-  else if (threadOfKey(event) !== -1) scene.figure?.press(threadOfKey(event));
+  else pressThread(event);
 }
 
-/** @type {import("./scene.js").View} */
 export const pathView = {
   kind: "path",
   fault: ({ id }) => (/^\d*$/.test(id) && Number(id) <= LAST ? null : `the path has no screen "${id}"`),

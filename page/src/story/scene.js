@@ -5,6 +5,7 @@ import { change, dispatch, now } from "../page/now.js";
 import { byId, setHtml } from "../page/dom.js";
 import { copied } from "../page/visit.js";
 import { tag } from "../run/markup.js";
+import { Figure } from "./figure.js";
 import { isNarrow } from "./figure_parts.js";
 
 /**
@@ -122,6 +123,26 @@ export const FIGURE_AND_TALK = '<div id="figure"></div><div id="talk" class="tal
 export const hintAndOn = ({ href, words }) =>
   `<button id="hint" class="primary" data-do="hint"></button>${tag("a", { id: "go-on", class: "button quiet", href, "data-words": words }, "Skip →")}`;
 
+export function drawHintAndOn(isDone, words) {
+  const hint = part("#hint");
+  hint.hidden = isDone;
+  if (hint.textContent !== words) hint.textContent = words;
+  drawOn(isDone, part("#go-on").dataset.words);
+}
+
+export function drawOn(isDone, words) {
+  const on = part("#go-on");
+  on.textContent = isDone ? words : "Skip →";
+  on.className = isDone ? "button primary ready" : "button quiet";
+}
+
+// A figure in which the reader may begin any call.
+export function takeFreeFigure(list, spec) {
+  const free = { free: true, strip: true, short: true, roomFor: 694, operations: ["add", "remove", "contains"], codeTitle: LIST_WORDS[list] };
+  return takeFigure(new Figure(part("#figure"), { list, ...free, ...spec }));
+}
+export const LACKS_ONE = "One check of this code is not made here.";
+
 // The bar at the bottom.
 export const foot = (left, right) => tag("footer", { class: "foot" }, left, tag("span", { class: "spread" }), right);
 
@@ -162,6 +183,11 @@ export const isOddRun = (run) => run.promised().join() !== run.has().join();
 export function threadOfKey({ key, ctrlKey, metaKey, altKey }) {
   if (!now.prefs.letters || ctrlKey || metaKey || altKey || !/^[a-z]$/.test(key)) return -1;
   return key.charCodeAt(0) - "a".charCodeAt(0);
+}
+
+export function pressThread(event) {
+  const thread = threadOfKey(event);
+  if (thread !== -1) scene.figure?.press(thread);
 }
 
 export const numberOfKey = ({ key }) => (now.prefs.letters && /^[1-9]$/.test(key) ? Number(key) - 1 : -1);

@@ -180,7 +180,6 @@ function begin() {
   beginHandIns();
 }
 
-/** @type {import("./scene.js").View} */
 export const teachView = {
   kind: "teach",
   title: () => "For teachers · Why not just one lock?",
