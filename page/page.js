@@ -334,34 +334,156 @@ const LISTS = {
 return { LISTS };
 })();
 
-// run/markup.js
-const $run_markup = (() => {
-const SIGNS = { "&": "&amp;", "<": "&lt;", ">": "&gt;", '"': "&quot;" };
-const escaped = (text) => String(text).replace(/[&<>"]/g, (sign) => SIGNS[sign]);
+// made/classics.js
+const $made_classics = (() => {
+// What docs/CLASSIC.md says, by page/build: of each example its question, the answer, the events that decide it, what goes
+// wrong without it, and which lists of its kind lack that check; and the kind of each list that lacks one.
 
-function tag(name, attributes, ...content) {
-  const given = Object.entries(attributes).map(([attribute, value]) => ` ${attribute}="${escaped(value)}"`);
-  return `<${name}${given.join("")}>${content.join("")}</${name}>`;
-}
+const CLASSICS = {
+  "failed-tries": {
+    "question": "Two threads add one key at the same time. Which of them adds it?",
+    "turnsOn": "The one that takes the lock. A failed attempt is a step too, and leaves the thread at its row. Thread 1 stays at row 1 until the lock is released, and then finds the key.",
+    "without": "Both walk over one old link, and the second write loses the node of the first (lock).",
+    "turns": [4, 15],
+    "lacks": ["lock"]
+  },
+  "full": {
+    "question": "A thread with one slot adds 5, removes it and adds 7. Is there a slot for 7?",
+    "turnsOn": "No: each slot is used once, so no thread ever reaches a node that holds another key than before. full changes nothing, and is correct from the begin of its call.",
+    "without": "A slot that is used again changes the key of a node at which other threads may be (new-slot).",
+    "turns": [14, 19],
+    "lacks": []
+  },
+  "hand-over-hand": {
+    "question": "Thread 0 has locked the head and 9, to add 5 between them. Thread 1 wants to remove 9. How far does it get?",
+    "turnsOn": "Not even to the head, until thread 0 releases the head's lock. Then it goes hand over hand: it releases the head's lock only when it holds that of 5.",
+    "without": "A walk that holds no lock can be at an unlinked node, and lose the key that it adds behind that node (hand-over-hand). So can a walk beside a remove that locks only pred (second-lock).",
+    "turns": [17, 28],
+    "lacks": ["hand-over-hand", "second-lock"]
+  },
+  "same-gap": {
+    "question": "Both threads have walked without locks to the gap between head and tail. Thread 1 adds its key first. What does thread 0 do once it has its two locks?",
+    "turnsOn": "It looks at pred again: the head leads to the node of 7 now. So it releases its locks and walks again.",
+    "without": "A validation that only finds pred, and does not look where it leads, links 5 to the tail, and 7 is lost.",
+    "turns": [12, 17],
+    "lacks": []
+  },
+  "stale-pred": {
+    "question": "Thread 0 has found pred = 3 and curr = tail. Thread 1 removes 3, whose node still leads to the tail. May thread 0 write?",
+    "turnsOn": "No: an unlinked node keeps its link. Thread 0 walks once more from the head, and gets past the key of pred without reaching pred.",
+    "without": "5 is added behind an unlinked node (second-walk). A walk that looks for the key of pred, and not for the node, may find another node with that key (same-node).",
+    "turns": [24, 30],
+    "lacks": ["second-walk", "same-node"]
+  },
+  "marked-in-chain": {
+    "question": "Thread 1 has marked the node of 5 and has not unlinked it yet. Thread 0 walks to that node. What does its contains(5) answer?",
+    "turnsOn": "false: the mark removes the key from the set. That the node is still in the chain does not matter. contains reads its link, sees the mark, and takes no lock for it.",
+    "without": "true is correct at none of its moments (mark-in-contains). But the remove is still pending, and an order with the contains before it explains both. No history of that broken list is known that no order explains.",
+    "turns": [20, 24],
+    "lacks": ["mark-in-contains"]
+  },
+  "marked-pred": {
+    "question": "As in stale-pred, but this list has no second walk. What warns thread 0?",
+    "turnsOn": "The mark in the link of pred, which a remove sets before it unlinks the node. One load does the work of OptimisticList's second walk.",
+    "without": "5 is added behind the node of 3, which is unlinked (marks-in-validation).",
+    "turns": [25, 31],
+    "lacks": ["marks-in-validation"]
+  },
+  "read-in-anothers-step": {
+    "question": "Just after each of thread 0's own events, 5 is in the set. Its contains(5) answers false. Is that right?",
+    "turnsOn": "Yes: between two of its events thread 1 removed 5, and added it again in another node. The call takes effect at event 23, a step of thread 1.",
+    "without": "A proof that looks for the linearization point among the call's own steps finds none, though the list is correct. check refuses the order that puts the contains last.",
+    "turns": [23, 36, 39],
+    "lacks": []
+  },
+  "ceiling-in-anothers-step": {
+    "question": "Just after each of thread 0's own events, the smallest key from 6 on is 7, or there is none. Its ceiling(6) answers 9. Is that right?",
+    "turnsOn": "Yes: it was 9 from event 15 until event 38, and all events between are steps of thread 1. The walk was at the node of 5 when that was unlinked, and its link still leads to 9.",
+    "without": "A ceiling that started again at each mark would answer 7 here, which is no better, and removes of smaller keys could send it back.",
+    "turns": [15, 38, 43],
+    "lacks": []
+  },
+  "opens-with-keys": {
+    "question": "Two keys are there at the start, one is removed, one is added. Why does the last add answer full?",
+    "turnsOn": "The thread's one slot is n2. The opening keys have nodes of their own and count as nobody's adds, and a remove frees no slot.",
+    "without": "A set that counts opening keys as adds answers full to the add of 7; one that uses slots again adds 8. check refuses either reply.",
+    "turns": [25, 36],
+    "lacks": []
+  },
+  "two-removers": {
+    "question": "Two threads have found the node of 5, unmarked, and want to remove it. Which of them does?",
+    "turnsOn": "The one whose exchange sets the mark. The exchange of the other compares link and mark together, and fails. That thread walks again and answers false.",
+    "without": "A remove that marks a marked node answers true too, and 5 is removed twice (mark-in-remove).",
+    "turns": [18, 20],
+    "lacks": ["mark-in-remove"]
+  },
+  "snip": {
+    "question": "Thread 0 has marked the node of 5 and stops there. Thread 1 wants to add 7 behind it. Does it have to wait?",
+    "turnsOn": "No: thread 1 unlinks the marked node itself. The exchange of thread 0 fails then, and thread 0 still answers true, since it has set the mark.",
+    "without": "An add that ignores the mark links 7 behind the node of 5, and 7 is unlinked with it (mark-in-add). Without marks no add could know (mark).",
+    "turns": [17, 23],
+    "lacks": ["mark-in-add", "mark"]
+  },
+  "tries-again": {
+    "question": "Both threads are at the gap between head and tail, each with a node ready. Thread 1 is first. What happens to thread 0's node?",
+    "turnsOn": "The exchange of thread 0 expects the tail, sees the node of 7, and fails. Thread 0 walks again and writes the same slot anew: no other thread has seen it, so it is not used up.",
+    "without": "With a store in place of the exchange, the head would lead to 5, and 7 would be lost.",
+    "turns": [14, 20],
+    "lacks": []
+  },
+  "left-in-chain": {
+    "question": "Thread 1's remove of 5 has answered. Which nodes are in the chain, and what does a contains(5) answer that begins only then?",
+    "turnsOn": "The node of 5 is still there, marked: the head led to 3 when the remover tried to unlink it. The next add or remove that walks there unlinks it. contains sees the mark: false.",
+    "without": "It answers true (mark-at-key). The remove had ended before, and nobody adds 5 again, so no order explains these calls.",
+    "turns": [21, 27],
+    "lacks": ["mark-at-key"]
+  },
+  "ceiling-meets-mark": {
+    "question": "Thread 0's ceiling(3) has come to the node of 5. Before it looks at the mark, thread 1 removes 5. What does it answer, and when is that correct?",
+    "turnsOn": "The mark is looked at last (row 25). The call finds one, starts again at the head, and comes to the tail: nothing, which is correct from the mark on.",
+    "without": "Here 5 would be right too, since the remove began after the ceiling. In the next example it would not.",
+    "turns": [18, 20],
+    "lacks": []
+  },
+  "ceiling-left-in-chain": {
+    "question": "The remove of 5 has ended, and its node is still in the chain. What may a ceiling(4) answer, and how often may it walk?",
+    "turnsOn": "Not 5: the mark sends it back to the head, each time it comes to that node. Thread 1's walk unlinks the node; the second walk of the ceiling answers 7, which was added after the call had begun.",
+    "without": "It answers 5, which nobody adds again, so no order explains these calls. LazyList's ceiling needs the same look at the mark (mark-in-ceiling).",
+    "turns": [27, 33, 43],
+    "lacks": []
+  },
+  "behind-the-walk": {
+    "question": "Thread 0 has read the link of the head, which leads to 9. Thread 1 adds 5 in between. May the ceiling(3) of thread 0 answer 9?",
+    "turnsOn": "Yes: at the moment of that read there was no key between. The call takes effect at its begin, so before the add, although the add ended first.",
+    "without": "No broken list lacks this. Each node of the walk was in the chain, with the link that was read, at some moment of the call. Along other links the walk could miss a key that was always there.",
+    "turns": [9, 16],
+    "lacks": []
+  },
+  "nothing-in-anothers-step": {
+    "question": "Just after each of thread 0's own events, 7 is in the set. Its ceiling(6) answers that there is no key. Is that right?",
+    "turnsOn": "Yes: between two of its events thread 1 removed 7 and then 5, and added 7 again. The link of the node of 5 led to the tail when the node was marked, and no exchange changes a marked link.",
+    "without": "No broken list lacks this either: the link beside the mark was in the chain during the call.",
+    "turns": [11, 28],
+    "lacks": []
+  }
+};
 
-const label = (attributes, text) => tag("text", attributes, escaped(text));
-const title = (text) => tag("title", {}, escaped(text));
-const colourOf = (thread) => `thread-${thread % 8}`;
-const letterOf = (thread) => (thread < 26 ? String.fromCharCode(65 + Number(thread)) : String(thread));
-const chipOf = (thread) => tag("span", { class: `who ${colourOf(thread)}` }, letterOf(thread));
-const holderOf = (lock) => letterOf(Number(lock.slice(1)));
-const keyText = (key) => String(key).replace("-inf", "−∞").replace("+inf", "+∞");
-const said = (value) => (value.endsWith("*") ? `${value.slice(0, -1)}, marked` : keyText(value));
-const counted = (count, word) => `${count} ${word}${count === 1 ? "" : "s"}`;
-const callText = (call) => `${call.operation}(${call.key})`;
-const openReply = "true"; // an open call that stands in the order has changed the set
-
-function inLetters(text) {
-  const letters = (numbers) => numbers.replace(/\d+/g, (number) => letterOf(Number(number)));
-  const some = text.replace(/\b(?:the )?threads (\d+(?:, \d+)*(?:,? and \d+)?)/gi, (_, numbers) => letters(numbers));
-  return some.replace(/\bthread (\d+)/gi, (_, number) => letterOf(Number(number))).replace(/\bt(\d+)\b/g, (_, number) => letterOf(Number(number)));
-}
-return { escaped, tag, label, title, colourOf, letterOf, chipOf, holderOf, keyText, said, counted, callText, openReply, inLetters };
+const LACKING = {
+  "lock": "coarse",
+  "second-lock": "fine",
+  "hand-over-hand": "fine",
+  "second-walk": "optimistic",
+  "same-node": "optimistic",
+  "marks-in-validation": "lazy",
+  "mark-in-contains": "lazy",
+  "mark-in-ceiling": "lazy",
+  "mark": "lock-free",
+  "mark-in-add": "lock-free",
+  "mark-in-remove": "lock-free",
+  "mark-at-key": "lock-free",
+  "new-slot": "lock-free"
+};
+return { CLASSICS, LACKING };
 })();
 
 // run/trace.js
@@ -507,6 +629,299 @@ function orderOf(calls) {
 return { HEADER_LINES, NODE_REGISTERS, KEY_REGISTERS, CALL_WORDS, MOST_NUMBER, isTrace, Trace, firstOpeningNode, eventsInCommon };
 })();
 
+// run/schedule_text.js
+const $run_schedule_text = (() => {
+const { HEADER_LINES, isTrace, Trace } = $run_trace;
+function scheduleText({ list, threads, quota, opening = [], version = null }, lines = []) {
+  const needed = opening.length > 0 || lines.some((line) => line.includes(" ceiling ")) ? 2 : 1;
+  const head = [`listset-schedule ${version ?? needed}`, `list ${list}`, `threads ${threads}`, `quota ${quota}`];
+  return [...head, ...opening.map((key) => `opening ${key}`), ...lines, ""].join("\n");
+}
+
+const TITLE_OF_SECOND = "listset-schedule 2";
+const versionOf = (schedule) => (schedule.startsWith(`${TITLE_OF_SECOND}\n`) ? 2 : 1);
+
+function scheduleOfTrace(trace, count = trace.total) {
+  const lines = [];
+  let [steps, before] = [0, null];
+  for (let number = 1; number <= count; number++) {
+    const event = trace.event(number);
+    const goesOn = before === event.line;
+    steps = goesOn ? steps + 1 : 1;
+    if (event.deed === "begin") lines.push(`begin ${event.thread} ${event.call.operation} ${event.call.key}`);
+    else if (goesOn) lines[lines.length - 1] = `go ${event.thread} ${steps}`;
+    else lines.push(`go ${event.thread} ${steps}`);
+    before = event.line;
+  }
+  return scheduleText({ ...trace, list: trace.kind }, lines);
+}
+
+function openingIn(schedule) {
+  const lines = schedule.split("\n").slice(HEADER_LINES);
+  const count = lines.findIndex((line) => !line.startsWith("opening "));
+  return lines.slice(0, count === -1 ? lines.length : count).map((line) => line.slice("opening ".length));
+}
+
+function withOpening(schedule, keys) {
+  const lines = schedule.split("\n");
+  lines.splice(HEADER_LINES, openingIn(schedule).length, ...keys.map((key) => `opening ${key}`));
+  if (keys.length > 0 && lines[0] === "listset-schedule 1") lines[0] = TITLE_OF_SECOND;
+  return lines.join("\n");
+}
+
+function eventsAsked(text) {
+  let count = 0;
+  for (const [, steps] of text.matchAll(/^(?:begin |go \d+ (\d+)$)/gm)) count += Number(steps ?? 1);
+  return count;
+}
+
+
+const MOST_TRIED = 1000; // steps of a thread that does not come to where it is sent, to see for what it waits
+const DRAFT_LINE = /^go \d+ (?:out|to \d+)$/m;
+
+function scheduleOfDraft(ask, text, lacks = null) {
+  if (!DRAFT_LINE.test(text)) return { text, fault: null };
+  if (lacks !== null) return scheduleOfLackingDraft(ask, lacks, text);
+  const made = ask("listset_draft", text.replace(/^listset-(?:schedule|draft) [12]$/m, "listset-draft 2"));
+  return made.status === 0 ? { text: made.text, fault: null } : { text: null, fault: made.text.trim() };
+}
+
+function stepsOfLacking(ask, lacks, lines, thread, row) {
+  const fault = (cause) => ({ count: null, fault: `listset: line ${lines.length + 1}: ${cause}` });
+  const { text } = ask("listset_lacking", lacks, `${[...lines, `go ${thread} ${MOST_TRIED}`].join("\n")}\n`, "trace");
+  if (!isTrace(text)) return { count: null, fault: text.trim() };
+  const steps = new Trace(text).events().filter(({ line }) => line === lines.length + 1);
+  const end = steps.findIndex(({ answer }) => answer !== undefined);
+  const at = row === undefined ? end : steps.findIndex(({ answer, changes }) => answer === undefined && changes.pc === Number(row));
+  if (at !== -1) return { count: at + 1, fault: null };
+  return fault(end !== -1 || steps.length === 0 ? "Idle" : "Waits");
+}
+
+function scheduleOfLackingDraft(ask, lacks, text) {
+  const lines = [];
+  for (const line of text.split("\n").slice(0, -1)) {
+    const asked = /^go (\d+) (?:out|to (\d+))$/.exec(line);
+    const { count, fault } = asked === null ? { count: null, fault: null } : stepsOfLacking(ask, lacks, lines, asked[1], asked[2]);
+    if (fault !== null) return { text: null, fault };
+    lines.push(asked === null ? line : `go ${asked[1]} ${count}`);
+  }
+  return { text: [...lines, ""].join("\n"), fault: null };
+}
+return { scheduleText, versionOf, scheduleOfTrace, openingIn, withOpening, eventsAsked, scheduleOfDraft };
+})();
+
+// run/address.js
+const $run_address = (() => {
+const { LACKING } = $made_classics;
+const { LISTS } = $made_rows;
+const { scheduleText, versionOf } = $run_schedule_text;
+const { isTrace, Trace } = $run_trace;
+const LONGEST_ADDRESS = 30000; // characters; a longer schedule has no address
+const SHORT_WORDS = { begin: "b", go: "g" };
+const LONG_WORDS = { b: "begin", g: "go" };
+const SHORT_EVENT = String.raw`(b\d+\.[a-z]+\.\d+|g\d+\.\d+)`;
+const ADDRESS_PARTS = {
+  example: /^[a-z-]+$/,
+  list: /^[A-Za-z-]+$/,
+  threads: /^\d+$/,
+  quota: /^\d+$/,
+  version: /^\d+$/,
+  opening: /^\d+(\.\d+)*$/,
+  s: new RegExp(`^(${SHORT_EVENT}(,${SHORT_EVENT})*)?$`),
+  event: /^\d+$/,
+  lacks: /^(\d+|[A-Za-z-]+)$/,
+  view: /^(lecture|list|history)$/,
+  course: /^[A-Za-z0-9_-]+$/,
+  sides: /^(coarse|fine|optimistic|lazy|lock-free)\.(coarse|fine|optimistic|lazy|lock-free)$/,
+  calls: /^(\d\d?\.[a-z]+\.\d+(,|$))+$/,
+  turns: /^(\d\d?(\.\d\d?)*)?$/,
+  watch: /^[a-z-]*$/,
+  learn: /^[a-z0-9-]*$/,
+  judge: /^$/,
+  break: /^\d*$/,
+  compare: /^$/,
+  read: /^$/,
+  seed: /^(coarse|fine|optimistic|lazy|lock-free)\.\d{1,2}\.\d{1,2}\.\d{1,2}\.\d{1,9}$/,
+};
+
+class AddressFault extends Error {}
+
+function addressOf(text, event, lacks = null) {
+  if (text.length > 2 * LONGEST_ADDRESS) return null; // an address has more than half of the letters
+  const [title, list, threads, quota, ...lines] = text.split("\n").slice(0, -1);
+  const isOpening = (line) => line.startsWith("opening ");
+  const opening = lines.filter(isOpening).map((line) => line.slice("opening ".length));
+  const events = lines.filter((line) => !isOpening(line)).map(shortLine);
+  const version = title?.split(" ")[1];
+  const needed = versionOf(scheduleText({ list, threads, quota, opening }, lines));
+  const parts = [`list=${list?.split(" ")[1]}`, `threads=${threads?.split(" ")[1]}`, `quota=${quota?.split(" ")[1]}`];
+  if (version !== String(needed)) parts.push(`version=${version}`);
+  if (opening.length > 0) parts.push(`opening=${opening.join(".")}`);
+  parts.push(`s=${events.join()}`, `event=${event}`);
+  if (lacks !== null) parts.push(`lacks=${Object.keys(LACKING).indexOf(lacks) + 1}`);
+  const address = `#${parts.join("&")}`;
+  return address.length <= LONGEST_ADDRESS && isAddressOf(address, text) ? address : null;
+}
+
+const shortLine = (line) => {
+  const [word, ...values] = line.split(" ");
+  return `${SHORT_WORDS[word] ?? word}${values.join(".")}`;
+};
+
+const longLine = (short) => `${LONG_WORDS[short[0]]} ${short.slice(1).replaceAll(".", " ")}`;
+
+function isAddressOf(address, text) {
+  try {
+    return readAddress(address).text === text;
+  } catch (fault) {
+    if (!(fault instanceof AddressFault)) throw fault;
+    return false;
+  }
+}
+
+function readAddress(hash) {
+  const { view = null, course = null, lacks: which, seed = null, ...rest } = partsOf(hash);
+  const { place, isJudged, parts } = placeOf(rest, seed);
+  const lacks = which === undefined ? null : lackingNamed(which, parts);
+  const own = { view, course, sides: null, lacks, place, seed, isJudged };
+  const named = { example: parts.example ?? null, text: null, event: Number(parts.event ?? 0), ...own };
+  if (parts.sides !== undefined) return { ...named, sides: parts };
+  const ofSchedule = Object.keys(parts).filter((name) => name !== "event" && name !== "example");
+  if (named.example !== null && ofSchedule.length > 0) {
+    throw new AddressFault(`the address names an example, and has "${ofSchedule[0]}" too`);
+  }
+  if (ofSchedule.length > 0) named.text = textOfParts(parts);
+  return named;
+}
+
+function lackingNamed(which, { list, example }) {
+  const names = Object.keys(LACKING);
+  const lacks = names.includes(which) ? which : names[which - 1];
+  if (lacks === undefined) {
+    throw new AddressFault(`there is no broken list "${which}": expected 1 to ${names.length}, or a name that "listset show --help" prints`);
+  }
+  if (list === LACKING[lacks]) return lacks;
+  const named = list !== undefined ? `list=${list}` : example !== undefined ? `example=${example}` : "no list";
+  throw new AddressFault(`lacks=${which} is a broken ${LISTS[LACKING[lacks]].name}, and the address has ${named}`);
+}
+
+function placeOf(parts, seed) {
+  const isRun = seed !== null || parts.example !== undefined || parts.list !== undefined;
+  const name = ["watch", "learn", "judge", "break", "compare", "read"].find((one) => parts[one] !== undefined);
+  if (name === undefined) return { place: null, isJudged: false, parts };
+  const { [name]: value, ...others } = parts;
+  const isJudged = name === "judge" && isRun;
+  return { place: isJudged ? null : [name, value], isJudged, parts: others };
+}
+
+function partsOf(hash) {
+  const parts = {};
+  for (const [name, value] of new URLSearchParams(hash.replace(/^#/, ""))) {
+    if (!Object.hasOwn(ADDRESS_PARTS, name)) throw new AddressFault(`the address has a part "${name}", which is none`);
+    if (name in parts) throw new AddressFault(`the address has "${name}" twice`);
+    if (!ADDRESS_PARTS[name].test(value)) throw new AddressFault(`"${value.slice(0, 60)}" is no ${name} of an address`);
+    parts[name] = value;
+  }
+  return parts;
+}
+
+function textOfParts(parts) {
+  const missing = ["list", "threads", "quota"].find((name) => parts[name] === undefined);
+  if (missing !== undefined) throw new AddressFault(`the address has no "${missing}"`);
+  const events = (parts.s ? parts.s.split(",") : []).map(longLine);
+  return scheduleText({ ...parts, opening: parts.opening?.split(".") }, events);
+}
+
+const warningOf = (link) =>
+  link.startsWith("file:") ? " Others cannot open it, since it leads to a file on this computer: copy it from a page on a web server." : "";
+
+
+const KINDS = ["coarse", "fine", "optimistic", "lazy", "lock-free"];
+const TRIES = 200;
+const MOST_TRIED_CALLS = 8; // of a run with more calls the first is taken
+const MOST_SEEN = 60; // events that are told apart by eye
+
+const seedOf = (kind, number, { threads = 2, calls = 5, keys = 2 } = {}) => `${kind}.${threads}.${calls}.${keys}.${number}`;
+
+function partsOfSeed(seed) {
+  const [kind, ...values] = seed.split(".");
+  const [threads, calls, keys, number] = values.map(Number);
+  return { kind, threads, calls, keys, number };
+}
+
+function scheduleOfSeed(ask, seed) {
+  const { kind, threads, calls, keys, number } = partsOfSeed(seed);
+  const tries = calls > MOST_TRIED_CALLS ? 1 : TRIES;
+  let text = "";
+  for (let tried = 0; tried < tries; tried++) {
+    const answer = ask("listset_gen", [kind, threads, 4, calls, keys, number * TRIES + tried].join("\0"));
+    if (answer.status !== 0) throw new AddressFault(`the address names no run: ${answer.text.trim()}`);
+    text = answer.text;
+    const traced = ask("listset_trace", text).text;
+    if (!isTrace(traced)) throw new AddressFault(`the run of the address has no trace: ${traced.trim()}`);
+    if (isWorthIt(new Trace(traced))) break;
+  }
+  return joined(text);
+}
+
+function isWorthIt({ calls, changes, total }) {
+  const puts = changes.some(({ put }) => put !== undefined) && changes.some(({ took }) => took !== undefined);
+  const isBeside = (one, other) => one.thread !== other.thread && one.begun < other.ended && other.begun < one.ended;
+  const beside = calls.filter((one) => calls.some((other) => isBeside(one, other)));
+  const isTold = beside.some(({ changes: own, operation, reply }) => !own && (operation === "contains" || reply === "false"));
+  return puts && isTold && total <= MOST_SEEN && calls.every(({ ended }) => ended !== null);
+}
+
+function joined(text) {
+  const lines = [];
+  for (const line of text.trimEnd().split("\n")) {
+    const [thread, steps] = /^go (\d+) (\d+)$/.exec(line)?.slice(1) ?? [];
+    const [before, count] = /^go (\d+) (\d+)$/.exec(lines.at(-1) ?? "")?.slice(1) ?? [];
+    if (thread !== undefined && thread === before) lines[lines.length - 1] = `go ${thread} ${Number(count) + Number(steps)}`;
+    else lines.push(line);
+  }
+  return `${lines.join("\n")}\n`;
+}
+
+function anotherSeed(before, kind = null) {
+  const list = kind ?? KINDS[Math.floor(Math.random() * KINDS.length)];
+  const number = 1 + Math.floor(Math.random() * 9999);
+  const seed = seedOf(list, number);
+  return seed === before ? seedOf(list, (number % 9999) + 1) : seed;
+}
+return { LONGEST_ADDRESS, AddressFault, addressOf, shortLine, longLine, readAddress, warningOf, seedOf, partsOfSeed, scheduleOfSeed, anotherSeed };
+})();
+
+// run/markup.js
+const $run_markup = (() => {
+const SIGNS = { "&": "&amp;", "<": "&lt;", ">": "&gt;", '"': "&quot;" };
+const escaped = (text) => String(text).replace(/[&<>"]/g, (sign) => SIGNS[sign]);
+
+function tag(name, attributes, ...content) {
+  const given = Object.entries(attributes).map(([attribute, value]) => ` ${attribute}="${escaped(value)}"`);
+  return `<${name}${given.join("")}>${content.join("")}</${name}>`;
+}
+
+const label = (attributes, text) => tag("text", attributes, escaped(text));
+const title = (text) => tag("title", {}, escaped(text));
+const colourOf = (thread) => `thread-${thread % 8}`;
+const letterOf = (thread) => (thread < 26 ? String.fromCharCode(65 + Number(thread)) : String(thread));
+const chipOf = (thread) => tag("span", { class: `who ${colourOf(thread)}` }, letterOf(thread));
+const holderOf = (lock) => letterOf(Number(lock.slice(1)));
+const keyText = (key) => String(key).replace("-inf", "−∞").replace("+inf", "+∞");
+const said = (value) => (value.endsWith("*") ? `${value.slice(0, -1)}, marked` : keyText(value));
+const counted = (count, word) => `${count} ${word}${count === 1 ? "" : "s"}`;
+const callText = (call) => `${call.operation}(${call.key})`;
+const openReply = "true"; // an open call that stands in the order has changed the set
+
+function inLetters(text) {
+  const letters = (numbers) => numbers.replace(/\d+/g, (number) => letterOf(Number(number)));
+  const some = text.replace(/\b(?:the )?threads (\d+(?:, \d+)*(?:,? and \d+)?)/gi, (_, numbers) => letters(numbers));
+  return some.replace(/\bthread (\d+)/gi, (_, number) => letterOf(Number(number))).replace(/\bt(\d+)\b/g, (_, number) => letterOf(Number(number)));
+}
+return { escaped, tag, label, title, colourOf, letterOf, chipOf, holderOf, keyText, said, counted, callText, openReply, inLetters };
+})();
+
 // run/state.js
 const $run_state = (() => {
 const { firstOpeningNode } = $run_trace;
@@ -636,45 +1051,235 @@ function keysInChain(state) {
 return { linkTarget, keyNumber, State, isWritten, ownerOf, contentsIn, promisedKeys, keysInChain };
 })();
 
-// draw/labels.js
-const $draw_labels = (() => {
-const { callText } = $run_markup;
-const LETTER = 7.1; // pixels of a letter of a label
-const BOLD = 8; // and of one of a reply
-const BETWEEN = 8; // two labels of a row
-const ROW_HEIGHT = 15;
+// run/outcomes.js
+const $run_outcomes = (() => {
+const { LISTS } = $made_rows;
+const { chipOf, keyText, said } = $run_markup;
+const { keyNumber, keysInChain, linkTarget, ownerOf } = $run_state;
+const { firstOpeningNode } = $run_trace;
+const isLock = (word) => word.endsWith(".lock");
+const mono = (text) => `<b class="mono">${text}</b>`;
+const isDone = (event) => event.deed === "store" || (event.deed === "exchange" && event.saw === event.from);
+const isFailed = (event) => event.deed === "exchange" && event.saw !== event.from;
+const ownerIn = (word) => word.split(".")[0];
+const isLinkOf = (event) => event.word?.endsWith(".link");
+const lockNames = (words) => `the lock${words.length > 1 ? "s" : ""} of ${words.map(ownerIn).join(" and ")}`;
+const setsMark = (event) => isLinkOf(event) && event.to?.endsWith("*") === true;
 
-const widthOf = (text, reply = "") => LETTER * text.length + (reply === "" ? 0 : LETTER + BOLD * reply.length);
-
-function placeLabels(items, { start, edge, mostRows }) {
-  const taken = Array.from({ length: mostRows }, () => start);
-  return items.map(({ left, right, wide }) => {
-    for (const x of [Math.min(left, edge - wide), Math.min(right, edge) - wide]) {
-      const row = taken.findIndex((end) => x >= end);
-      if (row === -1) continue;
-      taken[row] = x + wide + BETWEEN;
-      return { x, row };
-    }
-    return null;
-  });
+function marksOf(trace) {
+  if (trace.marks !== undefined) return trace.marks;
+  trace.marks = new Map();
+  for (const event of trace.starred.map((number) => trace.event(number))) {
+    if (setsMark(event) && isDone(event)) trace.marks.set(ownerIn(event.word), event);
+  }
+  return trace.marks;
 }
 
-const SIGNS = {
-  add: (key) => `+${key}`,
-  remove: (key) => `\u2212${key}`,
-  contains: (key) => `${key}?`,
-  ceiling: (key) => `\u2308${key}\u2309`,
+function wholeName({ trace, event }, name) {
+  const whose = isOpeningNode(trace, name) ? "the node of an opening key" : `${chipOf(ownerOf(trace, name))}'s node`;
+  const mark = marksOf(trace).get(name);
+  if (mark === undefined || mark.number > event.number) return `${name}</b>, ${whose}`;
+  return `${name}</b>, ${whose}, which ${chipOf(mark.thread)} marked at event ${mark.number}`;
+}
+
+const hasInChain = (state, key) => keysInChain(state).includes(Number(key));
+
+const OUTCOMES = {
+  change({ trace, state, event, held, hadKey }) {
+    const { put, took } = event;
+    const had = trace.lacks !== null && hadKey;
+    const hasNow = (key) => trace.lacks !== null && hasInChain(state, key);
+    if (put !== undefined) {
+      if (had) return `<b>This should add ${put} to the set, but ${put} is in it already.</b>`;
+      if (trace.lacks === null || hasNow(put)) return `<b>This adds ${put} to the set</b>, in slot ${held.used} of ${trace.quota}.`;
+      return `<b>This should add ${put} to the set, but its node is not in the chain: ${put} is lost.</b>`;
+    }
+    if (took === undefined) return "";
+    if (trace.lacks !== null && !had) return `<b>This should remove ${took} from the set, but ${took} is not in it any more.</b>`;
+    return hasNow(took) ? `<b>This should remove ${took} from the set, but the chain still has it.</b>` : `<b>This removes ${took} from the set.</b>`;
+  },
+
+  mark({ state, event }) {
+    if (!setsMark(event) || !isDone(event)) return "";
+    const owner = ownerIn(event.word);
+    return state.chain().includes(owner) ? `${owner} is still in the chain.` : `${owner} is not in the chain any more.`;
+  },
+
+  unlink(moment) {
+    const { state, event, before, wasInChain } = moment;
+    const gone = before.curr;
+    if (!wasInChain || !isLinkOf(event) || !isDone(event) || gone === "tail" || gone === ownerIn(event.word)) return "";
+    if (linkTarget(state.nodes[gone].link) !== event.to || state.chain().includes(gone)) return "";
+    return `<b>This unlinks ${wholeName(moment, gone)}.`;
+  },
+
+  leftInChain({ state, event, before }) {
+    if (!isFailed(event) || event.answer === undefined) return "";
+    if (!state.chain().includes(before.curr)) return `${before.curr} is not in the chain any more.`;
+    return `<b>${before.curr} stays in the chain, marked,</b> for a later walk to unlink.`;
+  },
+
+  validation({ event, held, row }) {
+    if (row?.invalid === undefined || held.pc !== row.invalid || held.reply !== "none") return "";
+    const owner = ownerIn(event.word);
+    let reason = `${owner} leads to ${said(event.saw)} now, not to ${held.curr}`;
+    if (event.saw.endsWith("*")) reason = `${owner} is marked`;
+    if (event.word.endsWith(".key")) reason = `the second walk is past the key of ${held.pred} and has not found it`;
+    return `<b>The validation fails:</b> ${reason}. It will unlock both nodes and start again.`;
+  },
+
+  valid({ held, row }) {
+    if (row?.invalid === undefined || !row.then.includes("decide on")) return "";
+    return held.pc === row.invalid && held.reply === "none" ? "" : "The validation succeeds.";
+  },
+
+  again({ event, held, row }) {
+    if (row?.again === undefined || held.pc !== row.again || event.answer !== undefined) return "";
+    const reason = event.saw?.endsWith("*") && event.deed === "load" ? `${ownerIn(event.word)} is marked: it` : "It";
+    return `<b>${reason} starts its walk again${/with the same slot/.test(row.book) ? ", with the same slot" : ""}.</b>`;
+  },
+
+  markMet({ trace, state, event, held, row }) {
+    if (event.deed !== "load" || !event.saw.endsWith("*") || [row?.invalid, row?.again].includes(held.pc)) return "";
+    const owner = ownerIn(event.word);
+    const where = state.chain().includes(owner) ? "and still" : "and no longer";
+    if (event.answer !== undefined) return `<b>${owner} is marked</b>, ${where} in the chain.`;
+    if (event.changes.curr !== undefined) return `${owner} is marked: the walk passes over it.`;
+    const next = LISTS[trace.kind].rows[held.pc]?.step ?? "";
+    if (next.startsWith("exchange pred.link")) return `<b>${owner} is marked:</b> the next step tries to unlink it.`;
+    if (!next.startsWith("exchange curr.link")) return "";
+    return `<b>${owner} is marked already:</b> the next step will fail.`;
+  },
+
+  walk({ trace, event, held, row }) {
+    if (event.deed !== "load" || row === undefined) return "";
+    if (row.below !== undefined) return walkAtKey(event, held);
+    if (row.then.includes("node = next(s)")) return `The second walk reaches ${held.node}.`;
+    if (row.then.includes("node is pred")) return secondWalkAtKey(held, row);
+    if (!row.then.includes("curr = next(s)")) return "";
+    const opening = isOpeningNode(trace, held.curr) ? ", the node of an opening key" : "";
+    return `The walk reaches ${held.curr}${opening}.`;
+  },
+
+  decision({ trace, event, held, before }) {
+    const { adds, removes } = LISTS[trace.kind];
+    if (event.answer !== undefined || held.reply !== "none" || before.pc === held.pc) return "";
+    const { operation, key } = held.call;
+    const found = event.word?.endsWith(".key") ? "The" : `${held.curr} ${operation === "add" ? "does not have" : "has"} the key ${key}: the`;
+    if (operation === "add" && held.pc === adds) return `${found} add goes ahead.`;
+    return operation === "remove" && held.pc === removes ? `${found} remove goes ahead.` : "";
+  },
+
+  reply({ trace, event }) {
+    const { reply } = event.changes;
+    if (reply === undefined || reply === "none" || event.answer !== undefined) return "";
+    const slots = { 0: "it has no slot", 1: "its one slot is used" }[trace.quota] ?? `its ${trace.quota} slots are used`;
+    const used = reply === "full" ? `: ${slots}` : "";
+    return `<b>It will answer ${reply}</b>${used}.`;
+  },
+
+  locks({ state, event }) {
+    if (!event.word || !isLock(event.word) || !isDone(event) || event.answer !== undefined) return "";
+    const own = state.locks()[`t${event.thread}`];
+    if (own === undefined) return "It holds no lock now.";
+    return event.deed === "exchange" && own.length === 1 ? "" : `It holds ${lockNames(own)}.`;
+  },
 };
-const SIGNS_IN_WORDS = "+5 add, \u22125 remove, 5? contains, \u23085\u2309 ceiling of 5; more by a click on a bar";
-const signOf = ({ operation, key }) => SIGNS[operation](key);
-const labelWidth = (call) => widthOf(callText(call), call.reply ?? "");
-return { ROW_HEIGHT, widthOf, placeLabels, SIGNS_IN_WORDS, signOf, labelWidth };
+
+const isBelow = (saw, key) => keyNumber(saw) < Number(key);
+
+function walkAtKey(event, held) {
+  const owner = ownerIn(event.word);
+  const { key } = held.call;
+  if (isBelow(event.saw, key)) return `${keyText(event.saw)} is below ${key}: the walk continues.`;
+  if (event.saw === String(key)) return `<b>The walk stops at ${owner},</b> which has its key.`;
+  return `<b>The walk stops at ${owner},</b> the first with a key above ${key}.`;
+}
+
+function secondWalkAtKey(held, row) {
+  if (held.pc === row.invalid) return "";
+  if (held.node === held.pred) return `The second walk reaches pred, ${held.pred}.`;
+  return `This is not pred, ${held.pred}: the second walk continues.`;
+}
+
+const isOpeningNode = (trace, name) => /^n/.test(name) && Number(name.slice(1)) >= firstOpeningNode(trace);
+return { isLock, mono, isFailed, ownerIn, setsMark, hasInChain, OUTCOMES };
+})();
+
+// run/sentences.js
+const $run_sentences = (() => {
+const { LISTS } = $made_rows;
+const { callText, chipOf, holderOf, letterOf, said } = $run_markup;
+const { hasInChain, isFailed, isLock, mono, OUTCOMES, ownerIn, setsMark } = $run_outcomes;
+const lockedBy = (word) => (word === "list.lock" ? "the list" : mono(ownerIn(word)));
+
+function deedText(event, row) {
+  const word = event.word && mono(event.word);
+  if (event.deed === "begin") return `begins ${callText(event.call)}.`;
+  if (event.deed === "load") return `reads ${word}: ${said(event.saw)}.`;
+  if (isLock(event.word)) return lockText(event, row);
+  const change = event.deed === "store" ? `${word} := ${said(event.to)}` : `${word}: ${said(event.from)} → ${said(event.to)}`;
+  const finds = isFailed(event) ? `, but finds ${said(event.saw)}` : "";
+  if (setsMark(event)) return `${isFailed(event) ? "tries to mark" : "marks"} ${mono(ownerIn(event.word))} (${change})${finds}.`;
+  if (event.deed === "store") return `sets ${word} to ${said(event.to)}.`;
+  return `${isFailed(event) ? "tries to change" : "changes"} ${word} from ${said(event.from)} to ${said(event.to)}${finds}.`;
+}
+
+function lockText(event, row) {
+  const name = lockedBy(event.word);
+  if (event.deed === "store") return `unlocks ${name}.`;
+  if (!isFailed(event)) return `locks ${name}.`;
+  const then = event.changes.pc === row ? "It will try again" : `It continues all the same, at row ${event.changes.pc}`;
+  return `tries to lock ${name}, but ${holderOf(event.saw)} holds it. ${then}.`;
+}
+
+function effectText({ trace, event }, hidden) {
+  const { call } = event;
+  if (event.answer === undefined) return "";
+  const answers = `<b>${callText(call)} answers ${hidden.includes("reply") ? "… what?" : event.answer}</b>`;
+  const mayFitNowhere = trace.lacks !== null && !call.changes && call.at === event.number;
+  if (hidden.includes("effect") || mayFitNowhere) return hidden.includes("reply") ? answers : `${answers}.`;
+  if (call.at === event.number) return `${answers}, and takes effect here.`;
+  const other = trace.event(call.at).thread;
+  const whose = other === event.thread ? "" : `, <b>a step of ${letterOf(other)}</b>`;
+  return `${answers}; it took effect at event ${call.at}${whose}.`;
+}
+
+function openingText(trace) {
+  if (trace.opening.length === 0) return "Before the first event the list is empty, and every thread is idle.";
+  const some = trace.opening.slice(0, 20).join(", ");
+  return `Before the first event the set is {${some}${trace.opening.length > 20 ? ", …" : ""}}, and every thread is idle.`;
+}
+
+function momentAt(state, count) {
+  const { trace } = state;
+  const event = count > 0 ? trace.event(count) : null;
+  state.moveTo(Math.max(count - 1, 0));
+  const before = event === null ? null : { ...state.threads[event.thread] };
+  const changed = event?.put ?? event?.took;
+  const hadKey = trace.lacks !== null && changed !== undefined && hasInChain(state, changed);
+  const wasInChain = trace.lacks === null || before === null || state.chain().includes(before.curr);
+  state.moveTo(count);
+  if (event === null) return { trace, state, event };
+  const row = event.deed === "begin" ? undefined : LISTS[trace.kind].rows[before.pc];
+  return { trace, state, event, before, hadKey, wasInChain, held: state.threads[event.thread], row };
+}
+
+function sentenceOf(moment, hidden = []) {
+  const { trace, event } = moment;
+  if (event === null) return `${openingText(trace)}${trace.total === 0 ? " Let one begin a call." : ""}`;
+  if (event.deed === "begin") return `${chipOf(event.thread)} ${deedText(event)}`;
+  const told = Object.keys(OUTCOMES).filter((name) => !hidden.includes(name));
+  const outcomes = told.map((name) => OUTCOMES[name](moment));
+  const parts = [chipOf(event.thread), deedText(event, moment.before.pc), ...outcomes, effectText(moment, hidden)];
+  return parts.filter((text) => text !== "").join(" ");
+}
+return { momentAt, sentenceOf };
 })();
 
 // draw/history.js
 const $draw_history = (() => {
 const { callText, colourOf, label, letterOf, tag, title } = $run_markup;
-const { labelWidth, placeLabels, ROW_HEIGHT, signOf, SIGNS_IN_WORDS } = $draw_labels;
 const HISTORY_LEFT = 50;
 const HISTORY_RIGHT = 16;
 const LEAST_STEP = 7; // pixels of one event
@@ -826,7 +1431,38 @@ function drawCalls(trace, scale) {
   const signs = scale.areWhole ? "" : label({ class: "note", x: 2, y: height - 4 }, SIGNS_IN_WORDS);
   return tag("svg", frame, ...lanes, drawCursor(scale, height, scale.y(0) - scale.bar / 2 - 2), ...stems, ...bars, ...points, signs);
 }
-return { HISTORY_LEFT, scaleOf, isReached, drawCursor, drawCalls };
+
+
+const LETTER = 7.1; // pixels of a letter of a label
+const BOLD = 8; // and of one of a reply
+const BETWEEN = 8; // two labels of a row
+const ROW_HEIGHT = 15;
+
+const widthOf = (text, reply = "") => LETTER * text.length + (reply === "" ? 0 : LETTER + BOLD * reply.length);
+
+function placeLabels(items, { start, edge, mostRows }) {
+  const taken = Array.from({ length: mostRows }, () => start);
+  return items.map(({ left, right, wide }) => {
+    for (const x of [Math.min(left, edge - wide), Math.min(right, edge) - wide]) {
+      const row = taken.findIndex((end) => x >= end);
+      if (row === -1) continue;
+      taken[row] = x + wide + BETWEEN;
+      return { x, row };
+    }
+    return null;
+  });
+}
+
+const SIGNS = {
+  add: (key) => `+${key}`,
+  remove: (key) => `\u2212${key}`,
+  contains: (key) => `${key}?`,
+  ceiling: (key) => `\u2308${key}\u2309`,
+};
+const SIGNS_IN_WORDS = "+5 add, \u22125 remove, 5? contains, \u23085\u2309 ceiling of 5; more by a click on a bar";
+const signOf = ({ operation, key }) => SIGNS[operation](key);
+const labelWidth = (call) => widthOf(callText(call), call.reply ?? "");
+return { HISTORY_LEFT, scaleOf, isReached, drawCursor, drawCalls, ROW_HEIGHT, widthOf, placeLabels, signOf };
 })();
 
 // draw/contents.js
@@ -1635,6 +2271,1642 @@ const texts = new WeakMap();
 return { byId, redraw, setAble, setHidden, setHtml };
 })();
 
+// made/book.js
+const $made_book = (() => {
+// The lessons of book.course, by page/build.
+
+const BOOK_NAME = "The twelve lessons of the five lists";
+const BOOK = [
+  "listset-course 1",
+  "# A course of lessons, as text. Copy this file, change it, and open it on the page (Learn, Open a course) or try it with",
+  "#     node page/check_lessons.js FILE",
+  "# A line that begins with # is a comment. The lessons follow after \"course NAME\". The words of a lesson, in this order:",
+  "#   lesson      a name of its own, of small letters, digits and -",
+  "#   title       as the student reads it",
+  "#   list        coarse, fine, optimistic, lazy or lock-free",
+  "#   lacks       the name of a check that the list lacks (docs/CLASSIC.md): a solution breaks it. It needs no goal",
+  "#   threads, quota   as in a schedule",
+  "#   opening     the initial keys, with a space between; none if the line is missing",
+  "#   start       the schedule's lines with which the student begins",
+  "#   question    what is asked; teaches: what it shows, once it is solved; hint; answer: the lines that solve it, after the start",
+  "#   goal        what the run of a solution shows; dead-ends: runs that cannot reach it, and what to say of them",
+  "# The lines of start, question, teaches, hint, answer, goal and dead-ends come below these words, each after two spaces. All of",
+  "# these but question and goal may be missing. In start and answer, \"go 0 to 4\" means steps until thread 0 is at row 4, and",
+  "# \"go 1 out\" steps until the call of thread 1 has ended. A course is checked when it is read: the start of a lesson must not reach",
+  "# its goal, its answer must.",
+  "#",
+  "# A goal is a list of lines. Each finds something in the run and gives it a name, or asks for more of what has a name:",
+  "#   call C of 0: contains, answers false      a call of thread 0 (\"call C: ..\" one of any thread)",
+  "#   step S in C: last, sees a mark            a step of that call (\"step S of 0: ..\", \"step S: ..\")",
+  "#   rest R of 0: holding 2                    a time in which thread 0 makes no step, and holds two locks",
+  "#   5 steps of 1: tries in vain a lock of 0   at least five such steps; \"3 calls of 1: ..\" three such calls",
+  "#   all calls ended                           no call is pending",
+  "#   say ..                                    a condition as the student reads it: all lines above it hold together",
+  "# Of a call: add, remove, contains, ceiling, key K, answers true (false, full, nothing, at-K), answers a key, ended, open,",
+  "#   begins after X, takes effect after X, ends during X, within R, its key always in the set, a smaller key always in the set,",
+  "#   its node in the chain at its end",
+  "# Of a step: row N (it makes this row), to row N (and goes to that), without a reply, fails, tries in vain a lock of T,",
+  "#   sees a mark, reads a link, in the chain, out of the chain (its node is), holding N (its thread holds N locks), last,",
+  "#   pred leads to curr, at another node than S, after X, by another thread than X, in R, takes out the node of C",
+  "# Of a rest: holding N",
+  "# Dead ends are goals, one below another, each up to its line \"say ..\", which is shown if a wrong run meets it.",
+  "",
+  "course The twelve lessons of the five lists",
+  "",
+  "lesson one-lock",
+  "title The one lock",
+  "list coarse",
+  "threads 3",
+  "quota 4",
+  "start",
+  "  begin 0 add 5",
+  "  begin 1 add 6",
+  "  begin 2 add 7",
+  "question",
+  "  Three adds have begun: first that of thread 0, last that of thread 2. Let them take effect in the",
+  "  opposite order. While thread 2 holds the lock, thread 0 must try to take it; again while thread 1",
+  "  holds it. All three adds answer true.",
+  "teaches",
+  "  Coarse-grained synchronization: one lock for the whole list, held from the first read to the last",
+  "  write. A failed attempt is a step too. Linearizability requires that each call takes effect at one",
+  "  moment between its begin and its end, its linearization point: of two calls that overlap either",
+  "  may come first, whichever began first.",
+  "hint",
+  "  A call takes effect while its thread holds the lock. Thread 0 has begun, but it has made no step yet.",
+  "answer",
+  "  go 2 1",
+  "  go 0 1",
+  "  go 2 6",
+  "  go 1 1",
+  "  go 0 1",
+  "  go 1 6",
+  "  go 0 7",
+  "goal",
+  "  call A of 0: add",
+  "  call B of 1: add, begins after A",
+  "  call C of 2: add, begins after B",
+  "  say The threads 0, 1 and 2 begin an add each, in this order.",
+  "  1 steps in A: tries in vain a lock of 2",
+  "  say Thread 0 tries to lock the list while thread 2 holds the lock.",
+  "  1 steps in A: tries in vain a lock of 1",
+  "  say Thread 0 tries to lock the list while thread 1 holds the lock.",
+  "  call B: takes effect after C",
+  "  call A: takes effect after B",
+  "  say The add of thread 2 takes effect first, that of thread 0 last.",
+  "  call A: answers true",
+  "  call B: answers true",
+  "  call C: answers true",
+  "  say All three answer true.",
+  "dead-ends",
+  "  call A of 0: add, key 5, ended",
+  "  call B of 1: add, open",
+  "  say The add of thread 0 has ended before that of thread 1. Undo to where thread 0 does not hold the lock.",
+  "  call A of 0: add, key 5, ended",
+  "  call B of 1: add, takes effect after A",
+  "  say The add of thread 0 has taken effect before that of thread 1. Undo, or press Start over.",
+  "",
+  "lesson hand-over-hand",
+  "title Hand over hand",
+  "list fine",
+  "threads 2",
+  "quota 4",
+  "opening 3 6 9",
+  "start",
+  "  begin 0 contains 9",
+  "  begin 1 contains 9",
+  "question",
+  "  Both threads look for 9. Let thread 1 follow thread 0 so closely that it has to wait at two",
+  "  different nodes, each time holding one lock and waiting for one that thread 0 holds. Then let both",
+  "  calls end.",
+  "teaches",
+  "  Fine-grained synchronization, hand over hand: a thread releases the lock of pred only when it",
+  "  holds that of curr. So the threads stay in the order in which they entered the list: none overtakes",
+  "  another, and none changes a node at which another is.",
+  "hint",
+  "  Thread 0 holds two locks when it is at row 4 or 5. Let it move one node further after each failed",
+  "  attempt of thread 1.",
+  "answer",
+  "  go 0 8",
+  "  go 1 3",
+  "  go 0 3",
+  "  go 1 5",
+  "  go 0 3",
+  "  go 1 8",
+  "goal",
+  "  call C of 1",
+  "  step S in C: tries in vain a lock of 0, holding 1",
+  "  say Thread 1 holds one lock, and waits for another one that thread 0 holds.",
+  "  step T in C: tries in vain a lock of 0, holding 1, at another node than S",
+  "  say It does so at two different nodes in one call.",
+  "  all calls ended",
+  "  say Both calls have ended.",
+  "dead-ends",
+  "  call A of 0: contains, key 9, ended",
+  "  call B of 1: contains, key 9, ended",
+  "  say Both calls have ended, and thread 1 did not wait twice. Undo, or press Start over.",
+  "",
+  "lesson two-at-once",
+  "title Two at once",
+  "list fine",
+  "threads 2",
+  "quota 4",
+  "opening 3 6 9",
+  "start",
+  "  begin 0 remove 9",
+  "question",
+  "  Thread 0 removes 9. Stop it when it holds two locks; then let thread 1 begin an add and end it",
+  "  with true, while thread 0 makes no step.",
+  "teaches",
+  "  What many locks gain over one: calls in different parts of the list go on at the same time. What",
+  "  they do not gain: nobody passes the thread that stands still, so only the part before it is free.",
+  "hint",
+  "  Thread 1 passes all nodes before the gap of its key, and locks the one behind the gap too. Which",
+  "  nodes are free?",
+  "answer",
+  "  go 0 12",
+  "  begin 1 add 1",
+  "  go 1 9",
+  "goal",
+  "  call A of 1: add, answers true",
+  "  say Thread 1 has an add that answers true.",
+  "  rest R of 0: holding 2",
+  "  call A: within R",
+  "  say From its begin to its end thread 0 holds two locks and makes no step.",
+  "dead-ends",
+  "  call R of 0: remove, key 9, ended",
+  "  say The remove has ended: thread 0 holds no locks any more. Undo, or let it begin another call.",
+  "  call A of 1: add, answers true",
+  "  rest R of 0: holding 1",
+  "  call A: within R",
+  "  say While that add began and ended, thread 0 held only one lock. Let it step on until it holds two.",
+  "",
+  "lesson changed-link",
+  "title The changed link",
+  "list optimistic",
+  "threads 2",
+  "quota 4",
+  "opening 3 9",
+  "start",
+  "  begin 0 remove 9",
+  "question",
+  "  Thread 0 removes 9. Let its validation fail because pred does not lead to curr any more, and",
+  "  let its remove answer true in the end.",
+  "teaches",
+  "  Optimistic synchronization: walk without locks, lock pred and curr, and then validate, that is, look",
+  "  whether what the walk found still holds. If it does not, release the locks and start again.",
+  "  Here it is the last part of the validation that fails: pred.next == curr.",
+  "hint",
+  "  Thread 0 has found 3 and 9 when it comes to row 4. What can thread 1 put between them before thread",
+  "  0 has its locks?",
+  "answer",
+  "  go 0 4",
+  "  begin 1 add 5",
+  "  go 1 14",
+  "  go 0 24",
+  "goal",
+  "  call C of 0",
+  "  step S in C: row 8, to row 14, without a reply",
+  "  say A validation of thread 0 fails: pred does not lead to curr.",
+  "  call C: remove, answers true",
+  "  say The call in which it fails is a remove that answers true.",
+  "dead-ends",
+  "  call R of 0: remove, answers true",
+  "  say The remove has answered true without such a failure. Undo to where it has not taken its locks yet.",
+  "  call R of 0: remove, answers false",
+  "  say The remove has answered false: its key is gone. Undo, or let it remove another key.",
+  "",
+  "lesson lost-pred",
+  "title The lost predecessor",
+  "list optimistic",
+  "threads 2",
+  "quota 4",
+  "opening 3 9",
+  "start",
+  "  begin 0 add 5",
+  "question",
+  "  Thread 0 adds 5. Let its second walk miss pred, at a moment at which the link of pred still leads",
+  "  to curr; and let its add answer true in the end.",
+  "teaches",
+  "  Why OptimisticList walks twice. A removed node keeps its link, so pred.next == curr alone does not",
+  "  tell whether pred is still reachable from the head. A validation by the link alone would insert 5",
+  "  behind a removed node, and the key would be lost.",
+  "hint",
+  "  pred must be a node that thread 1 can remove. When is the last moment for that?",
+  "answer",
+  "  go 0 4",
+  "  begin 1 remove 3",
+  "  go 1 9",
+  "  go 0 16",
+  "goal",
+  "  call C of 0",
+  "  step S in C: row 7, to row 14, without a reply",
+  "  say The second walk of a call of thread 0 goes past the key of pred and has not met pred.",
+  "  step S: pred leads to curr",
+  "  say At that moment the link of pred leads to curr.",
+  "  call C: add, answers true",
+  "  say The call is an add that answers true.",
+  "dead-ends",
+  "  call A of 0: add, answers true",
+  "  say The add has answered true, and its second walk did not miss pred in this way. Undo to where it has found its place.",
+  "",
+  "lesson marked-in-chain",
+  "title Marked, and still in the chain",
+  "list lazy",
+  "threads 2",
+  "quota 4",
+  "opening 5",
+  "start",
+  "  begin 1 remove 5",
+  "question",
+  "  Let a contains of thread 0 find the node of its key in the chain, and answer false.",
+  "teaches",
+  "  Lazy synchronization: a remove marks the node (the logical removal), and then unlinks it (the",
+  "  physical removal). The mark is its linearization point: a key is in the set exactly as long as an",
+  "  unmarked node of the chain has it.",
+  "hint",
+  "  Between which two rows of its remove has thread 1 marked the node and not unlinked it yet?",
+  "answer",
+  "  go 1 7",
+  "  begin 0 contains 5",
+  "  go 0 3",
+  "goal",
+  "  call C of 0: contains, answers false",
+  "  step S in C: last",
+  "  say A contains of thread 0 answers false.",
+  "  step S: sees a mark",
+  "  say Its last step reads the link of the node that has its key, and sees the mark.",
+  "  step S: in the chain",
+  "  say That node is in the chain then.",
+  "dead-ends",
+  "  call C of 0: contains, answers true",
+  "  say This contains has answered true: the node had no mark yet. Undo to where it has not looked at the mark.",
+  "  call R of 1: remove, ended",
+  "  call C of 0: contains, begins after R",
+  "  say That remove has ended, so its node is not in the chain any more. Undo to where the node is marked.",
+  "",
+  "lesson stopped-thread",
+  "title The stopped thread",
+  "list lazy",
+  "threads 3",
+  "quota 4",
+  "opening 5",
+  "start",
+  "  begin 0 remove 5",
+  "  begin 1 add 7",
+  "question",
+  "  Stop thread 0 for a while. In this time let thread 1 try five times to take a lock that thread 0",
+  "  has, and let thread 2 begin a contains and end it.",
+  "teaches",
+  "  add and remove of LazyList block: one thread that stops while it holds a lock can delay them for ever.",
+  "  contains is wait-free: it takes no lock, and ends after a bounded number of its own steps, whatever",
+  "  the other threads do.",
+  "hint",
+  "  Which two nodes does thread 1 lock to add 7? If thread 0 holds only the lock of the head, it is not in",
+  "  the way.",
+  "answer",
+  "  go 0 5",
+  "  go 1 9",
+  "  begin 2 contains 5",
+  "  go 2 3",
+  "goal",
+  "  rest R of 0",
+  "  5 steps of 1: tries in vain a lock of 0, in R",
+  "  say While thread 0 makes no step, thread 1 tries five times to take a lock that thread 0 holds.",
+  "  call C of 2: contains, within R",
+  "  say In the same time a contains of thread 2 begins and ends.",
+  "dead-ends",
+  "  call R of 0: remove, ended",
+  "  say The remove of thread 0 has ended: it holds no lock any more. Undo, or let it begin another call.",
+  "  call A of 1: add, ended",
+  "  say The add of thread 1 has ended: it did not have to wait so long. Undo to where thread 0 holds both its locks.",
+  "",
+  "lesson over-removed-nodes",
+  "title Over removed nodes",
+  "list lazy",
+  "threads 2",
+  "quota 4",
+  "opening 5 9",
+  "start",
+  "  begin 0 contains 9",
+  "  go 0 2",
+  "question",
+  "  Thread 0 looks for 9 and has reached 5. Let it read the link of a node that is not in the chain, and",
+  "  answer true.",
+  "teaches",
+  "  A walk without locks may be at a node that is removed meanwhile. That does no harm: the node",
+  "  keeps its link, which leads on to larger keys and back into the chain, and it is not used again as",
+  "  long as a thread may be there, since each slot is used once.",
+  "hint",
+  "  At which node is thread 0, and what can thread 1 do with it?",
+  "answer",
+  "  begin 1 remove 5",
+  "  go 1 10",
+  "  go 0 3",
+  "goal",
+  "  call C of 0: contains",
+  "  step S in C: reads a link, out of the chain",
+  "  say A contains of thread 0 reads the link of a node that is not in the chain.",
+  "  call C: answers true",
+  "  say It answers true.",
+  "dead-ends",
+  "  call C of 0: contains, ended",
+  "  say This contains has ended, and it read no link of a removed node on its way, or its key was gone. Undo, or press Start over.",
+  "",
+  "lesson in-anothers-step",
+  "title In the step of another thread",
+  "list lazy",
+  "threads 2",
+  "quota 4",
+  "opening 5",
+  "start",
+  "  begin 0 contains 5",
+  "question",
+  "  Let contains(5) of thread 0 answer false, although 5 is in the set just after each of its own",
+  "  events, from the begin to the answer.",
+  "teaches",
+  "  The linearization point of a contains that answers false need not be one of its own steps: here it",
+  "  is a step of thread 1. Which one it is can be told only afterwards, from what the other threads did.",
+  "hint",
+  "  Between two events of thread 0, thread 1 may end two calls.",
+  "answer",
+  "  go 0 2",
+  "  begin 1 remove 5",
+  "  go 1 10",
+  "  begin 1 add 5",
+  "  go 1 11",
+  "  go 0 1",
+  "goal",
+  "  call C of 0: contains, answers false",
+  "  say A contains of thread 0 answers false.",
+  "  call C: its key always in the set",
+  "  say Just after each of its own events its key is in the set.",
+  "dead-ends",
+  "  call C of 0: contains, answers true",
+  "  say This contains has answered true: it saw its key. Undo to where it has not looked at the mark yet.",
+  "  call C of 0: contains, answers false",
+  "  say It answers false, but just after one of its own events its key was not in the set. Add it again before that event.",
+  "",
+  "lesson left-to-others",
+  "title Left to others",
+  "list lock-free",
+  "threads 2",
+  "quota 4",
+  "opening 5",
+  "start",
+  "  begin 1 remove 5",
+  "question",
+  "  Let a remove answer true while its node is still in the chain. Then let another thread unlink this",
+  "  node.",
+  "teaches",
+  "  Non-blocking synchronization: mark and link are exchanged together, by one compareAndSet. A remove",
+  "  that has marked its node tries once to unlink it. If that fails, find does it, that is, the walk",
+  "  of a later add or remove: so nobody waits for the remover.",
+  "hint",
+  "  The one attempt of thread 1 fails if the link of its pred has changed since its walk. And a contains",
+  "  unlinks no node.",
+  "answer",
+  "  begin 0 add 3",
+  "  go 0 5",
+  "  go 1 5",
+  "  go 0 1",
+  "  go 1 1",
+  "  begin 0 add 7",
+  "  go 0 10",
+  "goal",
+  "  call C: remove, answers true",
+  "  say A remove answers true.",
+  "  call C: its node in the chain at its end",
+  "  say Just after its end its node is in the chain.",
+  "  step S: after C, by another thread than C, takes out the node of C",
+  "  say Later another thread unlinks this node.",
+  "dead-ends",
+  "  call C: remove, answers true",
+  "  step S in C: takes out the node of C",
+  "  say This remove has unlinked its node itself, by its last step. Undo to before that, and let the link of its pred change first.",
+  "",
+  "lesson not-wait-free",
+  "title Lock-free is not wait-free",
+  "list lock-free",
+  "threads 2",
+  "quota 4",
+  "start",
+  "  begin 0 add 5",
+  "question",
+  "  Let an add of thread 0 fail three times to link its node in, and let thread 1 end three calls while",
+  "  it is pending.",
+  "teaches",
+  "  Lock-free: of so many steps of add and remove, by whichever threads, one ends its call. This is",
+  "  proved here, with the number (Read, the tables, Progress). Each failed exchange of this add is owed",
+  "  to another thread, which has changed the link. Wait-free would say that every call ends after",
+  "  finitely many of its own steps. An add of this list is not: others may change the link each time.",
+  "hint",
+  "  Each time thread 0 is about to exchange the link of pred (row 7), let thread 1 change that link",
+  "  first.",
+  "answer",
+  "  go 0 5",
+  "  begin 1 add 9",
+  "  go 1 6",
+  "  go 0 6",
+  "  begin 1 add 8",
+  "  go 1 6",
+  "  go 0 6",
+  "  begin 1 add 7",
+  "  go 1 6",
+  "  go 0 1",
+  "goal",
+  "  call A of 0: add",
+  "  3 steps in A: row 7, fails",
+  "  say An add of thread 0 fails three times to link its node in.",
+  "  3 calls of 1: ended, ends during A",
+  "  say While that add is pending, thread 1 ends three calls.",
+  "dead-ends",
+  "  call A of 0: add, ended",
+  "  say That add has ended. Undo to where it is about to exchange the link of pred.",
+  "",
+  "lesson ceiling-in-anothers-step",
+  "title A ceiling in another thread's step",
+  "list lock-free",
+  "threads 2",
+  "quota 4",
+  "opening 5 7 9",
+  "start",
+  "  begin 0 ceiling 6",
+  "question",
+  "  ceiling(6) asks for the smallest key from 6 on. Let that of thread 0 answer 9, although just after each",
+  "  of its own events the set has a smaller key from 6 on.",
+  "teaches",
+  "  ceiling is a call of this project and not of the book: the walk of contains, up to the first key",
+  "  that is not below its own. It takes no lock; if the node at which it stops is marked, it starts",
+  "  again, and so it is not wait-free. Its linearization point, too, may be a step of another thread.",
+  "hint",
+  "  A removed node keeps the link that it had at its removal. At which node can thread 0 be, and",
+  "  where must that node lead?",
+  "answer",
+  "  go 0 2",
+  "  begin 1 remove 7",
+  "  go 1 8",
+  "  begin 1 remove 5",
+  "  go 1 6",
+  "  begin 1 add 7",
+  "  go 1 6",
+  "  go 0 3",
+  "goal",
+  "  call C of 0: ceiling, answers a key",
+  "  say A ceiling of thread 0 answers a key.",
+  "  call C: a smaller key always in the set",
+  "  say Just after each of its own events the set has a smaller key that is not below the one asked for.",
+  "dead-ends",
+  "  call C of 0: ceiling, answers at-7",
+  "  say This ceiling has answered 7. Undo to where it is at the node of 5.",
+  "  call C of 0: ceiling, answers at-9",
+  "  say It answers 9, but just after one of its own events no smaller key from 6 on was in the set. Add one before that event.",
+  "",
+].join("\n");
+return { BOOK_NAME, BOOK };
+})();
+
+// engine/answers.js
+const $engine_answers = (() => {
+const linesIn = (text) => text.trimEnd().split("\n");
+
+function callOfReport(line) {
+  const [, id, thread, operation, key, begun, ended, reply = null] = line.split(" ");
+  const end = ended === "open" ? null : Number(ended);
+  return { id: Number(id), thread: Number(thread), operation, key: Number(key), begun: Number(begun), ended: end, reply };
+}
+
+function callOfRecording(line) {
+  const [, thread, operation, key, begun, ended, reply] = line.split(" ");
+  const isOpen = ended === "-";
+  const moments = { begun: BigInt(begun), ended: isOpen ? null : BigInt(ended) };
+  return { thread: Number(thread), operation, key: Number(key), ...moments, reply: isOpen ? null : reply };
+}
+
+function readReport(text) {
+  const lines = linesIn(text);
+  const linesOf = (word) => lines.filter((line) => line.startsWith(`${word} `));
+  const valuesOf = (word) => linesOf(word).map((line) => line.split(" ").slice(1));
+  return {
+    head: [...lines.slice(0, 4), ...linesOf("opening")],
+    threads: Number(lines[2].split(" ")[1]),
+    opening: valuesOf("opening").map(([key]) => Number(key)),
+    calls: linesOf("call").map(callOfReport),
+    callLines: linesOf("call"),
+    places: valuesOf("place").map(([call, reply]) => ({ call: Number(call), reply })),
+    keys: valuesOf("key").map(([key]) => Number(key)),
+    keyLines: linesOf("key"),
+  };
+}
+
+function callsOfRecording(text, most) {
+  const calls = [];
+  for (const [line] of text.matchAll(/^call .*$/gm)) {
+    if (calls.length === most) break;
+    calls.push(callOfRecording(line));
+  }
+  return calls;
+}
+
+const leavesKey = (text, key) => new RegExp(`^key ${key}$`, "m").test(text);
+
+const readExamples = (text) =>
+  linesIn(text).map((line) => {
+    const [name, kind] = line.split(/ +/);
+    return { name, kind };
+  });
+
+function readFault(text) {
+  const says = text.trim();
+  const [, line = null, cause = null] = /^listset: line (\d+): (\w+)$/.exec(says) ?? [];
+  return { line: line === null ? null : Number(line), cause, says };
+}
+
+function readVerdict({ text }) {
+  const lines = linesIn(text);
+  const find = (word) => lines.find((line) => line.startsWith(`${word} `)) ?? null;
+  const valuesOf = (word) => find(word)?.split(" ").slice(1) ?? [];
+  const [kind = "fault"] = valuesOf("verdict");
+  if (kind === "fault") return { kind, fault: readFault(text), order: null, why: null };
+  const [[count], [cut], [key = null], [moment = null]] = ["calls", "cut", "key", "moment"].map(valuesOf);
+  const [[since = null, there], [hidden, first, last]] = ["since", "hidden"].map(valuesOf);
+  const by = find("by")?.slice("by ".length);
+  const why = {
+    key: key === null ? null : Number(key),
+    moment, // up to which the calls have no order; null: the key is left otherwise
+    since, // from which moment on they have none; 0: from the beginning; null: not known
+    isThere: there === "true",
+    by: by === undefined ? null : callOfRecording(by),
+    calls: lines.filter((line) => line.startsWith("call ")).map(callOfRecording),
+    hidden: hidden === undefined ? null : { count: Number(hidden), first, last },
+  };
+  const ofCalls = { count: Number(count), overlapped: Number(valuesOf("overlapped")[0]), isCutOff: cut === "true" };
+  return { kind, ...ofCalls, order: orderIn(valuesOf("order"), valuesOf("set")), why: kind === "none" ? why : null };
+}
+
+const FAULT_VALUES = {
+  HistoryReply: ["call", "reply"],
+  SetReply: ["call", "reply", "place", "answer"],
+  TooEarly: ["call", "begun", "other", "ended"],
+  WrongSet: [],
+};
+
+function orderIn([fault, ...values], keys) {
+  if (fault === undefined) return null;
+  return { fault, set: `{${keys.join(", ")}}`, ...Object.fromEntries((FAULT_VALUES[fault] ?? ["call"]).map((name, at) => [name, values[at]])) };
+}
+
+
+function sentenceOn(ask, cause, ...kinds) {
+  if (!cause) return null;
+  const told = ask("listset_faults").text;
+  const parts = kinds.map((kind) => told.split(`, in ${kind};`)[1]?.split("\n\n")[0] ?? "");
+  const [, said] = new RegExp(`^  ${cause} +((?:.|\n {12})+)`, "m").exec(parts.join("\n")) ?? [];
+  return said === undefined ? null : said[0].toLowerCase() + said.slice(1).replace(/\n +/g, " ").replace(/\.( .*)?$/, "");
+}
+return { readReport, callsOfRecording, leavesKey, readExamples, readFault, readVerdict, sentenceOn };
+})();
+
+// run/judged.js
+const $run_judged = (() => {
+const { readReport, readVerdict } = $engine_answers;
+const { callText, letterOf, openReply } = $run_markup;
+const MOST_JUDGED = 60; // events of a run that is judged
+
+const LEVELS = {
+  points: { name: "points alone", task: "The replies are shown. Where does each call take effect?", hidden: ["change", "effect"] },
+  replies: {
+    name: "replies and points",
+    task: "What does each call answer, and where does it take effect?",
+    hidden: ["change", "reply", "leftInChain", "effect"],
+  },
+  claim: {
+    name: "any order at all?",
+    task: "Can a set give these replies? Give an order that explains the report, or say that there is none.",
+    hidden: [],
+  },
+};
+
+function exerciseOf(text, level, isWhole = true) {
+  const report = readReport(text);
+  const last = Math.max(1, ...report.calls.flatMap((call) => [call.begun, call.ended ?? 0]));
+  return { ...report, level, isWhole, reportText: text, last };
+}
+
+const nameOfCall = (call) => `${callText(call)} of ${letterOf(call.thread)}`;
+const lastMoment = (exercise, call) => call.ended ?? exercise.last;
+
+function repliesOf(exercise, { operation }) {
+  if (operation === "add") return ["true", "false", "full"];
+  if (operation !== "ceiling") return ["true", "false"];
+  const added = exercise.calls.filter((call) => call.operation === "add").map(({ key }) => key);
+  const keys = [...new Set([...exercise.opening, ...added])].sort((one, other) => one - other);
+  return ["nothing", ...keys.map((key) => `at-${key}`)];
+}
+
+class OwnAnswer {
+  constructor(exercise) {
+    this.exercise = exercise;
+    this.points = new Map(); // by the call's number: { at, turn }
+    this.replies = new Map();
+    this.turn = 0;
+    this.isNone = false;
+  }
+
+  place(call, at) {
+    const within = Math.min(Math.max(Math.round(2 * at) / 2, call.begun), lastMoment(this.exercise, call));
+    if (this.points.get(call.id)?.at !== within) this.points.set(call.id, { at: within, turn: this.turn++ });
+  }
+
+  take(call) {
+    this.points.delete(call.id);
+  }
+
+  say(call, reply) {
+    this.replies.set(call.id, reply);
+  }
+
+  replyOf(call) {
+    if (call.ended === null) return openReply;
+    return this.exercise.level === "replies" ? (this.replies.get(call.id) ?? null) : call.reply;
+  }
+
+  order() {
+    const calls = this.exercise.calls.filter(({ id }) => this.points.has(id));
+    const placed = calls.map((call) => ({ call, ...this.points.get(call.id) }));
+    placed.sort((one, other) => one.at - other.at || one.turn - other.turn);
+    return placed.map(({ call, at }) => ({ call, at, reply: this.replyOf(call) }));
+  }
+
+  unsaid() {
+    const lackOf = (call) => [this.points.has(call.id) ? "" : "point", this.replyOf(call) === null ? "reply" : ""].filter((it) => it !== "");
+    const lacking = this.exercise.calls.filter((call) => call.ended !== null && lackOf(call).length > 0);
+    return lacking.map((call) => `the ${lackOf(call).join(" and the ")} of ${nameOfCall(call)}`);
+  }
+}
+
+function reportOfAnswer(answer) {
+  const { head, callLines, keyLines } = answer.exercise;
+  const places = answer.order().map(({ call, reply }) => `place ${call.id} ${reply}`);
+  return [...head, ...callLines, ...places, ...keyLines, "end", ""].join("\n");
+}
+
+function verdictOn(ask, answer) {
+  const unsaid = answer.unsaid();
+  if (answer.isNone) return verdictOnClaim(ask, answer.exercise);
+  const nothing = { isRight: null, clash: null, report: null };
+  if (unsaid.length > 0) return { ...nothing, says: `Still missing: ${unsaid.join(", ")}.` };
+  const report = reportOfAnswer(answer);
+  const { kind, fault, order } = readVerdict(ask("listset_check_record", report));
+  if (kind === "fault") return { ...nothing, says: `This order is not judged: ${fault.says}.` };
+  if (order === null) return { isRight: true, clash: null, report, says: rightInWords(answer) };
+  const clash = order.call === undefined ? null : Number(order.call);
+  return { isRight: false, clash, report, says: faultInWords(answer, order) };
+}
+
+function verdictOnClaim(ask, { isWhole, reportText }) {
+  const said = (isRight, says) => ({ isRight, clash: null, report: null, says });
+  const there = "There is one: this is a run of a correct list, and each of those has an order (proved). Find it.";
+  if (isWhole) return said(false, there);
+  const { kind, fault } = readVerdict(ask("listset_check_record", reportText));
+  if (kind === "fault") return said(null, `Whether there is none is not judged: ${fault.says}.`);
+  if (kind === "none") return said(true, "Right: no order explains this report (proved). It comes from a broken list.");
+  if (kind === "unknown") return said(null, "This report comes from a broken list, and whether an order explains it is not known.");
+  return said(false, "There is one, although this report comes from a broken list. Find it.");
+}
+
+function rightInWords(answer) {
+  if (!answer.exercise.isWhole) return "check says ok: this order explains the report, so this schedule does not break the list.";
+  const own = answer.order().map(({ call, reply }) => `${call.id}-${reply}`);
+  const isSame = own.join() === answer.exercise.places.map(({ call, reply }) => `${call}-${reply}`).join();
+  const also = isSame ? "It is also the order of the replayer." : "The replayer has another one: both explain the run.";
+  return `check says ok: this order explains the run. ${also}`;
+}
+
+function faultInWords(answer, { fault, call, place, reply, set, answer: due, begun, other, ended }) {
+  const named = (id) => nameOfCall(answer.exercise.calls[Number(id)]);
+  if (fault === "SetReply") {
+    const before = Number(place) === 1 ? "before your first call" : `after ${named(answer.order()[Number(place) - 2].call.id)} in your order`;
+    return `${named(call)} cannot answer ${reply} there: ${before} the set is ${set}, and it would answer ${due}.`;
+  }
+  if (fault === "HistoryReply") return `${named(call)} does not answer ${reply} in this run. Look at what it sees before it answers.`;
+  if (fault === "TooEarly") {
+    return `${named(call)} begins at event ${begun}, and in your order it comes before ${named(other)}, which ended at event ${ended}.`;
+  }
+  if (fault === "WrongSet") return `Your order leaves the set ${set}; at the end of this run it is {${answer.exercise.keys.join(", ")}}.`;
+  return `This is no order of the calls of this run (${fault}).`;
+}
+
+const wordOfAnswer = (answer) => (answer.isNone ? "none" : answer.order().map(({ call, reply }) => `${call.id}-${reply}`).join());
+
+function answerOfWord(exercise, word) {
+  const answer = new OwnAnswer(exercise);
+  if (word === "none") return Object.assign(answer, { isNone: true });
+  let at = 0;
+  for (const piece of word.split(",")) {
+    const [, id, reply] = /^(\d{1,5})-([a-z0-9-]+)$/.exec(piece) ?? [];
+    const call = exercise.calls[id];
+    if (call === undefined || answer.points.has(call.id)) return null;
+    at = Math.max(at, call.begun);
+    answer.points.set(call.id, { at, turn: answer.turn++ });
+    answer.say(call, reply);
+  }
+  return answer;
+}
+return { MOST_JUDGED, LEVELS, exerciseOf, nameOfCall, lastMoment, repliesOf, OwnAnswer, reportOfAnswer, verdictOn, wordOfAnswer, answerOfWord };
+})();
+
+// page/state.js
+const $page_state = (() => {
+/**
+ * @typedef {object} Place  A scene has the id of what is shown there, and `given`, what else its address says.
+ * @property {string} activity  that of a scene (activities/views.js); of the bench "watch" or "judge"
+ * @property {"stage" | "scene"} screen
+ * @property {string} id
+ * @property {Record<string, string>} given
+ * @property {"lecture" | "embed" | "list" | "history" | null} view
+ * @typedef {object} Scene  How far one is in a scene.
+ * @property {"" | "task" | "again" | "guess" | "playing" | "moment" | "done"} stage
+ * @property {number | null} chosen  the answer that was pressed; -1 where it was to be shown
+ * @property {string} note
+ * @property {string} text  the schedule of its run, where the address has it
+ * @property {number} hints
+ * @property {number} at  the branch that is shown
+ * @property {any[]} branches
+ * @property {string[]} wrong  wrong answers, so far
+ * @typedef {object} Run  What was run: the text, its trace, the list without a check (or null), and the state after `count` events.
+ * @property {string} text
+ * @property {any} trace
+ * @property {any} state
+ * @property {number} count
+ * @property {string | null} lacks
+ * @property {string} source  who ran it, in words
+ * @property {boolean} isRun  whether the trace is that of the text
+ * @property {number | null} faultLine
+ * @typedef {"own" | "example" | "seed"} Kind
+ * @typedef {object} Task  What the run is for: of which kind, its id, the name under which tries are kept, and the text with which it begins.
+ * @property {Kind} kind
+ * @property {string} id
+ * @property {string} work
+ * @property {string} begun
+ * @typedef {{ hides: boolean, allThreads: boolean, letters: boolean }} Prefs
+ * @typedef {{ place: Place, scene: Scene, run: Run, task: Task, exercise: any, prefs: Prefs }} State
+ * @typedef {{ [name: string]: any, type: string }} Action
+ */
+
+const NO_TASK_YET = { kind: "own", id: "", work: "", begun: "" };
+
+/** @type {Scene} */
+const SCENE_AT_FIRST = { stage: "", chosen: null, note: "", text: "", hints: 0, at: 0, branches: [], wrong: [] };
+
+/** @returns {State} */
+const stateAtFirst = () => ({
+  place: { activity: "watch", screen: "stage", id: "", given: {}, view: null },
+  scene: SCENE_AT_FIRST,
+  run: { text: "", trace: null, state: null, count: 0, lacks: null, source: "", isRun: false, faultLine: null },
+  task: /** @type {Task} */ ({ ...NO_TASK_YET }),
+  exercise: null,
+  prefs: { hides: true, allThreads: false, letters: true },
+});
+
+/** The activity to which a run belongs. @param {State} state */
+const activityOfRun = ({ exercise }) => (exercise !== null ? "judge" : "watch");
+
+/** The example that is shown, or "". @param {State} state */
+const exampleIn = ({ task }) => (task.kind === "example" ? task.id : "");
+
+/** A run has the stage of its activity. @param {State} state @returns {State} */
+const onStage = (state) => ({ ...state, place: { ...state.place, activity: activityOfRun(state), screen: "stage", id: "", given: {} } });
+
+const within = (count, { total }) => Math.max(0, Math.min(total, count));
+
+/** @type {Record<string, (state: State, action: Action) => State>} */
+const MAKES = {
+  place: (state, { activity, screen, id = "", given = {} }) =>
+    ({ ...state, place: { ...state.place, activity, screen, id, given }, scene: SCENE_AT_FIRST }),
+  scene: (state, { type, ...given }) => ({ ...state, scene: { ...state.scene, ...given } }),
+  view: (state, { view }) => ({ ...state, place: { ...state.place, view } }),
+  task: (state, { task, lacks = null }) =>
+    onStage({ ...state, task: { ...NO_TASK_YET, ...task }, run: { ...state.run, lacks }, exercise: null }),
+  text: (state, { text }) => ({ ...state, run: { ...state.run, text } }),
+  trace(state, { trace, state: ofTrace, source, count }) {
+    const isGood = trace.refused === null;
+    const faultLine = isGood ? null : trace.refused.line;
+    const run = { ...state.run, trace, state: ofTrace, source, lacks: trace.lacks, isRun: true, faultLine, count: within(count, trace) };
+    return { ...state, run, exercise: null };
+  },
+  begun: (state, { begun }) => ({ ...state, task: { ...state.task, begun } }),
+  source: (state, { source }) => ({ ...state, run: { ...state.run, source } }),
+  fault: (state, { line, isOld }) => ({ ...state, run: { ...state.run, faultLine: line, isRun: !isOld } }),
+  count: (state, { count }) => ({ ...state, run: { ...state.run, count: within(count, state.run.trace) } }),
+  exercise: (state, { exercise }) => onStage({ ...state, exercise }),
+  prefs: (state, { type, ...given }) => ({ ...state, prefs: { ...state.prefs, ...given } }),
+};
+
+/** What an action makes of a state. @param {State} state @param {Action} action @returns {State} */
+function reduce(state, action) {
+  const make = MAKES[action.type];
+  if (make === undefined) throw new Error(`no action is called "${action.type}"`);
+  return make(state, action);
+}
+
+/** What an entry of the browser's history is: a place or a task, and not a step of its run. @param {State} state */
+function entryOf({ place, task, exercise }) {
+  const ofRun = place.screen === "stage" ? [task.kind, task.id, exercise !== null] : [place.id, JSON.stringify(place.given)];
+  return [place.activity, place.screen, place.view, ...ofRun].join("\n");
+}
+return { stateAtFirst, exampleIn, reduce, entryOf };
+})();
+
+// page/now.js
+const $page_now = (() => {
+const { readFault, sentenceOn } = $engine_answers;
+const { LEVELS } = $run_judged;
+const { scheduleOfTrace } = $run_schedule_text;
+const { State } = $run_state;
+const { byId } = $page_dom;
+const { exampleIn, reduce, stateAtFirst } = $page_state;
+const NO_ENGINE = "The replayer does not run in this browser: no schedule can be run, no report checked. A file of listset trace can be opened.";
+
+const now = stateAtFirst();
+/** @type {{ engine: any, render: () => void }} */
+const held = { engine: null, render: () => {} };
+
+function change(type, given = {}) {
+  Object.assign(now, reduce(now, { ...given, type }));
+}
+
+const show = () => held.render();
+
+function dispatch(type, given) {
+  change(type, given);
+  show();
+}
+
+const listeners = { taken: [], ran: [], kept: [], recorded: [], course: [] };
+const on = (what, ...deeds) => listeners[what].push(...deeds);
+
+function announce(what, ...given) {
+  for (const deed of listeners[what]) deed(...given);
+}
+
+const isJudging = () => now.exercise !== null;
+const hiddenOutcomes = () => (isJudging() ? LEVELS[now.exercise.level].hidden : []);
+const exampleShown = () => exampleIn(now);
+
+function goTo(count) {
+  tell("");
+  dispatch("count", { count });
+}
+
+function tell(text) {
+  if (told.text === text && byId("told").innerHTML === told.html) return;
+  byId("told").innerHTML = text;
+  Object.assign(told, { text, html: byId("told").innerHTML });
+}
+const told = { text: "", html: "" };
+
+function takeTrace(trace, at, source) {
+  const { refused } = trace;
+  const state = trace.before !== null && trace.before === now.run.trace ? now.run.state.goOn(trace) : new State(trace);
+  trace.before = null; // its text is not kept any longer
+  change("trace", { trace, state, source, count: typeof at === "function" ? at(trace) : at });
+  announce("taken", trace);
+  tellFault(now.run.faultLine, refused?.cause ?? "", refused === null ? "" : `line ${refused.line}: ${refused.cause}`, false);
+  tell("");
+  show();
+}
+
+function takeScheduleOfTrace() {
+  const text = scheduleOfTrace(now.run.trace);
+  change("text", { text });
+  change("begun", { begun: text });
+  byId("schedule").value = text;
+  byId("opening").value = now.run.trace.opening.join(" ");
+}
+
+function askNow(name, ...texts) {
+  if (held.engine === null) return { status: 1, text: NO_ENGINE };
+  try {
+    return held.engine.ask(name, ...texts);
+  } catch (fault) {
+    return { status: 1, text: fault.message };
+  }
+}
+
+function tellFault(line, cause, said, isOld = true) {
+  change("fault", { line, isOld });
+  byId("stage").classList.toggle("old", isOld);
+  byId("old").hidden = !isOld;
+  const why = sentenceOn(askNow, cause, "a schedule", "a draft");
+  byId("fault").textContent = why === null ? said : `${said}: ${why}`;
+}
+
+const tellTrouble = (said) => (byId("fault").textContent = said);
+
+function tellLine(text) {
+  const { line, cause } = readFault(text);
+  tellFault(line, cause ?? "", text);
+}
+return { NO_ENGINE, now, held, change, show, dispatch, on, announce, isJudging, hiddenOutcomes, exampleShown, goTo, tell, takeTrace, takeScheduleOfTrace, askNow, tellFault, tellTrouble, tellLine };
+})();
+
+// page/kept.js
+const $page_kept = (() => {
+const { BOOK_NAME } = $made_book;
+const { CLASSICS } = $made_classics;
+const { byId } = $page_dom;
+const { announce, held, now } = $page_now;
+const KEPT = "listset-page-2";
+const KEPT_BEFORE = "listset-page"; // one text, as the page kept it before
+const HERE = "listset-here"; // the address of what was shown last
+const MOST_WORKS = 60; // the oldest ones go
+
+function keptUnder(name) {
+  try {
+    return JSON.parse(localStorage.getItem(name));
+  } catch {
+    return null;
+  }
+}
+
+function keepUnder(name, value) {
+  try {
+    localStorage.setItem(name, JSON.stringify(value));
+    return true;
+  } catch {
+    return false;
+  }
+}
+
+const isText = (value) => typeof value === "string";
+const isWork = (kept) => typeof kept?.text === "string" && typeof kept.box === "string" && Number.isInteger(kept.count);
+const KINDS = ["own", "example", "lesson", "seed"];
+const isTask = (task) => KINDS.includes(task?.kind) && isText(task.id) && isText(task.course);
+
+function taskOfName(name) {
+  const [, lesson, course = BOOK_NAME] = /^lesson ([a-z0-9-]+)(?: of (.+?))?(?: \d+)?$/.exec(name) ?? [];
+  if (lesson !== undefined) return { kind: "lesson", id: lesson, course };
+  const [, example] = /^from ([a-z-]+)(?: \d+)?$/.exec(name) ?? [];
+  if (Object.hasOwn(CLASSICS, example)) return { kind: "example", id: example, course: "" };
+  return { kind: "own", id: "", course: "" };
+}
+
+/** @type {(entry: any[]) => [string, any]} */
+const workOf = ([name, kept]) => [name, { ...kept, task: isTask(kept.task) ? kept.task : taskOfName(name) }];
+
+const works = {
+  /** @type {Map<string, any>} */
+  byName: new Map(),
+  isKept: true,
+
+  load() {
+    const kept = keptUnder(KEPT);
+    const before = keptUnder(KEPT_BEFORE);
+    const entries = Array.isArray(kept) ? kept : isWork(before) ? [["my schedule", before]] : [];
+    const isGood = (entry) => Array.isArray(entry) && isText(entry[0]) && isWork(entry[1]);
+    this.byName = new Map(entries.filter(isGood).map(workOf));
+  },
+
+  set(name, work) {
+    this.byName.delete(name);
+    this.byName.set(name, work);
+    const names = [...this.byName.keys()];
+    for (const old of names.slice(0, Math.max(0, names.length - MOST_WORKS))) this.byName.delete(old);
+    this.isKept = keepUnder(KEPT, [...this.byName]);
+  },
+
+  last(isWanted) {
+    return [...this.byName].findLast(([, work]) => isWanted(work))?.[0] ?? null;
+  },
+
+  nameOf(text, lacks = null) {
+    return this.last((work) => work.text === text && (work.lacks ?? null) === lacks);
+  },
+
+  newName(word) {
+    for (let number = 1; ; number++) {
+      const name = number === 1 ? word : `${word} ${number}`;
+      if (!this.byName.has(name)) return name;
+    }
+  },
+};
+
+function keepWork() {
+  const box = byId("schedule").value;
+  const { run, task } = now;
+  const isLookedAt = box === run.text && run.text === task.begun;
+  if (held.engine === null || run.text === "" || isLookedAt || task.work === "") return;
+  const before = works.byName.get(task.work);
+  if (before?.text === run.text && before.box === box && before.count === run.count) return;
+  const { kind, id } = task;
+  works.set(task.work, { text: run.text, box, count: run.count, lacks: run.lacks, task: { kind, id, course: "" } });
+  announce("kept");
+}
+return { HERE, keptUnder, keepUnder, isText, works, keepWork };
+})();
+
+// page/seen.js
+const $page_seen = (() => {
+const { byId, setHidden } = $page_dom;
+const { change } = $page_now;
+const isStage = ({ screen }) => screen === "stage";
+
+function factsOf(state, { hasEngine }) {
+  const { place, run, task, exercise } = state;
+  return {
+    ...place,
+    hasEngine,
+    kind: task.kind,
+    isJudging: exercise !== null,
+    isClaim: exercise?.level === "claim",
+    isBroken: run.lacks !== null,
+  };
+}
+
+const isFull = ({ view }) => view === null;
+const isSlide = ({ view }) => view === "lecture";
+const isFree = ({ isClaim }) => !isClaim; // of a claim there is no run to step through
+
+const SEEN = {
+  top: isFull,
+  leave: ({ view }) => view !== null && view !== "embed",
+  scene: ({ screen }) => screen === "scene",
+  bench: ({ screen }) => screen !== "scene",
+  task: (facts) => isStage(facts) && (isFull(facts) || isSlide(facts)),
+  stage: isStage,
+  workshop: (facts) => isStage(facts) && isFull(facts),
+  "question-box": ({ kind, isJudging }) => kind === "example" && !isJudging,
+  "own-head": ({ kind }) => kind === "own",
+  "seed-box": ({ kind }) => kind === "seed",
+  "judge-head": ({ activity }) => activity === "judge",
+  "go-on-here": (facts) => facts.activity !== "judge" && isFull(facts) && facts.hasEngine,
+  past: ({ isJudging, view }) => !isJudging && view !== "list",
+  ticks: ({ isJudging }) => !isJudging,
+  judge: ({ isJudging }) => isJudging,
+  "judge-moments": ({ isClaim }) => isClaim,
+  "judge-note": isFree,
+  "judge-levels": ({ isBroken }) => !isBroken,
+  "report-box": ({ isJudging, hasEngine }) => !isJudging && hasEngine,
+  dock: (facts) => isStage(facts) && isFree(facts),
+  "run-figure": isFree,
+  "key-help-box": isFree,
+  "threads-box": isFree,
+  "table-box": isFree,
+  "listing-box": (facts) => isFree(facts) && !facts.isBroken,
+  told: isFull,
+  order: isFull,
+  "no-engine": ({ hasEngine }) => hasEngine === false,
+};
+
+
+function showParts(state) {
+  const facts = factsOf(state, { hasEngine: services.hasEngine });
+  for (const [id, isSeen] of Object.entries(SEEN)) setHidden(byId(id), !isSeen(facts), byId("skip"));
+  const { activity, screen, view } = state.place;
+  const key = [activity, screen, view, facts.hasEngine].join();
+  if (key === placed.key) return;
+  placed.key = key;
+  for (const part of document.querySelectorAll(".of-engine:not([id])")) part.hidden = !facts.hasEngine;
+  Object.assign(document.body.dataset, { activity, screen, view: view ?? "" });
+  for (const link of document.querySelectorAll("nav [data-to]")) {
+    if (link.dataset.to.split(" ").includes(activity)) link.setAttribute("aria-current", "page");
+    else link.removeAttribute("aria-current");
+  }
+}
+const placed = { key: "" };
+const services = { hasEngine: true }; // until it is known that there is none
+
+const setView = (view) => change("view", { view });
+return { factsOf, SEEN, showParts, services, setView };
+})();
+
+// page/play.js
+const $page_play = (() => {
+const { CLASSICS } = $made_classics;
+const { byId } = $page_dom;
+const { change, exampleShown, goTo, now, show, tell } = $page_now;
+const { setView } = $page_seen;
+const SPEEDS = { slow: 1600, medium: 700, fast: 200 }; // milliseconds of one event
+const NO_STOP = { event: Infinity, before: "", there: "" };
+const play = { timer: null, stop: NO_STOP }; // the event at which it stops by itself, and what is said until there, and there
+
+const wantsLessMotion = () => matchMedia("(prefers-reduced-motion: reduce)").matches;
+
+const isPlaying = () => play.timer !== null; // the sentence is said where the play ends, and not before
+
+function showPlay() {
+  byId("play").textContent = play.timer === null ? "Play" : "Pause";
+  byId("play").setAttribute("aria-pressed", String(play.timer !== null));
+}
+
+function pausePlay() {
+  clearInterval(play.timer);
+  play.timer = null;
+  showPlay();
+}
+
+function stopPlay() {
+  play.stop = NO_STOP;
+  pausePlay();
+}
+
+function startPlay(stop = NO_STOP) {
+  const { count, trace } = now.run;
+  if (trace.total === 0) return;
+  play.stop = stop;
+  if (count === trace.total) goTo(0);
+  play.timer = setInterval(playOn, SPEEDS[byId("speed").value]);
+  showPlay();
+}
+
+function playOn() {
+  const { stop } = play;
+  const count = now.run.count + 1;
+  const isThere = count === stop.event || count >= now.run.trace.total;
+  if (isThere) stopPlay();
+  change("count", { count });
+  tell(count === stop.event ? stop.there : stop.before);
+  show();
+}
+
+const togglePlay = () => (play.timer === null ? startPlay(play.stop) : pausePlay());
+
+function changeSpeed() {
+  if (play.timer === null) return;
+  pausePlay();
+  startPlay(play.stop);
+}
+
+function goByHand(count) {
+  stopPlay();
+  goTo(count);
+}
+
+function goToTurn(step) {
+  const turns = CLASSICS[exampleShown()]?.turns ?? [];
+  const changes = (event) => event.put !== undefined || event.took !== undefined || event.answer !== undefined;
+  let count = now.run.count + step;
+  while (count > 0 && count < now.run.trace.total && !changes(now.run.trace.event(count)) && !turns.includes(count)) count += step;
+  goByHand(count);
+}
+
+
+const keysOf = { scene: (event) => event }; // what keys do in a scene
+
+function pressKey(event) {
+  if (/^(TEXTAREA|INPUT|SELECT)$/.test(event.target.tagName) && event.target.id !== "slider") return;
+  if (event.ctrlKey || event.metaKey || event.altKey || event.target.closest("[role=slider]") !== null) return;
+  if (event.key === "Escape" && now.place.view !== null) return toggleLecture();
+  if (now.place.screen === "scene") return keysOf.scene(event);
+  const { total } = now.run.trace;
+  const far = now.place.view === "lecture" ? 1 : 10; // what a lecturer's pointer sends
+  const steps = { ArrowRight: 1, ArrowLeft: -1, PageDown: far, PageUp: -far, Home: -total, End: total };
+  if (event.key in steps) {
+    event.preventDefault();
+    if (event.shiftKey && event.key.startsWith("Arrow")) goToTurn(steps[event.key]);
+    else goByHand(now.run.count + steps[event.key]);
+  } else if (event.key === " " && !/^(BUTTON|SUMMARY|A)$/.test(event.target.tagName)) {
+    event.preventDefault();
+    togglePlay();
+  } else if (event.key === "?" || (event.key === "p" && now.prefs.letters)) ({ "?": toggleKeys, p: togglePlay })[event.key]();
+}
+
+function toggleKeys() {
+  byId("key-help").hidden = !byId("key-help").hidden;
+  byId("keys").setAttribute("aria-expanded", String(!byId("key-help").hidden));
+}
+
+function toggleLecture() {
+  const isLeft = document.activeElement === byId("leave");
+  setView(now.place.view === null ? "lecture" : null);
+  show();
+  if (isLeft) (byId("sides-lecture") ?? byId("lecture")).focus();
+}
+return { wantsLessMotion, isPlaying, stopPlay, togglePlay, changeSpeed, goByHand, keysOf, pressKey, toggleKeys, toggleLecture };
+})();
+
+// data/levels.js
+const $data_levels = (() => {
+const BREAK_LEVELS = {
+  lock: {
+    story: "One thread at a time, they say. Let two of them meet.",
+    hints: [
+      "Two adds of different keys, both between 3 and 7.",
+      "Let both threads walk to the same place: pred is the node of 3, curr that of 7.",
+      "Stop A just before it writes pred.next. Let B do its whole add. Then let A end.",
+    ],
+    lacks: "It continues although another thread holds the lock.",
+    others: {
+      "It releases the lock before it writes the arrow.": "it releases the lock only after that",
+      "It writes the arrow of pred before that of its own node.": "it writes the arrow of its own node first",
+    },
+    start: [["add", 5], ["add", 4]], shortest: [20, 2],
+    missing: [{ row: 1, part: "lock the list" }],
+  },
+  "mark-in-remove": {
+    story: "Two threads remove one key. One of them should answer that it came too late.",
+    hints: [
+      "Two removes of the same key, 3.",
+      "Let both threads find the node of 3 before either of them marks it.",
+      "Stop A before the step that sets the mark; let B set its own; then let both end.",
+    ],
+    lacks: "A remove marks a node that is marked already.",
+    others: {
+      "A remove takes its node out before it marks it.": "it marks the node first",
+      "A remove does not look whether its key is there.": "it compares curr.key with its key",
+    },
+    start: [["remove", 3], ["remove", 3]], shortest: [14, 2],
+    missing: [{ row: 9, part: "no mark" }],
+  },
+  mark: {
+    story: "Removing a node is one compare-and-set here. Fast. Too fast?",
+    hints: [
+      "An add of 5, and a remove of the node in front of it.",
+      "The pred of the add must be the node of 3, which the other thread removes.",
+      "Stop A before the step that links 5 in. Let B remove 3. Then one step of A.",
+    ],
+    lacks: "A remove unlinks its node without marking it first.",
+    others: {
+      "A remove marks a node that is marked already.": "it marks no node at all",
+      "An add writes its arrow without comparing.": "it compares with what it saw",
+    },
+    start: [["add", 5], ["remove", 3]], shortest: [15, 2],
+    missing: [{ row: 9, part: "CAS curr.next: succ, no mark → mark" }],
+  },
+  "new-slot": {
+    story: "Each key that is added needs a node of its own. Does it get one?",
+    hints: ["One thread is enough. It adds.", "Two adds of different keys, one after the other.", "Let A add 4, and then 5. Where is 4?"],
+    lacks: "An add writes into the node of its last key.",
+    others: {
+      "An add does not look whether its key is there.": "it compares curr.key with its key",
+      "An add writes its arrow without comparing.": "it compares with what it saw",
+    },
+    start: [["add", 4], ["add", 5]], shortest: [20, 2],
+    missing: [{ row: 5, part: "new " }],
+  },
+  "second-lock": {
+    story: "Hand over hand means two locks at a time. Here one hand stays in the pocket.",
+    hints: [
+      "An add of 5 beside a remove of 3, its neighbour.",
+      "The add must hold the lock of 3 while the other thread removes that node.",
+      "Let B step through its add until just before it writes pred.next, with 3 as its pred. Then try a remove of 3 by A.",
+    ],
+    lacks: "A remove locks only pred, and not the node that it unlinks.",
+    others: {
+      "A remove does not lock pred.": "it locks pred, and keeps that lock until it has written",
+      "A remove releases its lock before it writes.": "it releases its lock only after that",
+    },
+    start: [["remove", 3], ["add", 5]], shortest: [21, 2],
+    missing: [{ row: 3, part: "lock curr," }],
+  },
+  "hand-over-hand": {
+    story: "A walk should never be without a lock, not for one moment.",
+    hints: [
+      "An add of 5 beside a remove of 3, its neighbour.",
+      "There is a moment in which the walk of the add holds no lock. Find it.",
+      "Stop B on its way from the node of 3 to that of 7. Let A remove 3. Then let B end.",
+    ],
+    lacks: "A walk releases one lock before it has the next.",
+    others: {
+      "It releases its locks before it writes.": "it releases them only after that",
+      "A walk does not lock the head.": "it locks the head first of all",
+    },
+    start: [["remove", 3], ["add", 5]], shortest: [24, 2],
+    missing: [{ row: 3, part: "pred still locked" }],
+  },
+  "second-walk": {
+    story: "It locks two nodes, and looks again. But what does it look at?",
+    hints: [
+      "An add of 5 beside a remove of 3, its neighbour.",
+      "The node that the add has found as pred may be unlinked before it is locked.",
+      "Stop A before it locks pred, which is the node of 3. Let B remove 3. Then let A end.",
+    ],
+    lacks: "With the locks it does not walk again: pred may not be in the list any more.",
+    others: {
+      "It does not lock curr.": "it locks pred and curr",
+      "It does not look whether pred still leads to curr.": "it looks at that, with both locks",
+    },
+    start: [["add", 5], ["remove", 3]], shortest: [23, 2],
+    missing: [{ row: 6, part: "walk from the head again" }, { row: 7, part: "until pred is met, else not valid" }],
+  },
+  "marks-in-validation": {
+    story: "Marks are set here. Does everybody read them?",
+    hints: [
+      "An add of 5 beside a remove of 3, its neighbour.",
+      "The node that the add has found as pred may be removed before it is locked.",
+      "Stop A before it locks pred, which is the node of 3. Let B remove 3. Then let A end.",
+    ],
+    lacks: "The validation does not look at the marks.",
+    others: {
+      "The validation does not look whether pred still leads to curr.": "it looks at that, with both locks",
+      "A remove does not mark its node.": "it marks the node before it unlinks it",
+    },
+    start: [["add", 5], ["remove", 3]], shortest: [25, 2],
+    missing: [{ row: 6, part: "pred unmarked," }, { row: 7, part: "and curr unmarked" }],
+  },
+  "mark-in-add": {
+    story: "A marked arrow must not change. Somebody changes it all the same.",
+    hints: [
+      "An add of 5, and a remove of the node in front of it.",
+      "The remove must have marked the node of 3, and done no more.",
+      "Stop A before its last step. Let B remove 3 until it has set the mark. Then let A end.",
+    ],
+    lacks: "An add inserts its node behind a marked one.",
+    others: {
+      "A remove does not mark its node.": "it marks the node before it unlinks it",
+      "An add does not look whether its key is there.": "it compares curr.key with its key",
+    },
+    start: [["add", 5], ["remove", 3]], shortest: [17, 2],
+    missing: [{ row: 7, part: "no mark" }],
+  },
+  "same-node": {
+    story: "The second walk looks for pred. It meets something that looks like it.",
+    hints: [
+      "Three calls: an add of 5, and of the other thread a remove and an add of one key.",
+      "The node of 3 is unlinked, and another node of 3 is inserted.",
+      "Stop A before it locks pred, the old node of 3. Let B remove 3 and add 3 again. Then let A end.",
+    ],
+    lacks: "The second walk looks for the key of pred, and not for the node itself.",
+    others: {
+      "It does not walk a second time.": "it walks from the head again, with its locks",
+      "It does not lock pred.": "it locks pred and curr",
+    },
+    start: [["add", 5], ["remove", 3]], shortest: [36, 3],
+    missing: [{ row: 7, part: "pred is met" }],
+  },
+  "mark-at-key": {
+    story: "A marked node can stay in the chain for a while. Who reads it there?",
+    hints: [
+      "Three calls: an add of 5, a remove of 7, and then a contains of 7.",
+      "A remove whose last compare-and-set fails leaves its node in the chain, marked.",
+      "Stop A before it links 5 in. Let B remove 7 up to its last step. Link 5 in, let B end. Then call contains(7).",
+    ],
+    lacks: "A contains does not look at the mark of the node with its key.",
+    others: {
+      "A remove does not mark its node.": "it marks the node before it unlinks it",
+      "A contains stops before it comes to its key.": "it walks on while curr.key is below its key",
+    },
+    start: [["add", 5], ["remove", 7]], shortest: [26, 3],
+    missing: [{ row: 22, part: "and unmarked" }],
+  },
+  "mark-in-ceiling": {
+    story: "ceiling(2) asks for the smallest key from 2 on. It takes the first node that it finds. Any node?",
+    hints: [
+      "A remove of 3, and a ceiling of 2. Let something end in between.",
+      "The remove has marked the node of 3 and has not ended. A contains of 3 answers false. And then the ceiling?",
+      "Stop A after it set the mark. Let B call contains(3), and then ceiling(2).",
+    ],
+    lacks: "A ceiling does not look at the mark of its node.",
+    others: {
+      "A ceiling stops before it comes to its key.": "it walks on while curr.key is below its key",
+      "A remove does not mark its node.": "it marks the node before it unlinks it",
+    },
+    start: [["remove", 3], ["contains", 3]], shortest: [16, 3],
+    missing: [{ row: 25, part: "if marked: start again;" }],
+  },
+  "mark-in-contains": {
+    story: "Here contains does not look at the mark. No schedule is known after which no order explains the calls. Why not?",
+    hints: [
+      "A remove of 3, and a contains of 3 by the other thread.",
+      "The remove has set its mark and is still pending. So it may come after the contains.",
+      "When the remove has ended, can a new contains still reach its node? In this list a remove ends after the node is unlinked.",
+    ],
+    lacks: "A contains does not look at the mark of its node.",
+    others: {},
+    start: [["remove", 3], ["contains", 3]], shortest: null,
+    missing: [{ row: 22, part: "and unmarked" }],
+  },
+};
+
+const TEN = [
+  "lock", "second-lock", "hand-over-hand", "second-walk", "same-node", "marks-in-validation", "mark-in-remove", "mark", "mark-in-add",
+  "mark-at-key",
+];
+const THREE_MORE = ["new-slot", "mark-in-ceiling", "mark-in-contains"];
+
+const NUMBERED = Object.keys(BREAK_LEVELS);
+const numberOfLevel = (name) => NUMBERED.indexOf(name) + 1;
+const levelOfNumber = (number) => NUMBERED[Number(number) - 1];
+
+const whyWrong = (name, sentence) => `No: ${BREAK_LEVELS[name].others[sentence]}. Look for the line that this list makes differently.`;
+return { BREAK_LEVELS, TEN, THREE_MORE, numberOfLevel, levelOfNumber, whyWrong };
+})();
+
+// run/broken.js
+const $run_broken = (() => {
+const { LACKING } = $made_classics;
+const { readReport, readVerdict } = $engine_answers;
+const { nameOfCall } = $run_judged;
+const { scheduleOfTrace, scheduleText } = $run_schedule_text;
+const { eventsInCommon, isTrace, Trace } = $run_trace;
+const EXPLAINED = "Not broken yet: some order explains this run.";
+const BY_POINTS = "Not by its linearization points: check refuses that order.";
+const OTHER = "Another order explains these replies.";
+const UNKNOWN = "Whether another order explains these replies is not known.";
+const UNEXPLAINED = "No order of these calls explains that (proved).";
+const TO_BREAK = "No order explains what the calls answer (proved)."; // the condition of a lesson
+
+const NO_TASK = "mark-in-contains";
+const isTaskDone = (lacks, { kind }) => kind === "broken" && lacks !== NO_TASK;
+
+const askList = (ask, name, lacks, text) =>
+  lacks === null ? ask(name, text) : ask("listset_lacking", lacks, text, name.slice("listset_".length));
+
+const startOfLacking = (name) => scheduleText({ list: LACKING[name], threads: 2, quota: 2, opening: [3, 7] });
+
+function verdictOnLacking(ask, lacks, schedule) {
+  const { status, text } = askList(ask, "listset_replay", lacks, schedule);
+  if (status !== 0) return { kind: "refused", says: `The schedule is refused: ${text.trim()}`, report: null };
+  const verdict = readVerdict(ask("listset_check_record", text));
+  if (verdict.kind === "fault") return { kind: "refused", says: `The run is not judged: ${verdict.fault.says}.`, report: null };
+  if (verdict.kind === "own") return { kind: "explained", says: EXPLAINED, report: text };
+  if (verdict.kind === "none") {
+    const why = whyNone(text, verdict.why);
+    return { kind: "broken", why, says: `Broken: ${why}. ${UNEXPLAINED}`, report: text };
+  }
+  return { kind: "points", says: `${BY_POINTS} ${verdict.kind === "another" ? OTHER : UNKNOWN}`, report: text };
+}
+
+function whyNone(text, { key, moment, since, isThere, calls }) {
+  if (key === null) return "no order leaves these keys, which do not increase";
+  const isLeft = moment === null;
+  const exercise = readReport(text);
+  if (isLeft && isLost(exercise, key)) return `${key} was added once and never removed, and at the end the set does not have it`;
+  const left = exercise.keys.includes(key) ? "has it" : "does not have it";
+  const then = [...calls.map((call) => callInWords(exercise, call)), ...(isLeft ? [`at the end the set ${left}`] : [])].join(", ");
+  if (since === null) return then === "" ? `the calls of key ${key} have no order` : then;
+  return `${key} is ${isThere ? "there" : "not there"} ${since === "0" ? "at first" : `after event ${since}`}, and then ${then}`;
+}
+
+function isLost({ calls, opening, keys }, key) {
+  const count = (operation) => calls.filter((call) => call.operation === operation && call.reply === "true" && call.key === key).length;
+  const isThere = opening.includes(key) || keys.includes(key);
+  return count("add") === 1 && count("remove") === 0 && !isThere;
+}
+
+function callInWords({ calls }, { thread, begun }) {
+  const call = calls.find((one) => one.thread === thread && one.begun === Number(begun));
+  return `${nameOfCall(call)} ${call.ended === null ? "is open" : `answers ${call.reply}`}`;
+}
+
+function departureOf(ask, trace) {
+  const { text } = ask("listset_trace", scheduleOfTrace(trace));
+  const event = isTrace(text) ? eventsInCommon(trace, new Trace(text, trace.version)) + 1 : Infinity;
+  return event > trace.total ? null : event;
+}
+return { EXPLAINED, TO_BREAK, NO_TASK, isTaskDone, askList, startOfLacking, verdictOnLacking, departureOf };
+})();
+
+// page/visit.js
+const $page_visit = (() => {
+const { CLASSICS } = $made_classics;
+const { LISTS } = $made_rows;
+const { levelOfNumber } = $data_levels;
+const { AddressFault, addressOf, LONGEST_ADDRESS, longLine, partsOfSeed, shortLine, warningOf } = $run_address;
+const { startOfLacking } = $run_broken;
+const { escaped, inLetters } = $run_markup;
+const { eventsAsked } = $run_schedule_text;
+const { HERE, keepUnder, keepWork } = $page_kept;
+const { now, tell } = $page_now;
+const { entryOf } = $page_state;
+const MOMENT = 400; // milliseconds: the bar follows once nothing has moved for so long, since browsers refuse quick changes of it
+const visit = { timer: 0, entry: null, isRead: false, course: null };
+
+const addressHere = () => addressIn(now, visit);
+
+function keepSoon() {
+  clearTimeout(visit.timer);
+  visit.timer = setTimeout(keepNow, MOMENT);
+}
+
+function keepNow() {
+  clearTimeout(visit.timer);
+  keepWork();
+  if (visit.isRead) setAddress();
+}
+
+function setAddress() {
+  const address = addressHere();
+  const entry = entryOf(now);
+  const isNew = visit.entry !== null && visit.entry !== entry;
+  visit.entry = entry;
+  if (now.place.view !== "embed") keepUnder(HERE, address);
+  if (!isNew && location.hash === (address ?? "")) return;
+  const { text, count, lacks } = now.run;
+  const kept = address === null ? { text, count, lacks } : null;
+  const how = isNew ? "pushState" : "replaceState";
+  const place = address ?? location.pathname + location.search;
+  try {
+    history[how](kept, "", place);
+  } catch {
+    history[how](null, "", place); // a state may be too large for a browser
+  }
+}
+
+const linkTo = (address) => location.href.replace(/#.*$/, "") + address;
+
+async function copyLink() {
+  const address = now.run.isRun ? addressHere() : null;
+  if (address === null) return tell("This schedule has no link: it is refused, or too long for an address. Save it as a file.");
+  const link = linkTo(address);
+  const shown = `<code>${escaped(link)}</code>${warningOf(link)}`;
+  tell(`Copy this link: ${shown}`);
+  if (await copied(link)) tell(`The link is copied: ${shown}`);
+}
+
+async function copied(text) {
+  try {
+    await navigator.clipboard.writeText(text);
+    return true;
+  } catch {
+    return false;
+  }
+}
+
+
+const SCENES = ["assignment", "story", "ask", "code", "teachers"]; // run/address.js reads the others, with their schedules
+const SCENE_VIEWS = ["lecture", "embed"];
+
+function sceneOfHash(hash) {
+  const { view = null, ...parts } = Object.fromEntries(new URLSearchParams(hash.replace(/^#/, "")));
+  const activity = SCENES.find((name) => name in parts);
+  if (activity === undefined) return null;
+  if (view !== null && !SCENE_VIEWS.includes(view)) throw new AddressFault(`"${view.slice(0, 60)}" is no view of a page`);
+  const { [activity]: id, ...given } = parts;
+  return { activity, id, given, view };
+}
+
+const START_OF_CODE = [3, 7];
+const linesOfCode = (s) => s.split(",").filter((line) => /^(b\d+\.[a-z]+\.\d+|g\d+\.\d+)$/.test(line)).map(longLine);
+
+const SET_OF_CODE = { threads: 2, quota: 9 };
+
+function addressOfCode(list, opening, lines, set = SET_OF_CODE) {
+  const ofOpening = opening.join() === START_OF_CODE.join() && lines.length === 0 ? "" : `&opening=${opening.join(".")}`;
+  const ofSet = ["threads", "quota"].map((name) => (set[name] === SET_OF_CODE[name] ? "" : `&${name}=${set[name]}`)).join("");
+  return `#code=${list}${ofSet}${ofOpening}${lines.length > 0 ? `&s=${lines.map(shortLine).join()}` : ""}`;
+}
+
+function addressOfLevel({ id }, { text }) {
+  const name = levelOfNumber(id);
+  if (id === "" || text === "" || text === startOfLacking(name)) return id === "" ? "#break" : `#break=${id}`;
+  return `#break=${id}&${addressOf(text, eventsAsked(text))?.slice(1) ?? ""}`;
+}
+
+function addressOfLesson({ id }, { text }, { course }) {
+  const named = `${course === null ? "#" : `${course}&`}learn${id === "" ? "" : `=${id}`}`;
+  const own = text === "" ? null : addressOf(text, eventsAsked(text));
+  const whole = own === null ? named : `${named}&${own.slice(1)}`;
+  return whole.length <= LONGEST_ADDRESS ? whole : named;
+}
+
+const addressOfAssignment = ({ id, given }) => `#${new URLSearchParams({ assignment: id, ...given })}`.replaceAll("%2C", ",");
+
+const plainAddress = ({ activity, id }) => `#${activity}${id === "" ? "" : `=${id}`}`;
+
+const ADDRESSES = {
+  code: ({ id, given }, { text }) => text || `#${new URLSearchParams({ code: id, ...given })}`,
+  compare: (place, { text }) => text || plainAddress(place),
+  break: addressOfLevel,
+  learn: addressOfLesson,
+  assignment: addressOfAssignment,
+};
+
+const addressOfScene = ({ place, scene }, given) =>
+  `${(ADDRESSES[place.activity] ?? plainAddress)(place, scene, given)}${place.view === null ? "" : `&view=${place.view}`}`;
+
+
+function ofRun(state) {
+  const { task, run } = state;
+  if (task.kind === "own") return addressOf(run.text, run.count, run.lacks);
+  return `#${task.kind}=${task.id}&event=${run.count}`;
+}
+
+function addressIn(state, given) {
+  const { place, exercise } = state;
+  if (place.screen === "scene") return addressOfScene(state, given);
+  const view = place.view === null ? "" : `&view=${place.view}`;
+  const address = ofRun(state);
+  return address === null ? null : `${address}${exercise === null ? "" : "&judge"}${view}`;
+}
+
+const WHOLE = "Why not just one lock?";
+
+function titleIn(state, titleOfScene) {
+  const { place, task, run } = state;
+  const list = run.trace === null ? "" : LISTS[run.trace.kind].name;
+  if (place.screen === "scene") return titleOfScene(place);
+  const judged = state.exercise === null ? "" : "Judge: ";
+  const ofTask = {
+    example: () => `${judged}${inLetters(CLASSICS[task.id].question)}`,
+    seed: () => `${judged}Run ${partsOfSeed(task.id).number} of ${list}`,
+    own: () => `${judged}${task.work}: ${list}`,
+  };
+  return `${ofTask[task.kind]()} · ${WHOLE}`;
+}
+return { visit, keepSoon, keepNow, linkTo, copyLink, copied, sceneOfHash, START_OF_CODE, linesOfCode, SET_OF_CODE, addressOfCode, addressOfAssignment, addressIn, titleIn };
+})();
+
 // made/traces.js
 const $made_traces = (() => {
 // What the engine prints of the classic examples, by make_traces.js: shown where a browser cannot run it.
@@ -2331,1338 +4603,6 @@ end
 return { EXAMPLES, TRACES };
 })();
 
-// engine/answers.js
-const $engine_answers = (() => {
-const linesIn = (text) => text.trimEnd().split("\n");
-
-function callOfReport(line) {
-  const [, id, thread, operation, key, begun, ended, reply = null] = line.split(" ");
-  const end = ended === "open" ? null : Number(ended);
-  return { id: Number(id), thread: Number(thread), operation, key: Number(key), begun: Number(begun), ended: end, reply };
-}
-
-function callOfRecording(line) {
-  const [, thread, operation, key, begun, ended, reply] = line.split(" ");
-  const isOpen = ended === "-";
-  const moments = { begun: BigInt(begun), ended: isOpen ? null : BigInt(ended) };
-  return { thread: Number(thread), operation, key: Number(key), ...moments, reply: isOpen ? null : reply };
-}
-
-function readReport(text) {
-  const lines = linesIn(text);
-  const linesOf = (word) => lines.filter((line) => line.startsWith(`${word} `));
-  const valuesOf = (word) => linesOf(word).map((line) => line.split(" ").slice(1));
-  return {
-    head: [...lines.slice(0, 4), ...linesOf("opening")],
-    threads: Number(lines[2].split(" ")[1]),
-    opening: valuesOf("opening").map(([key]) => Number(key)),
-    calls: linesOf("call").map(callOfReport),
-    callLines: linesOf("call"),
-    places: valuesOf("place").map(([call, reply]) => ({ call: Number(call), reply })),
-    keys: valuesOf("key").map(([key]) => Number(key)),
-    keyLines: linesOf("key"),
-  };
-}
-
-function callsOfRecording(text, most) {
-  const calls = [];
-  for (const [line] of text.matchAll(/^call .*$/gm)) {
-    if (calls.length === most) break;
-    calls.push(callOfRecording(line));
-  }
-  return calls;
-}
-
-const leavesKey = (text, key) => new RegExp(`^key ${key}$`, "m").test(text);
-
-const readExamples = (text) =>
-  linesIn(text).map((line) => {
-    const [name, kind] = line.split(/ +/);
-    return { name, kind };
-  });
-
-function readFault(text) {
-  const says = text.trim();
-  const [, line = null, cause = null] = /^listset: line (\d+): (\w+)$/.exec(says) ?? [];
-  return { line: line === null ? null : Number(line), cause, says };
-}
-
-function readVerdict({ text }) {
-  const lines = linesIn(text);
-  const find = (word) => lines.find((line) => line.startsWith(`${word} `)) ?? null;
-  const valuesOf = (word) => find(word)?.split(" ").slice(1) ?? [];
-  const [kind = "fault"] = valuesOf("verdict");
-  if (kind === "fault") return { kind, fault: readFault(text), order: null, why: null };
-  const [[count], [cut], [key = null], [moment = null]] = ["calls", "cut", "key", "moment"].map(valuesOf);
-  const [[since = null, there], [hidden, first, last]] = ["since", "hidden"].map(valuesOf);
-  const by = find("by")?.slice("by ".length);
-  const why = {
-    key: key === null ? null : Number(key),
-    moment, // up to which the calls have no order; null: the key is left otherwise
-    since, // from which moment on they have none; 0: from the beginning; null: not known
-    isThere: there === "true",
-    by: by === undefined ? null : callOfRecording(by),
-    calls: lines.filter((line) => line.startsWith("call ")).map(callOfRecording),
-    hidden: hidden === undefined ? null : { count: Number(hidden), first, last },
-  };
-  const ofCalls = { count: Number(count), overlapped: Number(valuesOf("overlapped")[0]), isCutOff: cut === "true" };
-  return { kind, ...ofCalls, order: orderIn(valuesOf("order"), valuesOf("set")), why: kind === "none" ? why : null };
-}
-
-const FAULT_VALUES = {
-  HistoryReply: ["call", "reply"],
-  SetReply: ["call", "reply", "place", "answer"],
-  TooEarly: ["call", "begun", "other", "ended"],
-  WrongSet: [],
-};
-
-function orderIn([fault, ...values], keys) {
-  if (fault === undefined) return null;
-  return { fault, set: `{${keys.join(", ")}}`, ...Object.fromEntries((FAULT_VALUES[fault] ?? ["call"]).map((name, at) => [name, values[at]])) };
-}
-
-
-function sentenceOn(ask, cause, ...kinds) {
-  if (!cause) return null;
-  const told = ask("listset_faults").text;
-  const parts = kinds.map((kind) => told.split(`, in ${kind};`)[1]?.split("\n\n")[0] ?? "");
-  const [, said] = new RegExp(`^  ${cause} +((?:.|\n {12})+)`, "m").exec(parts.join("\n")) ?? [];
-  return said === undefined ? null : said[0].toLowerCase() + said.slice(1).replace(/\n +/g, " ").replace(/\.( .*)?$/, "");
-}
-return { readReport, callsOfRecording, leavesKey, readExamples, readFault, readVerdict, sentenceOn };
-})();
-
-// made/classics.js
-const $made_classics = (() => {
-// What docs/CLASSIC.md says, by page/build: of each example its question, the answer, the events that decide it, what goes
-// wrong without it, and which lists of its kind lack that check; and the kind of each list that lacks one.
-
-const CLASSICS = {
-  "failed-tries": {
-    "question": "Two threads add one key at the same time. Which of them adds it?",
-    "turnsOn": "The one that takes the lock. A failed attempt is a step too, and leaves the thread at its row. Thread 1 stays at row 1 until the lock is released, and then finds the key.",
-    "without": "Both walk over one old link, and the second write loses the node of the first (lock).",
-    "turns": [4, 15],
-    "lacks": ["lock"]
-  },
-  "full": {
-    "question": "A thread with one slot adds 5, removes it and adds 7. Is there a slot for 7?",
-    "turnsOn": "No: each slot is used once, so no thread ever reaches a node that holds another key than before. full changes nothing, and is correct from the begin of its call.",
-    "without": "A slot that is used again changes the key of a node at which other threads may be (new-slot).",
-    "turns": [14, 19],
-    "lacks": []
-  },
-  "hand-over-hand": {
-    "question": "Thread 0 has locked the head and 9, to add 5 between them. Thread 1 wants to remove 9. How far does it get?",
-    "turnsOn": "Not even to the head, until thread 0 releases the head's lock. Then it goes hand over hand: it releases the head's lock only when it holds that of 5.",
-    "without": "A walk that holds no lock can be at an unlinked node, and lose the key that it adds behind that node (hand-over-hand). So can a walk beside a remove that locks only pred (second-lock).",
-    "turns": [17, 28],
-    "lacks": ["hand-over-hand", "second-lock"]
-  },
-  "same-gap": {
-    "question": "Both threads have walked without locks to the gap between head and tail. Thread 1 adds its key first. What does thread 0 do once it has its two locks?",
-    "turnsOn": "It looks at pred again: the head leads to the node of 7 now. So it releases its locks and walks again.",
-    "without": "A validation that only finds pred, and does not look where it leads, links 5 to the tail, and 7 is lost.",
-    "turns": [12, 17],
-    "lacks": []
-  },
-  "stale-pred": {
-    "question": "Thread 0 has found pred = 3 and curr = tail. Thread 1 removes 3, whose node still leads to the tail. May thread 0 write?",
-    "turnsOn": "No: an unlinked node keeps its link. Thread 0 walks once more from the head, and gets past the key of pred without reaching pred.",
-    "without": "5 is added behind an unlinked node (second-walk). A walk that looks for the key of pred, and not for the node, may find another node with that key (same-node).",
-    "turns": [24, 30],
-    "lacks": ["second-walk", "same-node"]
-  },
-  "marked-in-chain": {
-    "question": "Thread 1 has marked the node of 5 and has not unlinked it yet. Thread 0 walks to that node. What does its contains(5) answer?",
-    "turnsOn": "false: the mark removes the key from the set. That the node is still in the chain does not matter. contains reads its link, sees the mark, and takes no lock for it.",
-    "without": "true is correct at none of its moments (mark-in-contains). But the remove is still pending, and an order with the contains before it explains both. No history of that broken list is known that no order explains.",
-    "turns": [20, 24],
-    "lacks": ["mark-in-contains"]
-  },
-  "marked-pred": {
-    "question": "As in stale-pred, but this list has no second walk. What warns thread 0?",
-    "turnsOn": "The mark in the link of pred, which a remove sets before it unlinks the node. One load does the work of OptimisticList's second walk.",
-    "without": "5 is added behind the node of 3, which is unlinked (marks-in-validation).",
-    "turns": [25, 31],
-    "lacks": ["marks-in-validation"]
-  },
-  "read-in-anothers-step": {
-    "question": "Just after each of thread 0's own events, 5 is in the set. Its contains(5) answers false. Is that right?",
-    "turnsOn": "Yes: between two of its events thread 1 removed 5, and added it again in another node. The call takes effect at event 23, a step of thread 1.",
-    "without": "A proof that looks for the linearization point among the call's own steps finds none, though the list is correct. check refuses the order that puts the contains last.",
-    "turns": [23, 36, 39],
-    "lacks": []
-  },
-  "ceiling-in-anothers-step": {
-    "question": "Just after each of thread 0's own events, the smallest key from 6 on is 7, or there is none. Its ceiling(6) answers 9. Is that right?",
-    "turnsOn": "Yes: it was 9 from event 15 until event 38, and all events between are steps of thread 1. The walk was at the node of 5 when that was unlinked, and its link still leads to 9.",
-    "without": "A ceiling that started again at each mark would answer 7 here, which is no better, and removes of smaller keys could send it back.",
-    "turns": [15, 38, 43],
-    "lacks": []
-  },
-  "opens-with-keys": {
-    "question": "Two keys are there at the start, one is removed, one is added. Why does the last add answer full?",
-    "turnsOn": "The thread's one slot is n2. The opening keys have nodes of their own and count as nobody's adds, and a remove frees no slot.",
-    "without": "A set that counts opening keys as adds answers full to the add of 7; one that uses slots again adds 8. check refuses either reply.",
-    "turns": [25, 36],
-    "lacks": []
-  },
-  "two-removers": {
-    "question": "Two threads have found the node of 5, unmarked, and want to remove it. Which of them does?",
-    "turnsOn": "The one whose exchange sets the mark. The exchange of the other compares link and mark together, and fails. That thread walks again and answers false.",
-    "without": "A remove that marks a marked node answers true too, and 5 is removed twice (mark-in-remove).",
-    "turns": [18, 20],
-    "lacks": ["mark-in-remove"]
-  },
-  "snip": {
-    "question": "Thread 0 has marked the node of 5 and stops there. Thread 1 wants to add 7 behind it. Does it have to wait?",
-    "turnsOn": "No: thread 1 unlinks the marked node itself. The exchange of thread 0 fails then, and thread 0 still answers true, since it has set the mark.",
-    "without": "An add that ignores the mark links 7 behind the node of 5, and 7 is unlinked with it (mark-in-add). Without marks no add could know (mark).",
-    "turns": [17, 23],
-    "lacks": ["mark-in-add", "mark"]
-  },
-  "tries-again": {
-    "question": "Both threads are at the gap between head and tail, each with a node ready. Thread 1 is first. What happens to thread 0's node?",
-    "turnsOn": "The exchange of thread 0 expects the tail, sees the node of 7, and fails. Thread 0 walks again and writes the same slot anew: no other thread has seen it, so it is not used up.",
-    "without": "With a store in place of the exchange, the head would lead to 5, and 7 would be lost.",
-    "turns": [14, 20],
-    "lacks": []
-  },
-  "left-in-chain": {
-    "question": "Thread 1's remove of 5 has answered. Which nodes are in the chain, and what does a contains(5) answer that begins only then?",
-    "turnsOn": "The node of 5 is still there, marked: the head led to 3 when the remover tried to unlink it. The next add or remove that walks there unlinks it. contains sees the mark: false.",
-    "without": "It answers true (mark-at-key). The remove had ended before, and nobody adds 5 again, so no order explains these calls.",
-    "turns": [21, 27],
-    "lacks": ["mark-at-key"]
-  },
-  "ceiling-meets-mark": {
-    "question": "Thread 0's ceiling(3) has come to the node of 5. Before it looks at the mark, thread 1 removes 5. What does it answer, and when is that correct?",
-    "turnsOn": "The mark is looked at last (row 25). The call finds one, starts again at the head, and comes to the tail: nothing, which is correct from the mark on.",
-    "without": "Here 5 would be right too, since the remove began after the ceiling. In the next example it would not.",
-    "turns": [18, 20],
-    "lacks": []
-  },
-  "ceiling-left-in-chain": {
-    "question": "The remove of 5 has ended, and its node is still in the chain. What may a ceiling(4) answer, and how often may it walk?",
-    "turnsOn": "Not 5: the mark sends it back to the head, each time it comes to that node. Thread 1's walk unlinks the node; the second walk of the ceiling answers 7, which was added after the call had begun.",
-    "without": "It answers 5, which nobody adds again, so no order explains these calls. LazyList's ceiling needs the same look at the mark (mark-in-ceiling).",
-    "turns": [27, 33, 43],
-    "lacks": []
-  },
-  "behind-the-walk": {
-    "question": "Thread 0 has read the link of the head, which leads to 9. Thread 1 adds 5 in between. May the ceiling(3) of thread 0 answer 9?",
-    "turnsOn": "Yes: at the moment of that read there was no key between. The call takes effect at its begin, so before the add, although the add ended first.",
-    "without": "No broken list lacks this. Each node of the walk was in the chain, with the link that was read, at some moment of the call. Along other links the walk could miss a key that was always there.",
-    "turns": [9, 16],
-    "lacks": []
-  },
-  "nothing-in-anothers-step": {
-    "question": "Just after each of thread 0's own events, 7 is in the set. Its ceiling(6) answers that there is no key. Is that right?",
-    "turnsOn": "Yes: between two of its events thread 1 removed 7 and then 5, and added 7 again. The link of the node of 5 led to the tail when the node was marked, and no exchange changes a marked link.",
-    "without": "No broken list lacks this either: the link beside the mark was in the chain during the call.",
-    "turns": [11, 28],
-    "lacks": []
-  }
-};
-
-const LACKING = {
-  "lock": "coarse",
-  "second-lock": "fine",
-  "hand-over-hand": "fine",
-  "second-walk": "optimistic",
-  "same-node": "optimistic",
-  "marks-in-validation": "lazy",
-  "mark-in-contains": "lazy",
-  "mark-in-ceiling": "lazy",
-  "mark": "lock-free",
-  "mark-in-add": "lock-free",
-  "mark-in-remove": "lock-free",
-  "mark-at-key": "lock-free",
-  "new-slot": "lock-free"
-};
-return { CLASSICS, LACKING };
-})();
-
-// run/judged.js
-const $run_judged = (() => {
-const { readReport, readVerdict } = $engine_answers;
-const { callText, letterOf, openReply } = $run_markup;
-const MOST_JUDGED = 60; // events of a run that is judged
-
-const LEVELS = {
-  points: { name: "points alone", task: "The replies are shown. Where does each call take effect?", hidden: ["change", "effect"] },
-  replies: {
-    name: "replies and points",
-    task: "What does each call answer, and where does it take effect?",
-    hidden: ["change", "reply", "leftInChain", "effect"],
-  },
-  claim: {
-    name: "any order at all?",
-    task: "Can a set give these replies? Give an order that explains the report, or say that there is none.",
-    hidden: [],
-  },
-};
-
-function exerciseOf(text, level, isWhole = true) {
-  const report = readReport(text);
-  const last = Math.max(1, ...report.calls.flatMap((call) => [call.begun, call.ended ?? 0]));
-  return { ...report, level, isWhole, reportText: text, last };
-}
-
-const nameOfCall = (call) => `${callText(call)} of ${letterOf(call.thread)}`;
-const lastMoment = (exercise, call) => call.ended ?? exercise.last;
-
-function repliesOf(exercise, { operation }) {
-  if (operation === "add") return ["true", "false", "full"];
-  if (operation !== "ceiling") return ["true", "false"];
-  const added = exercise.calls.filter((call) => call.operation === "add").map(({ key }) => key);
-  const keys = [...new Set([...exercise.opening, ...added])].sort((one, other) => one - other);
-  return ["nothing", ...keys.map((key) => `at-${key}`)];
-}
-
-class OwnAnswer {
-  constructor(exercise) {
-    this.exercise = exercise;
-    this.points = new Map(); // by the call's number: { at, turn }
-    this.replies = new Map();
-    this.turn = 0;
-    this.isNone = false;
-  }
-
-  place(call, at) {
-    const within = Math.min(Math.max(Math.round(2 * at) / 2, call.begun), lastMoment(this.exercise, call));
-    if (this.points.get(call.id)?.at !== within) this.points.set(call.id, { at: within, turn: this.turn++ });
-  }
-
-  take(call) {
-    this.points.delete(call.id);
-  }
-
-  say(call, reply) {
-    this.replies.set(call.id, reply);
-  }
-
-  replyOf(call) {
-    if (call.ended === null) return openReply;
-    return this.exercise.level === "replies" ? (this.replies.get(call.id) ?? null) : call.reply;
-  }
-
-  order() {
-    const calls = this.exercise.calls.filter(({ id }) => this.points.has(id));
-    const placed = calls.map((call) => ({ call, ...this.points.get(call.id) }));
-    placed.sort((one, other) => one.at - other.at || one.turn - other.turn);
-    return placed.map(({ call, at }) => ({ call, at, reply: this.replyOf(call) }));
-  }
-
-  unsaid() {
-    const lackOf = (call) => [this.points.has(call.id) ? "" : "point", this.replyOf(call) === null ? "reply" : ""].filter((it) => it !== "");
-    const lacking = this.exercise.calls.filter((call) => call.ended !== null && lackOf(call).length > 0);
-    return lacking.map((call) => `the ${lackOf(call).join(" and the ")} of ${nameOfCall(call)}`);
-  }
-}
-
-function reportOfAnswer(answer) {
-  const { head, callLines, keyLines } = answer.exercise;
-  const places = answer.order().map(({ call, reply }) => `place ${call.id} ${reply}`);
-  return [...head, ...callLines, ...places, ...keyLines, "end", ""].join("\n");
-}
-
-function verdictOn(ask, answer) {
-  const unsaid = answer.unsaid();
-  if (answer.isNone) return verdictOnClaim(ask, answer.exercise);
-  const nothing = { isRight: null, clash: null, report: null };
-  if (unsaid.length > 0) return { ...nothing, says: `Still missing: ${unsaid.join(", ")}.` };
-  const report = reportOfAnswer(answer);
-  const { kind, fault, order } = readVerdict(ask("listset_check_record", report));
-  if (kind === "fault") return { ...nothing, says: `This order is not judged: ${fault.says}.` };
-  if (order === null) return { isRight: true, clash: null, report, says: rightInWords(answer) };
-  const clash = order.call === undefined ? null : Number(order.call);
-  return { isRight: false, clash, report, says: faultInWords(answer, order) };
-}
-
-function verdictOnClaim(ask, { isWhole, reportText }) {
-  const said = (isRight, says) => ({ isRight, clash: null, report: null, says });
-  const there = "There is one: this is a run of a correct list, and each of those has an order (proved). Find it.";
-  if (isWhole) return said(false, there);
-  const { kind, fault } = readVerdict(ask("listset_check_record", reportText));
-  if (kind === "fault") return said(null, `Whether there is none is not judged: ${fault.says}.`);
-  if (kind === "none") return said(true, "Right: no order explains this report (proved). It comes from a broken list.");
-  if (kind === "unknown") return said(null, "This report comes from a broken list, and whether an order explains it is not known.");
-  return said(false, "There is one, although this report comes from a broken list. Find it.");
-}
-
-function rightInWords(answer) {
-  if (!answer.exercise.isWhole) return "check says ok: this order explains the report, so this schedule does not break the list.";
-  const own = answer.order().map(({ call, reply }) => `${call.id}-${reply}`);
-  const isSame = own.join() === answer.exercise.places.map(({ call, reply }) => `${call}-${reply}`).join();
-  const also = isSame ? "It is also the order of the replayer." : "The replayer has another one: both explain the run.";
-  return `check says ok: this order explains the run. ${also}`;
-}
-
-function faultInWords(answer, { fault, call, place, reply, set, answer: due, begun, other, ended }) {
-  const named = (id) => nameOfCall(answer.exercise.calls[Number(id)]);
-  if (fault === "SetReply") {
-    const before = Number(place) === 1 ? "before your first call" : `after ${named(answer.order()[Number(place) - 2].call.id)} in your order`;
-    return `${named(call)} cannot answer ${reply} there: ${before} the set is ${set}, and it would answer ${due}.`;
-  }
-  if (fault === "HistoryReply") return `${named(call)} does not answer ${reply} in this run. Look at what it sees before it answers.`;
-  if (fault === "TooEarly") {
-    return `${named(call)} begins at event ${begun}, and in your order it comes before ${named(other)}, which ended at event ${ended}.`;
-  }
-  if (fault === "WrongSet") return `Your order leaves the set ${set}; at the end of this run it is {${answer.exercise.keys.join(", ")}}.`;
-  return `This is no order of the calls of this run (${fault}).`;
-}
-
-const wordOfAnswer = (answer) => (answer.isNone ? "none" : answer.order().map(({ call, reply }) => `${call.id}-${reply}`).join());
-
-function answerOfWord(exercise, word) {
-  const answer = new OwnAnswer(exercise);
-  if (word === "none") return Object.assign(answer, { isNone: true });
-  let at = 0;
-  for (const piece of word.split(",")) {
-    const [, id, reply] = /^(\d{1,5})-([a-z0-9-]+)$/.exec(piece) ?? [];
-    const call = exercise.calls[id];
-    if (call === undefined || answer.points.has(call.id)) return null;
-    at = Math.max(at, call.begun);
-    answer.points.set(call.id, { at, turn: answer.turn++ });
-    answer.say(call, reply);
-  }
-  return answer;
-}
-return { MOST_JUDGED, LEVELS, exerciseOf, nameOfCall, lastMoment, repliesOf, OwnAnswer, reportOfAnswer, verdictOn, wordOfAnswer, answerOfWord };
-})();
-
-// run/schedule_text.js
-const $run_schedule_text = (() => {
-const { HEADER_LINES, isTrace, Trace } = $run_trace;
-function scheduleText({ list, threads, quota, opening = [], version = null }, lines = []) {
-  const needed = opening.length > 0 || lines.some((line) => line.includes(" ceiling ")) ? 2 : 1;
-  const head = [`listset-schedule ${version ?? needed}`, `list ${list}`, `threads ${threads}`, `quota ${quota}`];
-  return [...head, ...opening.map((key) => `opening ${key}`), ...lines, ""].join("\n");
-}
-
-const TITLE_OF_SECOND = "listset-schedule 2";
-const versionOf = (schedule) => (schedule.startsWith(`${TITLE_OF_SECOND}\n`) ? 2 : 1);
-
-function scheduleOfTrace(trace, count = trace.total) {
-  const lines = [];
-  let [steps, before] = [0, null];
-  for (let number = 1; number <= count; number++) {
-    const event = trace.event(number);
-    const goesOn = before === event.line;
-    steps = goesOn ? steps + 1 : 1;
-    if (event.deed === "begin") lines.push(`begin ${event.thread} ${event.call.operation} ${event.call.key}`);
-    else if (goesOn) lines[lines.length - 1] = `go ${event.thread} ${steps}`;
-    else lines.push(`go ${event.thread} ${steps}`);
-    before = event.line;
-  }
-  return scheduleText({ ...trace, list: trace.kind }, lines);
-}
-
-function openingIn(schedule) {
-  const lines = schedule.split("\n").slice(HEADER_LINES);
-  const count = lines.findIndex((line) => !line.startsWith("opening "));
-  return lines.slice(0, count === -1 ? lines.length : count).map((line) => line.slice("opening ".length));
-}
-
-function withOpening(schedule, keys) {
-  const lines = schedule.split("\n");
-  lines.splice(HEADER_LINES, openingIn(schedule).length, ...keys.map((key) => `opening ${key}`));
-  if (keys.length > 0 && lines[0] === "listset-schedule 1") lines[0] = TITLE_OF_SECOND;
-  return lines.join("\n");
-}
-
-function eventsAsked(text) {
-  let count = 0;
-  for (const [, steps] of text.matchAll(/^(?:begin |go \d+ (\d+)$)/gm)) count += Number(steps ?? 1);
-  return count;
-}
-
-
-const MOST_TRIED = 1000; // steps of a thread that does not come to where it is sent, to see for what it waits
-const DRAFT_LINE = /^go \d+ (?:out|to \d+)$/m;
-
-function scheduleOfDraft(ask, text, lacks = null) {
-  if (!DRAFT_LINE.test(text)) return { text, fault: null };
-  if (lacks !== null) return scheduleOfLackingDraft(ask, lacks, text);
-  const made = ask("listset_draft", text.replace(/^listset-(?:schedule|draft) [12]$/m, "listset-draft 2"));
-  return made.status === 0 ? { text: made.text, fault: null } : { text: null, fault: made.text.trim() };
-}
-
-function stepsOfLacking(ask, lacks, lines, thread, row) {
-  const fault = (cause) => ({ count: null, fault: `listset: line ${lines.length + 1}: ${cause}` });
-  const { text } = ask("listset_lacking", lacks, `${[...lines, `go ${thread} ${MOST_TRIED}`].join("\n")}\n`, "trace");
-  if (!isTrace(text)) return { count: null, fault: text.trim() };
-  const steps = new Trace(text).events().filter(({ line }) => line === lines.length + 1);
-  const end = steps.findIndex(({ answer }) => answer !== undefined);
-  const at = row === undefined ? end : steps.findIndex(({ answer, changes }) => answer === undefined && changes.pc === Number(row));
-  if (at !== -1) return { count: at + 1, fault: null };
-  return fault(end !== -1 || steps.length === 0 ? "Idle" : "Waits");
-}
-
-function scheduleOfLackingDraft(ask, lacks, text) {
-  const lines = [];
-  for (const line of text.split("\n").slice(0, -1)) {
-    const asked = /^go (\d+) (?:out|to (\d+))$/.exec(line);
-    const { count, fault } = asked === null ? { count: null, fault: null } : stepsOfLacking(ask, lacks, lines, asked[1], asked[2]);
-    if (fault !== null) return { text: null, fault };
-    lines.push(asked === null ? line : `go ${asked[1]} ${count}`);
-  }
-  return { text: [...lines, ""].join("\n"), fault: null };
-}
-return { scheduleText, versionOf, scheduleOfTrace, openingIn, withOpening, eventsAsked, scheduleOfDraft };
-})();
-
-// run/broken.js
-const $run_broken = (() => {
-const { LACKING } = $made_classics;
-const { readReport, readVerdict } = $engine_answers;
-const { nameOfCall } = $run_judged;
-const { scheduleOfTrace, scheduleText } = $run_schedule_text;
-const { eventsInCommon, isTrace, Trace } = $run_trace;
-const EXPLAINED = "Not broken yet: some order explains this run.";
-const BY_POINTS = "Not by its linearization points: check refuses that order.";
-const OTHER = "Another order explains these replies.";
-const UNKNOWN = "Whether another order explains these replies is not known.";
-const UNEXPLAINED = "No order of these calls explains that (proved).";
-const TO_BREAK = "No order explains what the calls answer (proved)."; // the condition of a lesson
-
-const NO_TASK = "mark-in-contains";
-const isTaskDone = (lacks, { kind }) => kind === "broken" && lacks !== NO_TASK;
-
-const askList = (ask, name, lacks, text) =>
-  lacks === null ? ask(name, text) : ask("listset_lacking", lacks, text, name.slice("listset_".length));
-
-const startOfLacking = (name) => scheduleText({ list: LACKING[name], threads: 2, quota: 2, opening: [3, 7] });
-
-function verdictOnLacking(ask, lacks, schedule) {
-  const { status, text } = askList(ask, "listset_replay", lacks, schedule);
-  if (status !== 0) return { kind: "refused", says: `The schedule is refused: ${text.trim()}`, report: null };
-  const verdict = readVerdict(ask("listset_check_record", text));
-  if (verdict.kind === "fault") return { kind: "refused", says: `The run is not judged: ${verdict.fault.says}.`, report: null };
-  if (verdict.kind === "own") return { kind: "explained", says: EXPLAINED, report: text };
-  if (verdict.kind === "none") {
-    const why = whyNone(text, verdict.why);
-    return { kind: "broken", why, says: `Broken: ${why}. ${UNEXPLAINED}`, report: text };
-  }
-  return { kind: "points", says: `${BY_POINTS} ${verdict.kind === "another" ? OTHER : UNKNOWN}`, report: text };
-}
-
-function whyNone(text, { key, moment, since, isThere, calls }) {
-  if (key === null) return "no order leaves these keys, which do not increase";
-  const isLeft = moment === null;
-  const exercise = readReport(text);
-  if (isLeft && isLost(exercise, key)) return `${key} was added once and never removed, and at the end the set does not have it`;
-  const left = exercise.keys.includes(key) ? "has it" : "does not have it";
-  const then = [...calls.map((call) => callInWords(exercise, call)), ...(isLeft ? [`at the end the set ${left}`] : [])].join(", ");
-  if (since === null) return then === "" ? `the calls of key ${key} have no order` : then;
-  return `${key} is ${isThere ? "there" : "not there"} ${since === "0" ? "at first" : `after event ${since}`}, and then ${then}`;
-}
-
-function isLost({ calls, opening, keys }, key) {
-  const count = (operation) => calls.filter((call) => call.operation === operation && call.reply === "true" && call.key === key).length;
-  const isThere = opening.includes(key) || keys.includes(key);
-  return count("add") === 1 && count("remove") === 0 && !isThere;
-}
-
-function callInWords({ calls }, { thread, begun }) {
-  const call = calls.find((one) => one.thread === thread && one.begun === Number(begun));
-  return `${nameOfCall(call)} ${call.ended === null ? "is open" : `answers ${call.reply}`}`;
-}
-
-function departureOf(ask, trace) {
-  const { text } = ask("listset_trace", scheduleOfTrace(trace));
-  const event = isTrace(text) ? eventsInCommon(trace, new Trace(text, trace.version)) + 1 : Infinity;
-  return event > trace.total ? null : event;
-}
-return { EXPLAINED, TO_BREAK, NO_TASK, isTaskDone, askList, startOfLacking, verdictOnLacking, departureOf };
-})();
-
-// made/book.js
-const $made_book = (() => {
-// The lessons of book.course, by page/build.
-
-const BOOK_NAME = "The twelve lessons of the five lists";
-const BOOK = [
-  "listset-course 1",
-  "# A course of lessons, as text. Copy this file, change it, and open it on the page (Learn, Open a course) or try it with",
-  "#     node page/check_lessons.js FILE",
-  "# A line that begins with # is a comment. The lessons follow after \"course NAME\". The words of a lesson, in this order:",
-  "#   lesson      a name of its own, of small letters, digits and -",
-  "#   title       as the student reads it",
-  "#   list        coarse, fine, optimistic, lazy or lock-free",
-  "#   lacks       the name of a check that the list lacks (docs/CLASSIC.md): a solution breaks it. It needs no goal",
-  "#   threads, quota   as in a schedule",
-  "#   opening     the initial keys, with a space between; none if the line is missing",
-  "#   start       the schedule's lines with which the student begins",
-  "#   question    what is asked; teaches: what it shows, once it is solved; hint; answer: the lines that solve it, after the start",
-  "#   goal        what the run of a solution shows; dead-ends: runs that cannot reach it, and what to say of them",
-  "# The lines of start, question, teaches, hint, answer, goal and dead-ends come below these words, each after two spaces. All of",
-  "# these but question and goal may be missing. In start and answer, \"go 0 to 4\" means steps until thread 0 is at row 4, and",
-  "# \"go 1 out\" steps until the call of thread 1 has ended. A course is checked when it is read: the start of a lesson must not reach",
-  "# its goal, its answer must.",
-  "#",
-  "# A goal is a list of lines. Each finds something in the run and gives it a name, or asks for more of what has a name:",
-  "#   call C of 0: contains, answers false      a call of thread 0 (\"call C: ..\" one of any thread)",
-  "#   step S in C: last, sees a mark            a step of that call (\"step S of 0: ..\", \"step S: ..\")",
-  "#   rest R of 0: holding 2                    a time in which thread 0 makes no step, and holds two locks",
-  "#   5 steps of 1: tries in vain a lock of 0   at least five such steps; \"3 calls of 1: ..\" three such calls",
-  "#   all calls ended                           no call is pending",
-  "#   say ..                                    a condition as the student reads it: all lines above it hold together",
-  "# Of a call: add, remove, contains, ceiling, key K, answers true (false, full, nothing, at-K), answers a key, ended, open,",
-  "#   begins after X, takes effect after X, ends during X, within R, its key always in the set, a smaller key always in the set,",
-  "#   its node in the chain at its end",
-  "# Of a step: row N (it makes this row), to row N (and goes to that), without a reply, fails, tries in vain a lock of T,",
-  "#   sees a mark, reads a link, in the chain, out of the chain (its node is), holding N (its thread holds N locks), last,",
-  "#   pred leads to curr, at another node than S, after X, by another thread than X, in R, takes out the node of C",
-  "# Of a rest: holding N",
-  "# Dead ends are goals, one below another, each up to its line \"say ..\", which is shown if a wrong run meets it.",
-  "",
-  "course The twelve lessons of the five lists",
-  "",
-  "lesson one-lock",
-  "title The one lock",
-  "list coarse",
-  "threads 3",
-  "quota 4",
-  "start",
-  "  begin 0 add 5",
-  "  begin 1 add 6",
-  "  begin 2 add 7",
-  "question",
-  "  Three adds have begun: first that of thread 0, last that of thread 2. Let them take effect in the",
-  "  opposite order. While thread 2 holds the lock, thread 0 must try to take it; again while thread 1",
-  "  holds it. All three adds answer true.",
-  "teaches",
-  "  Coarse-grained synchronization: one lock for the whole list, held from the first read to the last",
-  "  write. A failed attempt is a step too. Linearizability requires that each call takes effect at one",
-  "  moment between its begin and its end, its linearization point: of two calls that overlap either",
-  "  may come first, whichever began first.",
-  "hint",
-  "  A call takes effect while its thread holds the lock. Thread 0 has begun, but it has made no step yet.",
-  "answer",
-  "  go 2 1",
-  "  go 0 1",
-  "  go 2 6",
-  "  go 1 1",
-  "  go 0 1",
-  "  go 1 6",
-  "  go 0 7",
-  "goal",
-  "  call A of 0: add",
-  "  call B of 1: add, begins after A",
-  "  call C of 2: add, begins after B",
-  "  say The threads 0, 1 and 2 begin an add each, in this order.",
-  "  1 steps in A: tries in vain a lock of 2",
-  "  say Thread 0 tries to lock the list while thread 2 holds the lock.",
-  "  1 steps in A: tries in vain a lock of 1",
-  "  say Thread 0 tries to lock the list while thread 1 holds the lock.",
-  "  call B: takes effect after C",
-  "  call A: takes effect after B",
-  "  say The add of thread 2 takes effect first, that of thread 0 last.",
-  "  call A: answers true",
-  "  call B: answers true",
-  "  call C: answers true",
-  "  say All three answer true.",
-  "dead-ends",
-  "  call A of 0: add, key 5, ended",
-  "  call B of 1: add, open",
-  "  say The add of thread 0 has ended before that of thread 1. Undo to where thread 0 does not hold the lock.",
-  "  call A of 0: add, key 5, ended",
-  "  call B of 1: add, takes effect after A",
-  "  say The add of thread 0 has taken effect before that of thread 1. Undo, or press Start over.",
-  "",
-  "lesson hand-over-hand",
-  "title Hand over hand",
-  "list fine",
-  "threads 2",
-  "quota 4",
-  "opening 3 6 9",
-  "start",
-  "  begin 0 contains 9",
-  "  begin 1 contains 9",
-  "question",
-  "  Both threads look for 9. Let thread 1 follow thread 0 so closely that it has to wait at two",
-  "  different nodes, each time holding one lock and waiting for one that thread 0 holds. Then let both",
-  "  calls end.",
-  "teaches",
-  "  Fine-grained synchronization, hand over hand: a thread releases the lock of pred only when it",
-  "  holds that of curr. So the threads stay in the order in which they entered the list: none overtakes",
-  "  another, and none changes a node at which another is.",
-  "hint",
-  "  Thread 0 holds two locks when it is at row 4 or 5. Let it move one node further after each failed",
-  "  attempt of thread 1.",
-  "answer",
-  "  go 0 8",
-  "  go 1 3",
-  "  go 0 3",
-  "  go 1 5",
-  "  go 0 3",
-  "  go 1 8",
-  "goal",
-  "  call C of 1",
-  "  step S in C: tries in vain a lock of 0, holding 1",
-  "  say Thread 1 holds one lock, and waits for another one that thread 0 holds.",
-  "  step T in C: tries in vain a lock of 0, holding 1, at another node than S",
-  "  say It does so at two different nodes in one call.",
-  "  all calls ended",
-  "  say Both calls have ended.",
-  "dead-ends",
-  "  call A of 0: contains, key 9, ended",
-  "  call B of 1: contains, key 9, ended",
-  "  say Both calls have ended, and thread 1 did not wait twice. Undo, or press Start over.",
-  "",
-  "lesson two-at-once",
-  "title Two at once",
-  "list fine",
-  "threads 2",
-  "quota 4",
-  "opening 3 6 9",
-  "start",
-  "  begin 0 remove 9",
-  "question",
-  "  Thread 0 removes 9. Stop it when it holds two locks; then let thread 1 begin an add and end it",
-  "  with true, while thread 0 makes no step.",
-  "teaches",
-  "  What many locks gain over one: calls in different parts of the list go on at the same time. What",
-  "  they do not gain: nobody passes the thread that stands still, so only the part before it is free.",
-  "hint",
-  "  Thread 1 passes all nodes before the gap of its key, and locks the one behind the gap too. Which",
-  "  nodes are free?",
-  "answer",
-  "  go 0 12",
-  "  begin 1 add 1",
-  "  go 1 9",
-  "goal",
-  "  call A of 1: add, answers true",
-  "  say Thread 1 has an add that answers true.",
-  "  rest R of 0: holding 2",
-  "  call A: within R",
-  "  say From its begin to its end thread 0 holds two locks and makes no step.",
-  "dead-ends",
-  "  call R of 0: remove, key 9, ended",
-  "  say The remove has ended: thread 0 holds no locks any more. Undo, or let it begin another call.",
-  "  call A of 1: add, answers true",
-  "  rest R of 0: holding 1",
-  "  call A: within R",
-  "  say While that add began and ended, thread 0 held only one lock. Let it step on until it holds two.",
-  "",
-  "lesson changed-link",
-  "title The changed link",
-  "list optimistic",
-  "threads 2",
-  "quota 4",
-  "opening 3 9",
-  "start",
-  "  begin 0 remove 9",
-  "question",
-  "  Thread 0 removes 9. Let its validation fail because pred does not lead to curr any more, and",
-  "  let its remove answer true in the end.",
-  "teaches",
-  "  Optimistic synchronization: walk without locks, lock pred and curr, and then validate, that is, look",
-  "  whether what the walk found still holds. If it does not, release the locks and start again.",
-  "  Here it is the last part of the validation that fails: pred.next == curr.",
-  "hint",
-  "  Thread 0 has found 3 and 9 when it comes to row 4. What can thread 1 put between them before thread",
-  "  0 has its locks?",
-  "answer",
-  "  go 0 4",
-  "  begin 1 add 5",
-  "  go 1 14",
-  "  go 0 24",
-  "goal",
-  "  call C of 0",
-  "  step S in C: row 8, to row 14, without a reply",
-  "  say A validation of thread 0 fails: pred does not lead to curr.",
-  "  call C: remove, answers true",
-  "  say The call in which it fails is a remove that answers true.",
-  "dead-ends",
-  "  call R of 0: remove, answers true",
-  "  say The remove has answered true without such a failure. Undo to where it has not taken its locks yet.",
-  "  call R of 0: remove, answers false",
-  "  say The remove has answered false: its key is gone. Undo, or let it remove another key.",
-  "",
-  "lesson lost-pred",
-  "title The lost predecessor",
-  "list optimistic",
-  "threads 2",
-  "quota 4",
-  "opening 3 9",
-  "start",
-  "  begin 0 add 5",
-  "question",
-  "  Thread 0 adds 5. Let its second walk miss pred, at a moment at which the link of pred still leads",
-  "  to curr; and let its add answer true in the end.",
-  "teaches",
-  "  Why OptimisticList walks twice. A removed node keeps its link, so pred.next == curr alone does not",
-  "  tell whether pred is still reachable from the head. A validation by the link alone would insert 5",
-  "  behind a removed node, and the key would be lost.",
-  "hint",
-  "  pred must be a node that thread 1 can remove. When is the last moment for that?",
-  "answer",
-  "  go 0 4",
-  "  begin 1 remove 3",
-  "  go 1 9",
-  "  go 0 16",
-  "goal",
-  "  call C of 0",
-  "  step S in C: row 7, to row 14, without a reply",
-  "  say The second walk of a call of thread 0 goes past the key of pred and has not met pred.",
-  "  step S: pred leads to curr",
-  "  say At that moment the link of pred leads to curr.",
-  "  call C: add, answers true",
-  "  say The call is an add that answers true.",
-  "dead-ends",
-  "  call A of 0: add, answers true",
-  "  say The add has answered true, and its second walk did not miss pred in this way. Undo to where it has found its place.",
-  "",
-  "lesson marked-in-chain",
-  "title Marked, and still in the chain",
-  "list lazy",
-  "threads 2",
-  "quota 4",
-  "opening 5",
-  "start",
-  "  begin 1 remove 5",
-  "question",
-  "  Let a contains of thread 0 find the node of its key in the chain, and answer false.",
-  "teaches",
-  "  Lazy synchronization: a remove marks the node (the logical removal), and then unlinks it (the",
-  "  physical removal). The mark is its linearization point: a key is in the set exactly as long as an",
-  "  unmarked node of the chain has it.",
-  "hint",
-  "  Between which two rows of its remove has thread 1 marked the node and not unlinked it yet?",
-  "answer",
-  "  go 1 7",
-  "  begin 0 contains 5",
-  "  go 0 3",
-  "goal",
-  "  call C of 0: contains, answers false",
-  "  step S in C: last",
-  "  say A contains of thread 0 answers false.",
-  "  step S: sees a mark",
-  "  say Its last step reads the link of the node that has its key, and sees the mark.",
-  "  step S: in the chain",
-  "  say That node is in the chain then.",
-  "dead-ends",
-  "  call C of 0: contains, answers true",
-  "  say This contains has answered true: the node had no mark yet. Undo to where it has not looked at the mark.",
-  "  call R of 1: remove, ended",
-  "  call C of 0: contains, begins after R",
-  "  say That remove has ended, so its node is not in the chain any more. Undo to where the node is marked.",
-  "",
-  "lesson stopped-thread",
-  "title The stopped thread",
-  "list lazy",
-  "threads 3",
-  "quota 4",
-  "opening 5",
-  "start",
-  "  begin 0 remove 5",
-  "  begin 1 add 7",
-  "question",
-  "  Stop thread 0 for a while. In this time let thread 1 try five times to take a lock that thread 0",
-  "  has, and let thread 2 begin a contains and end it.",
-  "teaches",
-  "  add and remove of LazyList block: one thread that stops while it holds a lock can delay them for ever.",
-  "  contains is wait-free: it takes no lock, and ends after a bounded number of its own steps, whatever",
-  "  the other threads do.",
-  "hint",
-  "  Which two nodes does thread 1 lock to add 7? If thread 0 holds only the lock of the head, it is not in",
-  "  the way.",
-  "answer",
-  "  go 0 5",
-  "  go 1 9",
-  "  begin 2 contains 5",
-  "  go 2 3",
-  "goal",
-  "  rest R of 0",
-  "  5 steps of 1: tries in vain a lock of 0, in R",
-  "  say While thread 0 makes no step, thread 1 tries five times to take a lock that thread 0 holds.",
-  "  call C of 2: contains, within R",
-  "  say In the same time a contains of thread 2 begins and ends.",
-  "dead-ends",
-  "  call R of 0: remove, ended",
-  "  say The remove of thread 0 has ended: it holds no lock any more. Undo, or let it begin another call.",
-  "  call A of 1: add, ended",
-  "  say The add of thread 1 has ended: it did not have to wait so long. Undo to where thread 0 holds both its locks.",
-  "",
-  "lesson over-removed-nodes",
-  "title Over removed nodes",
-  "list lazy",
-  "threads 2",
-  "quota 4",
-  "opening 5 9",
-  "start",
-  "  begin 0 contains 9",
-  "  go 0 2",
-  "question",
-  "  Thread 0 looks for 9 and has reached 5. Let it read the link of a node that is not in the chain, and",
-  "  answer true.",
-  "teaches",
-  "  A walk without locks may be at a node that is removed meanwhile. That does no harm: the node",
-  "  keeps its link, which leads on to larger keys and back into the chain, and it is not used again as",
-  "  long as a thread may be there, since each slot is used once.",
-  "hint",
-  "  At which node is thread 0, and what can thread 1 do with it?",
-  "answer",
-  "  begin 1 remove 5",
-  "  go 1 10",
-  "  go 0 3",
-  "goal",
-  "  call C of 0: contains",
-  "  step S in C: reads a link, out of the chain",
-  "  say A contains of thread 0 reads the link of a node that is not in the chain.",
-  "  call C: answers true",
-  "  say It answers true.",
-  "dead-ends",
-  "  call C of 0: contains, ended",
-  "  say This contains has ended, and it read no link of a removed node on its way, or its key was gone. Undo, or press Start over.",
-  "",
-  "lesson in-anothers-step",
-  "title In the step of another thread",
-  "list lazy",
-  "threads 2",
-  "quota 4",
-  "opening 5",
-  "start",
-  "  begin 0 contains 5",
-  "question",
-  "  Let contains(5) of thread 0 answer false, although 5 is in the set just after each of its own",
-  "  events, from the begin to the answer.",
-  "teaches",
-  "  The linearization point of a contains that answers false need not be one of its own steps: here it",
-  "  is a step of thread 1. Which one it is can be told only afterwards, from what the other threads did.",
-  "hint",
-  "  Between two events of thread 0, thread 1 may end two calls.",
-  "answer",
-  "  go 0 2",
-  "  begin 1 remove 5",
-  "  go 1 10",
-  "  begin 1 add 5",
-  "  go 1 11",
-  "  go 0 1",
-  "goal",
-  "  call C of 0: contains, answers false",
-  "  say A contains of thread 0 answers false.",
-  "  call C: its key always in the set",
-  "  say Just after each of its own events its key is in the set.",
-  "dead-ends",
-  "  call C of 0: contains, answers true",
-  "  say This contains has answered true: it saw its key. Undo to where it has not looked at the mark yet.",
-  "  call C of 0: contains, answers false",
-  "  say It answers false, but just after one of its own events its key was not in the set. Add it again before that event.",
-  "",
-  "lesson left-to-others",
-  "title Left to others",
-  "list lock-free",
-  "threads 2",
-  "quota 4",
-  "opening 5",
-  "start",
-  "  begin 1 remove 5",
-  "question",
-  "  Let a remove answer true while its node is still in the chain. Then let another thread unlink this",
-  "  node.",
-  "teaches",
-  "  Non-blocking synchronization: mark and link are exchanged together, by one compareAndSet. A remove",
-  "  that has marked its node tries once to unlink it. If that fails, find does it, that is, the walk",
-  "  of a later add or remove: so nobody waits for the remover.",
-  "hint",
-  "  The one attempt of thread 1 fails if the link of its pred has changed since its walk. And a contains",
-  "  unlinks no node.",
-  "answer",
-  "  begin 0 add 3",
-  "  go 0 5",
-  "  go 1 5",
-  "  go 0 1",
-  "  go 1 1",
-  "  begin 0 add 7",
-  "  go 0 10",
-  "goal",
-  "  call C: remove, answers true",
-  "  say A remove answers true.",
-  "  call C: its node in the chain at its end",
-  "  say Just after its end its node is in the chain.",
-  "  step S: after C, by another thread than C, takes out the node of C",
-  "  say Later another thread unlinks this node.",
-  "dead-ends",
-  "  call C: remove, answers true",
-  "  step S in C: takes out the node of C",
-  "  say This remove has unlinked its node itself, by its last step. Undo to before that, and let the link of its pred change first.",
-  "",
-  "lesson not-wait-free",
-  "title Lock-free is not wait-free",
-  "list lock-free",
-  "threads 2",
-  "quota 4",
-  "start",
-  "  begin 0 add 5",
-  "question",
-  "  Let an add of thread 0 fail three times to link its node in, and let thread 1 end three calls while",
-  "  it is pending.",
-  "teaches",
-  "  Lock-free: of so many steps of add and remove, by whichever threads, one ends its call. This is",
-  "  proved here, with the number (Read, the tables, Progress). Each failed exchange of this add is owed",
-  "  to another thread, which has changed the link. Wait-free would say that every call ends after",
-  "  finitely many of its own steps. An add of this list is not: others may change the link each time.",
-  "hint",
-  "  Each time thread 0 is about to exchange the link of pred (row 7), let thread 1 change that link",
-  "  first.",
-  "answer",
-  "  go 0 5",
-  "  begin 1 add 9",
-  "  go 1 6",
-  "  go 0 6",
-  "  begin 1 add 8",
-  "  go 1 6",
-  "  go 0 6",
-  "  begin 1 add 7",
-  "  go 1 6",
-  "  go 0 1",
-  "goal",
-  "  call A of 0: add",
-  "  3 steps in A: row 7, fails",
-  "  say An add of thread 0 fails three times to link its node in.",
-  "  3 calls of 1: ended, ends during A",
-  "  say While that add is pending, thread 1 ends three calls.",
-  "dead-ends",
-  "  call A of 0: add, ended",
-  "  say That add has ended. Undo to where it is about to exchange the link of pred.",
-  "",
-  "lesson ceiling-in-anothers-step",
-  "title A ceiling in another thread's step",
-  "list lock-free",
-  "threads 2",
-  "quota 4",
-  "opening 5 7 9",
-  "start",
-  "  begin 0 ceiling 6",
-  "question",
-  "  ceiling(6) asks for the smallest key from 6 on. Let that of thread 0 answer 9, although just after each",
-  "  of its own events the set has a smaller key from 6 on.",
-  "teaches",
-  "  ceiling is a call of this project and not of the book: the walk of contains, up to the first key",
-  "  that is not below its own. It takes no lock; if the node at which it stops is marked, it starts",
-  "  again, and so it is not wait-free. Its linearization point, too, may be a step of another thread.",
-  "hint",
-  "  A removed node keeps the link that it had at its removal. At which node can thread 0 be, and",
-  "  where must that node lead?",
-  "answer",
-  "  go 0 2",
-  "  begin 1 remove 7",
-  "  go 1 8",
-  "  begin 1 remove 5",
-  "  go 1 6",
-  "  begin 1 add 7",
-  "  go 1 6",
-  "  go 0 3",
-  "goal",
-  "  call C of 0: ceiling, answers a key",
-  "  say A ceiling of thread 0 answers a key.",
-  "  call C: a smaller key always in the set",
-  "  say Just after each of its own events the set has a smaller key that is not below the one asked for.",
-  "dead-ends",
-  "  call C of 0: ceiling, answers at-7",
-  "  say This ceiling has answered 7. Undo to where it is at the node of 5.",
-  "  call C of 0: ceiling, answers at-9",
-  "  say It answers 9, but just after one of its own events no smaller key from 6 on was in the set. Add one before that event.",
-  "",
-].join("\n");
-return { BOOK_NAME, BOOK };
-})();
-
-// page/state.js
-const $page_state = (() => {
-/**
- * @typedef {object} Place  A scene has the id of what is shown there, and `given`, what else its address says.
- * @property {string} activity  that of a scene (activities/views.js); of the bench "watch" or "judge"
- * @property {"stage" | "scene"} screen
- * @property {string} id
- * @property {Record<string, string>} given
- * @property {"lecture" | "embed" | "list" | "history" | null} view
- * @typedef {object} Scene  How far one is in a scene.
- * @property {"" | "task" | "again" | "guess" | "playing" | "moment" | "done"} stage
- * @property {number | null} chosen  the answer that was pressed; -1 where it was to be shown
- * @property {string} note
- * @property {string} text  the schedule of its run, where the address has it
- * @property {number} hints
- * @property {number} at  the branch that is shown
- * @property {any[]} branches
- * @property {string[]} wrong  wrong answers, so far
- * @typedef {object} Run  What was run: the text, its trace, the list without a check (or null), and the state after `count` events.
- * @property {string} text
- * @property {any} trace
- * @property {any} state
- * @property {number} count
- * @property {string | null} lacks
- * @property {string} source  who ran it, in words
- * @property {boolean} isRun  whether the trace is that of the text
- * @property {number | null} faultLine
- * @typedef {"own" | "example" | "seed"} Kind
- * @typedef {object} Task  What the run is for: of which kind, its id, the name under which tries are kept, and the text with which it begins.
- * @property {Kind} kind
- * @property {string} id
- * @property {string} work
- * @property {string} begun
- * @typedef {{ hides: boolean, allThreads: boolean, letters: boolean }} Prefs
- * @typedef {{ place: Place, scene: Scene, run: Run, task: Task, exercise: any, prefs: Prefs }} State
- * @typedef {{ [name: string]: any, type: string }} Action
- */
-
-const NO_TASK_YET = { kind: "own", id: "", work: "", begun: "" };
-
-/** @type {Scene} */
-const SCENE_AT_FIRST = { stage: "", chosen: null, note: "", text: "", hints: 0, at: 0, branches: [], wrong: [] };
-
-/** @returns {State} */
-const stateAtFirst = () => ({
-  place: { activity: "watch", screen: "stage", id: "", given: {}, view: null },
-  scene: SCENE_AT_FIRST,
-  run: { text: "", trace: null, state: null, count: 0, lacks: null, source: "", isRun: false, faultLine: null },
-  task: /** @type {Task} */ ({ ...NO_TASK_YET }),
-  exercise: null,
-  prefs: { hides: true, allThreads: false, letters: true },
-});
-
-/** The activity to which a run belongs. @param {State} state */
-const activityOfRun = ({ exercise }) => (exercise !== null ? "judge" : "watch");
-
-/** The example that is shown, or "". @param {State} state */
-const exampleIn = ({ task }) => (task.kind === "example" ? task.id : "");
-
-/** A run has the stage of its activity. @param {State} state @returns {State} */
-const onStage = (state) => ({ ...state, place: { ...state.place, activity: activityOfRun(state), screen: "stage", id: "", given: {} } });
-
-const within = (count, { total }) => Math.max(0, Math.min(total, count));
-
-/** @type {Record<string, (state: State, action: Action) => State>} */
-const MAKES = {
-  place: (state, { activity, screen, id = "", given = {} }) =>
-    ({ ...state, place: { ...state.place, activity, screen, id, given }, scene: SCENE_AT_FIRST }),
-  scene: (state, { type, ...given }) => ({ ...state, scene: { ...state.scene, ...given } }),
-  view: (state, { view }) => ({ ...state, place: { ...state.place, view } }),
-  task: (state, { task, lacks = null }) =>
-    onStage({ ...state, task: { ...NO_TASK_YET, ...task }, run: { ...state.run, lacks }, exercise: null }),
-  text: (state, { text }) => ({ ...state, run: { ...state.run, text } }),
-  trace(state, { trace, state: ofTrace, source, count }) {
-    const isGood = trace.refused === null;
-    const faultLine = isGood ? null : trace.refused.line;
-    const run = { ...state.run, trace, state: ofTrace, source, lacks: trace.lacks, isRun: true, faultLine, count: within(count, trace) };
-    return { ...state, run, exercise: null };
-  },
-  begun: (state, { begun }) => ({ ...state, task: { ...state.task, begun } }),
-  source: (state, { source }) => ({ ...state, run: { ...state.run, source } }),
-  fault: (state, { line, isOld }) => ({ ...state, run: { ...state.run, faultLine: line, isRun: !isOld } }),
-  count: (state, { count }) => ({ ...state, run: { ...state.run, count: within(count, state.run.trace) } }),
-  exercise: (state, { exercise }) => onStage({ ...state, exercise }),
-  prefs: (state, { type, ...given }) => ({ ...state, prefs: { ...state.prefs, ...given } }),
-};
-
-/** What an action makes of a state. @param {State} state @param {Action} action @returns {State} */
-function reduce(state, action) {
-  const make = MAKES[action.type];
-  if (make === undefined) throw new Error(`no action is called "${action.type}"`);
-  return make(state, action);
-}
-
-/** What an entry of the browser's history is: a place or a task, and not a step of its run. @param {State} state */
-function entryOf({ place, task, exercise }) {
-  const ofRun = place.screen === "stage" ? [task.kind, task.id, exercise !== null] : [place.id, JSON.stringify(place.given)];
-  return [place.activity, place.screen, place.view, ...ofRun].join("\n");
-}
-return { stateAtFirst, exampleIn, reduce, entryOf };
-})();
-
-// page/now.js
-const $page_now = (() => {
-const { readFault, sentenceOn } = $engine_answers;
-const { LEVELS } = $run_judged;
-const { scheduleOfTrace } = $run_schedule_text;
-const { State } = $run_state;
-const { byId } = $page_dom;
-const { exampleIn, reduce, stateAtFirst } = $page_state;
-const NO_ENGINE = "The replayer does not run in this browser: no schedule can be run, no report checked. A file of listset trace can be opened.";
-
-const now = stateAtFirst();
-/** @type {{ engine: any, render: () => void }} */
-const held = { engine: null, render: () => {} };
-
-function change(type, given = {}) {
-  Object.assign(now, reduce(now, { ...given, type }));
-}
-
-const show = () => held.render();
-
-function dispatch(type, given) {
-  change(type, given);
-  show();
-}
-
-const listeners = { taken: [], ran: [], kept: [], recorded: [], course: [] };
-const on = (what, ...deeds) => listeners[what].push(...deeds);
-
-function announce(what, ...given) {
-  for (const deed of listeners[what]) deed(...given);
-}
-
-const isJudging = () => now.exercise !== null;
-const hiddenOutcomes = () => (isJudging() ? LEVELS[now.exercise.level].hidden : []);
-const exampleShown = () => exampleIn(now);
-
-function goTo(count) {
-  tell("");
-  dispatch("count", { count });
-}
-
-function tell(text) {
-  if (told.text === text && byId("told").innerHTML === told.html) return;
-  byId("told").innerHTML = text;
-  Object.assign(told, { text, html: byId("told").innerHTML });
-}
-const told = { text: "", html: "" };
-
-function takeTrace(trace, at, source) {
-  const { refused } = trace;
-  const state = trace.before !== null && trace.before === now.run.trace ? now.run.state.goOn(trace) : new State(trace);
-  trace.before = null; // its text is not kept any longer
-  change("trace", { trace, state, source, count: typeof at === "function" ? at(trace) : at });
-  announce("taken", trace);
-  tellFault(now.run.faultLine, refused?.cause ?? "", refused === null ? "" : `line ${refused.line}: ${refused.cause}`, false);
-  tell("");
-  show();
-}
-
-function takeScheduleOfTrace() {
-  const text = scheduleOfTrace(now.run.trace);
-  change("text", { text });
-  change("begun", { begun: text });
-  byId("schedule").value = text;
-  byId("opening").value = now.run.trace.opening.join(" ");
-}
-
-function askNow(name, ...texts) {
-  if (held.engine === null) return { status: 1, text: NO_ENGINE };
-  try {
-    return held.engine.ask(name, ...texts);
-  } catch (fault) {
-    return { status: 1, text: fault.message };
-  }
-}
-
-function tellFault(line, cause, said, isOld = true) {
-  change("fault", { line, isOld });
-  byId("stage").classList.toggle("old", isOld);
-  byId("old").hidden = !isOld;
-  const why = sentenceOn(askNow, cause, "a schedule", "a draft");
-  byId("fault").textContent = why === null ? said : `${said}: ${why}`;
-}
-
-const tellTrouble = (said) => (byId("fault").textContent = said);
-
-function tellLine(text) {
-  const { line, cause } = readFault(text);
-  tellFault(line, cause ?? "", text);
-}
-return { NO_ENGINE, now, held, change, show, dispatch, on, announce, isJudging, hiddenOutcomes, exampleShown, goTo, tell, takeTrace, takeScheduleOfTrace, askNow, tellFault, tellTrouble, tellLine };
-})();
-
-// page/kept.js
-const $page_kept = (() => {
-const { BOOK_NAME } = $made_book;
-const { CLASSICS } = $made_classics;
-const { byId } = $page_dom;
-const { announce, held, now } = $page_now;
-const KEPT = "listset-page-2";
-const KEPT_BEFORE = "listset-page"; // one text, as the page kept it before
-const HERE = "listset-here"; // the address of what was shown last
-const MOST_WORKS = 60; // the oldest ones go
-
-function keptUnder(name) {
-  try {
-    return JSON.parse(localStorage.getItem(name));
-  } catch {
-    return null;
-  }
-}
-
-function keepUnder(name, value) {
-  try {
-    localStorage.setItem(name, JSON.stringify(value));
-    return true;
-  } catch {
-    return false;
-  }
-}
-
-const isText = (value) => typeof value === "string";
-const isWork = (kept) => typeof kept?.text === "string" && typeof kept.box === "string" && Number.isInteger(kept.count);
-const KINDS = ["own", "example", "lesson", "seed"];
-const isTask = (task) => KINDS.includes(task?.kind) && isText(task.id) && isText(task.course);
-
-function taskOfName(name) {
-  const [, lesson, course = BOOK_NAME] = /^lesson ([a-z0-9-]+)(?: of (.+?))?(?: \d+)?$/.exec(name) ?? [];
-  if (lesson !== undefined) return { kind: "lesson", id: lesson, course };
-  const [, example] = /^from ([a-z-]+)(?: \d+)?$/.exec(name) ?? [];
-  if (Object.hasOwn(CLASSICS, example)) return { kind: "example", id: example, course: "" };
-  return { kind: "own", id: "", course: "" };
-}
-
-/** @type {(entry: any[]) => [string, any]} */
-const workOf = ([name, kept]) => [name, { ...kept, task: isTask(kept.task) ? kept.task : taskOfName(name) }];
-
-const works = {
-  /** @type {Map<string, any>} */
-  byName: new Map(),
-  isKept: true,
-
-  load() {
-    const kept = keptUnder(KEPT);
-    const before = keptUnder(KEPT_BEFORE);
-    const entries = Array.isArray(kept) ? kept : isWork(before) ? [["my schedule", before]] : [];
-    const isGood = (entry) => Array.isArray(entry) && isText(entry[0]) && isWork(entry[1]);
-    this.byName = new Map(entries.filter(isGood).map(workOf));
-  },
-
-  set(name, work) {
-    this.byName.delete(name);
-    this.byName.set(name, work);
-    const names = [...this.byName.keys()];
-    for (const old of names.slice(0, Math.max(0, names.length - MOST_WORKS))) this.byName.delete(old);
-    this.isKept = keepUnder(KEPT, [...this.byName]);
-  },
-
-  last(isWanted) {
-    return [...this.byName].findLast(([, work]) => isWanted(work))?.[0] ?? null;
-  },
-
-  nameOf(text, lacks = null) {
-    return this.last((work) => work.text === text && (work.lacks ?? null) === lacks);
-  },
-
-  newName(word) {
-    for (let number = 1; ; number++) {
-      const name = number === 1 ? word : `${word} ${number}`;
-      if (!this.byName.has(name)) return name;
-    }
-  },
-};
-
-function keepWork() {
-  const box = byId("schedule").value;
-  const { run, task } = now;
-  const isLookedAt = box === run.text && run.text === task.begun;
-  if (held.engine === null || run.text === "" || isLookedAt || task.work === "") return;
-  const before = works.byName.get(task.work);
-  if (before?.text === run.text && before.box === box && before.count === run.count) return;
-  const { kind, id } = task;
-  works.set(task.work, { text: run.text, box, count: run.count, lacks: run.lacks, task: { kind, id, course: "" } });
-  announce("kept");
-}
-return { HERE, keptUnder, keepUnder, isText, works, keepWork };
-})();
-
 // engine/engine.js
 const $engine_engine = (() => {
 const FIRST_ROOM = 1 << 22; // bytes handed to the engine for its answer, at first
@@ -3765,44 +4705,9 @@ function blockOf(engine, length) {
 return { FIRST_ROOM, LARGE_MEMORY, Engine, answerOf, textsOf, answerInRoom, blockOf };
 })();
 
-// engine/worker.js
-const $engine_worker = (() => {
-const { answerInRoom, answerOf, blockOf, Engine, FIRST_ROOM, LARGE_MEMORY, textsOf } = $engine_engine;
-const EVENT_ROOM = 96; // bytes of a trace's line, so that the engine is asked once
-
-const workerText = (room) => `"use strict";
-const FIRST_ROOM = ${room};
-const LARGE_MEMORY = ${LARGE_MEMORY};
-${[Engine, answerOf, textsOf, answerInRoom, blockOf].join("\n")}
-onmessage = ({ data: { module, name, given } }) => {
-  try {
-    const { status, bytes } = new Engine(module).askBytes(name, given);
-    postMessage({ status, bytes }, [bytes.buffer]);
-  } catch (fault) {
-    postMessage({ status: 1, bytes: new TextEncoder().encode(fault.message) });
-  }
-};`;
-
-function askInWorker(module, name, text, events) {
-  const place = URL.createObjectURL(new Blob([workerText(FIRST_ROOM + EVENT_ROOM * events)], { type: "text/javascript" }));
-  const worker = new Worker(place);
-  const came = new Promise((done) => {
-    worker.onerror = () => done(null);
-    worker.onmessage = ({ data }) => done({ status: data.status, text: new TextDecoder().decode(data.bytes) });
-    worker.postMessage({ module, name, given: new TextEncoder().encode(text) });
-  });
-  const answer = came.finally(() => {
-    worker.terminate();
-    URL.revokeObjectURL(place);
-  });
-  return { worker, answer };
-}
-return { askInWorker };
-})();
-
 // page/long_run.js
 const $page_long_run = (() => {
-const { askInWorker } = $engine_worker;
+const { answerInRoom, answerOf, blockOf, Engine, FIRST_ROOM, LARGE_MEMORY, textsOf } = $engine_engine;
 const { eventsAsked } = $run_schedule_text;
 const { byId } = $page_dom;
 const { askNow, held, now, tellFault } = $page_now;
@@ -3852,187 +4757,38 @@ function cancelLong() {
   stopLong();
   tellFault(null, "", "The run was cancelled. Run begins it again.");
 }
-return { MANY_EVENTS, LONG_TEXT, askLong, runLong, stopLong, cancelLong };
-})();
-
-// page/seen.js
-const $page_seen = (() => {
-const { byId, setHidden } = $page_dom;
-const { change } = $page_now;
-const isStage = ({ screen }) => screen === "stage";
-
-function factsOf(state, { hasEngine }) {
-  const { place, run, task, exercise } = state;
-  return {
-    ...place,
-    hasEngine,
-    kind: task.kind,
-    isJudging: exercise !== null,
-    isClaim: exercise?.level === "claim",
-    isBroken: run.lacks !== null,
-  };
-}
-
-const isFull = ({ view }) => view === null;
-const isSlide = ({ view }) => view === "lecture";
-const isFree = ({ isClaim }) => !isClaim; // of a claim there is no run to step through
-
-const SEEN = {
-  top: isFull,
-  leave: ({ view }) => view !== null && view !== "embed",
-  scene: ({ screen }) => screen === "scene",
-  bench: ({ screen }) => screen !== "scene",
-  task: (facts) => isStage(facts) && (isFull(facts) || isSlide(facts)),
-  stage: isStage,
-  workshop: (facts) => isStage(facts) && isFull(facts),
-  "question-box": ({ kind, isJudging }) => kind === "example" && !isJudging,
-  "own-head": ({ kind }) => kind === "own",
-  "seed-box": ({ kind }) => kind === "seed",
-  "judge-head": ({ activity }) => activity === "judge",
-  "go-on-here": (facts) => facts.activity !== "judge" && isFull(facts) && facts.hasEngine,
-  past: ({ isJudging, view }) => !isJudging && view !== "list",
-  ticks: ({ isJudging }) => !isJudging,
-  judge: ({ isJudging }) => isJudging,
-  "judge-moments": ({ isClaim }) => isClaim,
-  "judge-note": isFree,
-  "judge-levels": ({ isBroken }) => !isBroken,
-  "report-box": ({ isJudging, hasEngine }) => !isJudging && hasEngine,
-  dock: (facts) => isStage(facts) && isFree(facts),
-  "run-figure": isFree,
-  "key-help-box": isFree,
-  "threads-box": isFree,
-  "table-box": isFree,
-  "listing-box": (facts) => isFree(facts) && !facts.isBroken,
-  told: isFull,
-  order: isFull,
-  "no-engine": ({ hasEngine }) => hasEngine === false,
-};
 
 
-function showParts(state) {
-  const facts = factsOf(state, { hasEngine: services.hasEngine });
-  for (const [id, isSeen] of Object.entries(SEEN)) setHidden(byId(id), !isSeen(facts), byId("skip"));
-  const { activity, screen, view } = state.place;
-  const key = [activity, screen, view, facts.hasEngine].join();
-  if (key === placed.key) return;
-  placed.key = key;
-  for (const part of document.querySelectorAll(".of-engine:not([id])")) part.hidden = !facts.hasEngine;
-  Object.assign(document.body.dataset, { activity, screen, view: view ?? "" });
-  for (const link of document.querySelectorAll("nav [data-to]")) {
-    if (link.dataset.to.split(" ").includes(activity)) link.setAttribute("aria-current", "page");
-    else link.removeAttribute("aria-current");
+const EVENT_ROOM = 96; // bytes of a trace's line, so that the engine is asked once
+
+const workerText = (room) => `"use strict";
+const FIRST_ROOM = ${room};
+const LARGE_MEMORY = ${LARGE_MEMORY};
+${[Engine, answerOf, textsOf, answerInRoom, blockOf].join("\n")}
+onmessage = ({ data: { module, name, given } }) => {
+  try {
+    const { status, bytes } = new Engine(module).askBytes(name, given);
+    postMessage({ status, bytes }, [bytes.buffer]);
+  } catch (fault) {
+    postMessage({ status: 1, bytes: new TextEncoder().encode(fault.message) });
   }
+};`;
+
+function askInWorker(module, name, text, events) {
+  const place = URL.createObjectURL(new Blob([workerText(FIRST_ROOM + EVENT_ROOM * events)], { type: "text/javascript" }));
+  const worker = new Worker(place);
+  const came = new Promise((done) => {
+    worker.onerror = () => done(null);
+    worker.onmessage = ({ data }) => done({ status: data.status, text: new TextDecoder().decode(data.bytes) });
+    worker.postMessage({ module, name, given: new TextEncoder().encode(text) });
+  });
+  const answer = came.finally(() => {
+    worker.terminate();
+    URL.revokeObjectURL(place);
+  });
+  return { worker, answer };
 }
-const placed = { key: "" };
-const services = { hasEngine: true }; // until it is known that there is none
-
-const setView = (view) => change("view", { view });
-return { factsOf, SEEN, showParts, services, setView };
-})();
-
-// page/play.js
-const $page_play = (() => {
-const { CLASSICS } = $made_classics;
-const { byId } = $page_dom;
-const { change, exampleShown, goTo, now, show, tell } = $page_now;
-const { setView } = $page_seen;
-const SPEEDS = { slow: 1600, medium: 700, fast: 200 }; // milliseconds of one event
-const NO_STOP = { event: Infinity, before: "", there: "" };
-const play = { timer: null, stop: NO_STOP }; // the event at which it stops by itself, and what is said until there, and there
-
-const wantsLessMotion = () => matchMedia("(prefers-reduced-motion: reduce)").matches;
-
-const isPlaying = () => play.timer !== null; // the sentence is said where the play ends, and not before
-
-function showPlay() {
-  byId("play").textContent = play.timer === null ? "Play" : "Pause";
-  byId("play").setAttribute("aria-pressed", String(play.timer !== null));
-}
-
-function pausePlay() {
-  clearInterval(play.timer);
-  play.timer = null;
-  showPlay();
-}
-
-function stopPlay() {
-  play.stop = NO_STOP;
-  pausePlay();
-}
-
-function startPlay(stop = NO_STOP) {
-  const { count, trace } = now.run;
-  if (trace.total === 0) return;
-  play.stop = stop;
-  if (count === trace.total) goTo(0);
-  play.timer = setInterval(playOn, SPEEDS[byId("speed").value]);
-  showPlay();
-}
-
-function playOn() {
-  const { stop } = play;
-  const count = now.run.count + 1;
-  const isThere = count === stop.event || count >= now.run.trace.total;
-  if (isThere) stopPlay();
-  change("count", { count });
-  tell(count === stop.event ? stop.there : stop.before);
-  show();
-}
-
-const togglePlay = () => (play.timer === null ? startPlay(play.stop) : pausePlay());
-
-function changeSpeed() {
-  if (play.timer === null) return;
-  pausePlay();
-  startPlay(play.stop);
-}
-
-function goByHand(count) {
-  stopPlay();
-  goTo(count);
-}
-
-function goToTurn(step) {
-  const turns = CLASSICS[exampleShown()]?.turns ?? [];
-  const changes = (event) => event.put !== undefined || event.took !== undefined || event.answer !== undefined;
-  let count = now.run.count + step;
-  while (count > 0 && count < now.run.trace.total && !changes(now.run.trace.event(count)) && !turns.includes(count)) count += step;
-  goByHand(count);
-}
-
-
-const keysOf = { scene: (event) => event }; // what keys do in a scene
-
-function pressKey(event) {
-  if (/^(TEXTAREA|INPUT|SELECT)$/.test(event.target.tagName) && event.target.id !== "slider") return;
-  if (event.ctrlKey || event.metaKey || event.altKey || event.target.closest("[role=slider]") !== null) return;
-  if (event.key === "Escape" && now.place.view !== null) return toggleLecture();
-  if (now.place.screen === "scene") return keysOf.scene(event);
-  const { total } = now.run.trace;
-  const far = now.place.view === "lecture" ? 1 : 10; // what a lecturer's pointer sends
-  const steps = { ArrowRight: 1, ArrowLeft: -1, PageDown: far, PageUp: -far, Home: -total, End: total };
-  if (event.key in steps) {
-    event.preventDefault();
-    if (event.shiftKey && event.key.startsWith("Arrow")) goToTurn(steps[event.key]);
-    else goByHand(now.run.count + steps[event.key]);
-  } else if (event.key === " " && !/^(BUTTON|SUMMARY|A)$/.test(event.target.tagName)) {
-    event.preventDefault();
-    togglePlay();
-  } else if (event.key === "?" || (event.key === "p" && now.prefs.letters)) ({ "?": toggleKeys, p: togglePlay })[event.key]();
-}
-
-function toggleKeys() {
-  byId("key-help").hidden = !byId("key-help").hidden;
-  byId("keys").setAttribute("aria-expanded", String(!byId("key-help").hidden));
-}
-
-function toggleLecture() {
-  const isLeft = document.activeElement === byId("leave");
-  setView(now.place.view === null ? "lecture" : null);
-  show();
-  if (isLeft) (byId("sides-lecture") ?? byId("lecture")).focus();
-}
-return { wantsLessMotion, isPlaying, stopPlay, togglePlay, changeSpeed, goByHand, keysOf, pressKey, toggleKeys, toggleLecture };
+return { MANY_EVENTS, LONG_TEXT, askLong, runLong, stopLong, cancelLong };
 })();
 
 // page/work.js
@@ -4183,2207 +4939,10 @@ function showMarks() {
 return { beginTask, openTask, ownTask, openWork, openExample, newSchedule, runBox, runWithOpening, showHeader, examples, isExample, openKept, watchEditor, scrollToLine, showMarks };
 })();
 
-// run/outcomes.js
-const $run_outcomes = (() => {
-const { LISTS } = $made_rows;
-const { chipOf, keyText, said } = $run_markup;
-const { keyNumber, keysInChain, linkTarget, ownerOf } = $run_state;
-const { firstOpeningNode } = $run_trace;
-const isLock = (word) => word.endsWith(".lock");
-const mono = (text) => `<b class="mono">${text}</b>`;
-const isDone = (event) => event.deed === "store" || (event.deed === "exchange" && event.saw === event.from);
-const isFailed = (event) => event.deed === "exchange" && event.saw !== event.from;
-const ownerIn = (word) => word.split(".")[0];
-const isLinkOf = (event) => event.word?.endsWith(".link");
-const lockNames = (words) => `the lock${words.length > 1 ? "s" : ""} of ${words.map(ownerIn).join(" and ")}`;
-const setsMark = (event) => isLinkOf(event) && event.to?.endsWith("*") === true;
-
-function marksOf(trace) {
-  if (trace.marks !== undefined) return trace.marks;
-  trace.marks = new Map();
-  for (const event of trace.starred.map((number) => trace.event(number))) {
-    if (setsMark(event) && isDone(event)) trace.marks.set(ownerIn(event.word), event);
-  }
-  return trace.marks;
-}
-
-function wholeName({ trace, event }, name) {
-  const whose = isOpeningNode(trace, name) ? "the node of an opening key" : `${chipOf(ownerOf(trace, name))}'s node`;
-  const mark = marksOf(trace).get(name);
-  if (mark === undefined || mark.number > event.number) return `${name}</b>, ${whose}`;
-  return `${name}</b>, ${whose}, which ${chipOf(mark.thread)} marked at event ${mark.number}`;
-}
-
-const hasInChain = (state, key) => keysInChain(state).includes(Number(key));
-
-const OUTCOMES = {
-  change({ trace, state, event, held, hadKey }) {
-    const { put, took } = event;
-    const had = trace.lacks !== null && hadKey;
-    const hasNow = (key) => trace.lacks !== null && hasInChain(state, key);
-    if (put !== undefined) {
-      if (had) return `<b>This should add ${put} to the set, but ${put} is in it already.</b>`;
-      if (trace.lacks === null || hasNow(put)) return `<b>This adds ${put} to the set</b>, in slot ${held.used} of ${trace.quota}.`;
-      return `<b>This should add ${put} to the set, but its node is not in the chain: ${put} is lost.</b>`;
-    }
-    if (took === undefined) return "";
-    if (trace.lacks !== null && !had) return `<b>This should remove ${took} from the set, but ${took} is not in it any more.</b>`;
-    return hasNow(took) ? `<b>This should remove ${took} from the set, but the chain still has it.</b>` : `<b>This removes ${took} from the set.</b>`;
-  },
-
-  mark({ state, event }) {
-    if (!setsMark(event) || !isDone(event)) return "";
-    const owner = ownerIn(event.word);
-    return state.chain().includes(owner) ? `${owner} is still in the chain.` : `${owner} is not in the chain any more.`;
-  },
-
-  unlink(moment) {
-    const { state, event, before, wasInChain } = moment;
-    const gone = before.curr;
-    if (!wasInChain || !isLinkOf(event) || !isDone(event) || gone === "tail" || gone === ownerIn(event.word)) return "";
-    if (linkTarget(state.nodes[gone].link) !== event.to || state.chain().includes(gone)) return "";
-    return `<b>This unlinks ${wholeName(moment, gone)}.`;
-  },
-
-  leftInChain({ state, event, before }) {
-    if (!isFailed(event) || event.answer === undefined) return "";
-    if (!state.chain().includes(before.curr)) return `${before.curr} is not in the chain any more.`;
-    return `<b>${before.curr} stays in the chain, marked,</b> for a later walk to unlink.`;
-  },
-
-  validation({ event, held, row }) {
-    if (row?.invalid === undefined || held.pc !== row.invalid || held.reply !== "none") return "";
-    const owner = ownerIn(event.word);
-    let reason = `${owner} leads to ${said(event.saw)} now, not to ${held.curr}`;
-    if (event.saw.endsWith("*")) reason = `${owner} is marked`;
-    if (event.word.endsWith(".key")) reason = `the second walk is past the key of ${held.pred} and has not found it`;
-    return `<b>The validation fails:</b> ${reason}. It will unlock both nodes and start again.`;
-  },
-
-  valid({ held, row }) {
-    if (row?.invalid === undefined || !row.then.includes("decide on")) return "";
-    return held.pc === row.invalid && held.reply === "none" ? "" : "The validation succeeds.";
-  },
-
-  again({ event, held, row }) {
-    if (row?.again === undefined || held.pc !== row.again || event.answer !== undefined) return "";
-    const reason = event.saw?.endsWith("*") && event.deed === "load" ? `${ownerIn(event.word)} is marked: it` : "It";
-    return `<b>${reason} starts its walk again${/with the same slot/.test(row.book) ? ", with the same slot" : ""}.</b>`;
-  },
-
-  markMet({ trace, state, event, held, row }) {
-    if (event.deed !== "load" || !event.saw.endsWith("*") || [row?.invalid, row?.again].includes(held.pc)) return "";
-    const owner = ownerIn(event.word);
-    const where = state.chain().includes(owner) ? "and still" : "and no longer";
-    if (event.answer !== undefined) return `<b>${owner} is marked</b>, ${where} in the chain.`;
-    if (event.changes.curr !== undefined) return `${owner} is marked: the walk passes over it.`;
-    const next = LISTS[trace.kind].rows[held.pc]?.step ?? "";
-    if (next.startsWith("exchange pred.link")) return `<b>${owner} is marked:</b> the next step tries to unlink it.`;
-    if (!next.startsWith("exchange curr.link")) return "";
-    return `<b>${owner} is marked already:</b> the next step will fail.`;
-  },
-
-  walk({ trace, event, held, row }) {
-    if (event.deed !== "load" || row === undefined) return "";
-    if (row.below !== undefined) return walkAtKey(event, held);
-    if (row.then.includes("node = next(s)")) return `The second walk reaches ${held.node}.`;
-    if (row.then.includes("node is pred")) return secondWalkAtKey(held, row);
-    if (!row.then.includes("curr = next(s)")) return "";
-    const opening = isOpeningNode(trace, held.curr) ? ", the node of an opening key" : "";
-    return `The walk reaches ${held.curr}${opening}.`;
-  },
-
-  decision({ trace, event, held, before }) {
-    const { adds, removes } = LISTS[trace.kind];
-    if (event.answer !== undefined || held.reply !== "none" || before.pc === held.pc) return "";
-    const { operation, key } = held.call;
-    const found = event.word?.endsWith(".key") ? "The" : `${held.curr} ${operation === "add" ? "does not have" : "has"} the key ${key}: the`;
-    if (operation === "add" && held.pc === adds) return `${found} add goes ahead.`;
-    return operation === "remove" && held.pc === removes ? `${found} remove goes ahead.` : "";
-  },
-
-  reply({ trace, event }) {
-    const { reply } = event.changes;
-    if (reply === undefined || reply === "none" || event.answer !== undefined) return "";
-    const slots = { 0: "it has no slot", 1: "its one slot is used" }[trace.quota] ?? `its ${trace.quota} slots are used`;
-    const used = reply === "full" ? `: ${slots}` : "";
-    return `<b>It will answer ${reply}</b>${used}.`;
-  },
-
-  locks({ state, event }) {
-    if (!event.word || !isLock(event.word) || !isDone(event) || event.answer !== undefined) return "";
-    const own = state.locks()[`t${event.thread}`];
-    if (own === undefined) return "It holds no lock now.";
-    return event.deed === "exchange" && own.length === 1 ? "" : `It holds ${lockNames(own)}.`;
-  },
-};
-
-const isBelow = (saw, key) => keyNumber(saw) < Number(key);
-
-function walkAtKey(event, held) {
-  const owner = ownerIn(event.word);
-  const { key } = held.call;
-  if (isBelow(event.saw, key)) return `${keyText(event.saw)} is below ${key}: the walk continues.`;
-  if (event.saw === String(key)) return `<b>The walk stops at ${owner},</b> which has its key.`;
-  return `<b>The walk stops at ${owner},</b> the first with a key above ${key}.`;
-}
-
-function secondWalkAtKey(held, row) {
-  if (held.pc === row.invalid) return "";
-  if (held.node === held.pred) return `The second walk reaches pred, ${held.pred}.`;
-  return `This is not pred, ${held.pred}: the second walk continues.`;
-}
-
-const isOpeningNode = (trace, name) => /^n/.test(name) && Number(name.slice(1)) >= firstOpeningNode(trace);
-return { isLock, mono, isFailed, ownerIn, setsMark, hasInChain, OUTCOMES };
-})();
-
-// run/sentences.js
-const $run_sentences = (() => {
-const { LISTS } = $made_rows;
-const { callText, chipOf, holderOf, letterOf, said } = $run_markup;
-const { hasInChain, isFailed, isLock, mono, OUTCOMES, ownerIn, setsMark } = $run_outcomes;
-const lockedBy = (word) => (word === "list.lock" ? "the list" : mono(ownerIn(word)));
-
-function deedText(event, row) {
-  const word = event.word && mono(event.word);
-  if (event.deed === "begin") return `begins ${callText(event.call)}.`;
-  if (event.deed === "load") return `reads ${word}: ${said(event.saw)}.`;
-  if (isLock(event.word)) return lockText(event, row);
-  const change = event.deed === "store" ? `${word} := ${said(event.to)}` : `${word}: ${said(event.from)} → ${said(event.to)}`;
-  const finds = isFailed(event) ? `, but finds ${said(event.saw)}` : "";
-  if (setsMark(event)) return `${isFailed(event) ? "tries to mark" : "marks"} ${mono(ownerIn(event.word))} (${change})${finds}.`;
-  if (event.deed === "store") return `sets ${word} to ${said(event.to)}.`;
-  return `${isFailed(event) ? "tries to change" : "changes"} ${word} from ${said(event.from)} to ${said(event.to)}${finds}.`;
-}
-
-function lockText(event, row) {
-  const name = lockedBy(event.word);
-  if (event.deed === "store") return `unlocks ${name}.`;
-  if (!isFailed(event)) return `locks ${name}.`;
-  const then = event.changes.pc === row ? "It will try again" : `It continues all the same, at row ${event.changes.pc}`;
-  return `tries to lock ${name}, but ${holderOf(event.saw)} holds it. ${then}.`;
-}
-
-function effectText({ trace, event }, hidden) {
-  const { call } = event;
-  if (event.answer === undefined) return "";
-  const answers = `<b>${callText(call)} answers ${hidden.includes("reply") ? "… what?" : event.answer}</b>`;
-  const mayFitNowhere = trace.lacks !== null && !call.changes && call.at === event.number;
-  if (hidden.includes("effect") || mayFitNowhere) return hidden.includes("reply") ? answers : `${answers}.`;
-  if (call.at === event.number) return `${answers}, and takes effect here.`;
-  const other = trace.event(call.at).thread;
-  const whose = other === event.thread ? "" : `, <b>a step of ${letterOf(other)}</b>`;
-  return `${answers}; it took effect at event ${call.at}${whose}.`;
-}
-
-function openingText(trace) {
-  if (trace.opening.length === 0) return "Before the first event the list is empty, and every thread is idle.";
-  const some = trace.opening.slice(0, 20).join(", ");
-  return `Before the first event the set is {${some}${trace.opening.length > 20 ? ", …" : ""}}, and every thread is idle.`;
-}
-
-function momentAt(state, count) {
-  const { trace } = state;
-  const event = count > 0 ? trace.event(count) : null;
-  state.moveTo(Math.max(count - 1, 0));
-  const before = event === null ? null : { ...state.threads[event.thread] };
-  const changed = event?.put ?? event?.took;
-  const hadKey = trace.lacks !== null && changed !== undefined && hasInChain(state, changed);
-  const wasInChain = trace.lacks === null || before === null || state.chain().includes(before.curr);
-  state.moveTo(count);
-  if (event === null) return { trace, state, event };
-  const row = event.deed === "begin" ? undefined : LISTS[trace.kind].rows[before.pc];
-  return { trace, state, event, before, hadKey, wasInChain, held: state.threads[event.thread], row };
-}
-
-function sentenceOf(moment, hidden = []) {
-  const { trace, event } = moment;
-  if (event === null) return `${openingText(trace)}${trace.total === 0 ? " Let one begin a call." : ""}`;
-  if (event.deed === "begin") return `${chipOf(event.thread)} ${deedText(event)}`;
-  const told = Object.keys(OUTCOMES).filter((name) => !hidden.includes(name));
-  const outcomes = told.map((name) => OUTCOMES[name](moment));
-  const parts = [chipOf(event.thread), deedText(event, moment.before.pc), ...outcomes, effectText(moment, hidden)];
-  return parts.filter((text) => text !== "").join(" ");
-}
-return { momentAt, sentenceOf };
-})();
-
-// story/tale.js
-const $story_tale = (() => {
-const { callText, chipOf, keyText } = $run_markup;
-const { isLock, ownerIn } = $run_outcomes;
-const walkers = (...rows) => Object.fromEntries(rows.map((row) => [row, "walk"]));
-
-const PHASES = {
-  plain: { ...walkers(1, 2, 3, 4), 5: "make", 6: "make", 7: "link", 8: "unlink", 9: "unlink", 10: "answer" },
-  coarse: { 1: "lock", ...walkers(2, 3, 4), 5: "make", 6: "make", 7: "link", 8: "unlink", 9: "unlink", 10: "unlock" },
-  fine: {
-    1: "first", 2: "next", 3: "next", 4: "next", 5: "letgo", 6: "next", 7: "make", 8: "make", 9: "link", 10: "unlink", 11: "unlink",
-    12: "unlock", 13: "unlock",
-  },
-  optimistic: {
-    ...walkers(1, 2, 3), 4: "locks", 5: "locks", 6: "again", 7: "again", 8: "again", 9: "make", 10: "make", 11: "link", 12: "unlink",
-    13: "unlink", 14: "unlock", 15: "unlock",
-  },
-  lazy: {
-    ...walkers(1, 2, 3, 20, 21, 23, 24), 25: "look", 4: "locks", 5: "locks", 6: "check", 7: "check", 8: "make", 9: "make", 10: "link", 11: "mark",
-    12: "tidy", 13: "unlock", 14: "unlock", 22: "look",
-  },
-  "lock-free": {
-    ...walkers(1, 2, 4, 8, 20, 21, 23, 24), 25: "look", 3: "snip", 5: "make", 6: "make", 7: "swing", 9: "marktry", 10: "tidytry", 22: "look",
-  },
-};
-
-const phaseAt = (list, row, plain) => PHASES[plain ? "plain" : list][row] ?? "answer";
-const joinedRows = (list, plain) => (plain ? [10] : list === "lock-free" || list === "lazy" ? [22, 25] : []);
-
-const WORDS = {
-  walk: ({ key }) => `walk to the place of ${key}`,
-  make: ({ key }) => `make a node for ${key}`,
-  link: ({ key }) => `hang ${key} in`,
-  unlink: ({ key }) => `point past ${key}`,
-  answer: () => "answer",
-  lock: () => "take the lock",
-  unlock: () => "let go, and answer",
-  first: () => "lock the head",
-  next: () => "lock the next node",
-  letgo: () => "let go of the one behind",
-  locks: () => "lock pred and curr",
-  again: () => "look once more",
-  check: () => "look at the marks",
-  mark: ({ key }) => `mark ${key}: removed`,
-  tidy: ({ key }) => `take ${key} out of the chain`,
-  look: () => "look at the mark",
-  snip: () => "take the marked node out",
-  swing: ({ key }) => `try to hang ${key} in`,
-  marktry: ({ key }) => `try to mark ${key}`,
-  tidytry: ({ key }) => `try to take ${key} out`,
-};
-
-const phaseText = (phase, call) => WORDS[phase](call);
-
-
-const bold = (text) => `<b>${text}</b>`;
-
-const nodeName = (state, name) => {
-  if (name === "head") return "the head";
-  if (name === "tail") return "the end";
-  return name in state.nodes ? keyText(state.nodes[name].key) : "";
-};
-const bare = (link) => link.replace("*", "");
-
-const answerText = (answer) => answer.replace(/^at-/, "");
-
-function taleOf(moment, { plain = false } = {}) {
-  const { event } = moment;
-  if (event === null) return "";
-  const said = toldBy(moment, plain);
-  const { call } = event;
-  const answer = event.answer === undefined ? "" : ` ${bold(`${callText(call)} answers ${answerText(event.answer)}.`)}`;
-  return `${chipOf(event.thread)} ${said}${answer}`;
-}
-
-function toldBy(moment, plain) {
-  const { trace, state, event, before, held } = moment;
-  const { kind } = trace;
-  if (event.deed === "begin") return `begins ${bold(callText(event.call))}.`;
-  const owner = ownerIn(event.word);
-  const who = nodeName(state, owner);
-  if (isLock(event.word)) return lockTold(event, who, plain, event.changes.pc === before.pc);
-  const phase = phaseAt(kind, before.pc, plain);
-  const key = event.call.key;
-  if (event.deed === "load" && event.word.endsWith(".key")) return keyTold(event, owner, key, phase, held);
-  if (event.deed === "load") return linkTold(moment, owner, who, phase);
-  if (event.deed === "store" && event.word.endsWith(".key")) return `makes a node for ${key}. Nobody else sees it yet.`;
-  return writeTold(moment, owner, who);
-}
-
-function lockTold(event, who, plain, waits) {
-  if (plain) return event.deed === "store" ? "is done." : "sets out.";
-  const what = who === undefined || event.word === "list.lock" ? "the lock" : `the lock of ${who}`;
-  if (event.deed === "store") return `gives back ${what}.`;
-  if (event.saw === event.from) return `takes ${what}.`;
-  return `wants ${what}, but ${chipOf(event.saw.slice(1))} has it. ${bold(waits ? "It waits." : "It goes on all the same.")}`;
-}
-
-function keyTold(event, owner, key, phase, held) {
-  if (phase === "again") {
-    if (held.pc === 14 && held.reply === "none") return `is past the place of its pred, and has not met it: ${bold("pred is not in the list any more.")} It lets go and starts again.`;
-    return held.node === held.pred ? "meets its pred: it is still in the list." : "walks on: this is not its pred.";
-  }
-  if (owner === "tail") return "has come to the end: here is the place.";
-  const seen = Number(event.saw);
-  if (seen < key) return `reads ${bold(seen)}: too small, it goes on.`;
-  if (event.call.operation === "ceiling") return `reads ${bold(seen)}: big enough.`;
-  if (seen === key) return `reads ${bold(seen)}: found.`;
-  return `reads ${bold(seen)}: too big. The place of ${key} is just before it.`;
-}
-
-function linkTold(moment, owner, who, phase) {
-  const { trace, state, event, held, before } = moment;
-  const isMarked = event.saw.endsWith("*");
-  const to = nodeName(state, bare(event.saw));
-  if (phase === "look" || (event.answer !== undefined && isMarked)) return isMarked ? `sees the mark: ${bold(`this ${who} has been removed.`)}` : `sees no mark: ${who} is in.`;
-  if (phase === "check") {
-    if (held.reply === "none" && held.pc === 13) {
-      if (owner === before.pred && isMarked) return `sees a mark on its pred: ${bold("it was removed meanwhile.")} It lets go and starts again.`;
-      return isMarked ? `sees a mark on ${who}. It lets go and starts again.` : `sees that ${who} points to ${to} now. It lets go and starts again.`;
-    }
-    return owner === before.pred ? "sees no mark on its pred, which still points to curr." : `sees no mark on ${who}. It may write.`;
-  }
-  if (phase === "again") {
-    if (owner === before.pred && before.pc === 8) {
-      if (held.pc === 14 && held.reply === "none") return `sees that ${who} points to ${to} now: ${bold("something came in between.")} It lets go and starts again.`;
-      return "sees that pred still points to curr.";
-    }
-    return `walks from ${who} once more.`;
-  }
-  if (phase === "unlink" || before.pc === 8) return `reads what comes after ${who}: ${to}.`;
-  if (trace.kind === "lock-free" && event.changes.curr === undefined) {
-    return isMarked ? `meets ${who}, which is marked: it will take it out on its way.` : `looks at the arrow of ${who}: no mark.`;
-  }
-  return owner === "head" ? `sets out from the head: curr is on ${to}.` : `moves on: curr is on ${to}.`;
-}
-
-function writeTold(moment, owner, who) {
-  const { state, event, before } = moment;
-  const key = event.call.key;
-  const to = nodeName(state, bare(event.to ?? ""));
-  const isDone = event.deed === "store" || event.saw === event.from;
-  if (event.to.endsWith("*")) {
-    if (isDone) return `marks ${who}: ${bold(`${key} is removed.`)}`;
-    return event.saw.endsWith("*") ? `wants to mark ${who}, but it is marked already. ${bold("It was too late")}, and looks again.` : `wants to mark ${who}, but its arrow has changed. It looks again.`;
-  }
-  if (!state.nodes[owner].reached && event.put === undefined && event.took === undefined && event.deed === "store" && owner !== before.pred) {
-    return `lets its node point to ${to}.`;
-  }
-  if (event.put !== undefined) {
-    const isIn = state.chain().includes(bare(event.to));
-    return isIn ? `lets ${who} point to ${key}: ${bold(`${key} is in.`)}` : `lets its pred point to ${key}. ${bold("But that pred is not in the list.")}`;
-  }
-  if (!isDone) {
-    const rest = event.answer !== undefined ? "That does not matter: the mark counts." : "It looks again.";
-    return `wants to change the arrow of ${who}, but it is not what it saw. ${rest}`;
-  }
-  return `lets ${who} point to ${to}: ${nodeName(state, before.curr)} is out of the chain.`;
-}
-return { phaseAt, joinedRows, phaseText, answerText, taleOf };
-})();
-
-// story/live_run.js
-const $story_live_run = (() => {
-const { askNow } = $page_now;
-const { askList, verdictOnLacking } = $run_broken;
-const { openingIn, scheduleOfDraft, scheduleOfTrace, scheduleText } = $run_schedule_text;
-const { isFailed, isLock } = $run_outcomes;
-const { keysInChain, promisedKeys, State } = $run_state;
-const { isTrace, Trace } = $run_trace;
-const { joinedRows, phaseAt } = $story_tale;
-const MOST_STEPS = 80; // of one call, in the short lists of the story
-
-const linesOf = (schedule) => schedule.split("\n").filter((line) => /^(begin|go) /.test(line));
-
-function runOfText(text) {
-  const valueOf = (word) => new RegExp(`^${word} (.*)$`, "m").exec(text)?.[1];
-  return {
-    threads: Number(valueOf("threads")),
-    quota: Number(valueOf("quota")),
-    opening: openingIn(text).map(Number),
-    lines: linesOf(text),
-  };
-}
-
-class ShownRun {
-  /** @param {any} trace @param {any} state */
-  constructor(trace, state, count = 0) {
-    this.trace = trace;
-    this.state = state;
-    this.count = count;
-  }
-
-  isIdle(thread) {
-    return this.state.threads[thread].pc === 0;
-  }
-
-  promised() {
-    return promisedKeys(this.trace);
-  }
-
-  has() {
-    return keysInChain(this.state);
-  }
-}
-
-/**
- * @typedef {object} RunSpec
- * @property {string} list
- * @property {string | null} [lacks]  the check that the list lacks
- * @property {number} [threads]
- * @property {number} [quota]
- * @property {number[]} [opening]
- * @property {string[]} [lines]  the schedule's first lines, also those of a draft
- * @property {number} [version]  of the schedule's text
- * @property {boolean} [free]  the reader may begin any call, and stop before each look
- * @property {boolean} [plain]  the list's lock is ignored, and nothing is told of it
- */
-class LiveRun extends ShownRun {
-  /** @param {RunSpec} spec */
-  constructor(spec) {
-    super(null, null);
-    this.spec = { lacks: null, threads: 2, quota: 2, opening: [], plain: false, version: 2, ...spec };
-    this.first = this.expanded(spec.lines ?? []);
-    this.take(this.first);
-  }
-
-  expanded(lines) {
-    const { text, fault } = scheduleOfDraft(askNow, this.textOf(lines), this.spec.lacks);
-    if (fault !== null) throw new Error(fault);
-    return linesOf(text);
-  }
-
-  textOf(lines) {
-    return scheduleText(this.spec, lines);
-  }
-
-  traceOf(lines) {
-    const { text } = askList(askNow, "listset_trace", this.spec.lacks, this.textOf(lines));
-    if (!isTrace(text)) throw new Error(text.trim());
-    return new Trace(text, this.spec.version);
-  }
-
-  take(lines) {
-    this.lines = [...lines];
-    this.trace = this.traceOf(this.lines);
-    this.state = new State(this.trace);
-    this.moveTo(this.trace.total);
-  }
-
-  linesHere() {
-    return linesOf(scheduleOfTrace(this.trace, this.count));
-  }
-
-  get schedule() {
-    return this.textOf(this.lines);
-  }
-
-  moveTo(count) {
-    this.count = Math.max(0, Math.min(this.trace.total, count));
-    this.state.moveTo(this.count);
-  }
-
-  nextOf(thread, call = null) {
-    const isBegin = this.isIdle(thread);
-    const lines = isBegin ? [...this.lines, `begin ${thread} ${call.join(" ")}`] : this.lines;
-    const trace = this.traceOf([...lines, `go ${thread} ${MOST_STEPS}`]);
-    const begun = this.trace.total + lines.length - this.lines.length;
-    const row = isBegin ? trace.event(begun).changes.pc : this.state.threads[thread].pc;
-    return { ...this.chunk(trace, begun, row), thread, row, isBegin };
-  }
-
-  chunk(trace, begun, row) {
-    const { list, plain } = this.spec;
-    const phase = phaseAt(list, row, plain);
-    const joined = this.spec.free && !plain ? [] : joinedRows(list, plain);
-    let steps = 0;
-    let before = row;
-    for (let number = begun + 1; number <= trace.total; number++) {
-      const event = trace.event(number);
-      steps++;
-      if (event.answer !== undefined) break;
-      const after = event.changes.pc;
-      const ofLock = isFailed(event) && isLock(event.word);
-      const waits = ofLock && after === before; // a broken list may go on all the same
-      if (waits || (isFailed(event) && !ofLock)) return { steps, phase, waits };
-      before = after;
-      if (phaseAt(list, after, plain) !== phase && !joined.includes(after)) break;
-    }
-    return { steps, phase, waits: false };
-  }
-
-  stepsUntil(thread, isThere) {
-    const { total } = this.trace;
-    const trace = this.traceOf([...this.lines, `go ${thread} ${MOST_STEPS}`]);
-    for (let number = total + 1; number <= trace.total; number++) {
-      const event = trace.event(number);
-      if (event.answer !== undefined || isThere(event) || this.waitsAt(event)) return number - total;
-    }
-    return 1;
-  }
-
-  waitsAt(event) {
-    return isFailed(event) && isLock(event.word) && this.spec.lacks !== "lock";
-  }
-
-  begin(thread, [operation, key]) {
-    this.take([...this.lines, `begin ${thread} ${operation} ${key}`]);
-  }
-
-  go(thread, steps) {
-    this.take([...this.lines, `go ${thread} ${steps}`]);
-  }
-
-  verdict() {
-    return verdictOnLacking(askNow, this.spec.lacks, this.schedule);
-  }
-
-  isBroken() {
-    return this.spec.lacks !== null && this.verdict().kind === "broken";
-  }
-}
-return { linesOf, runOfText, ShownRun, LiveRun };
-})();
-
-// draw/glide.js
-const $draw_glide = (() => {
-const TIME = 260; // milliseconds
-const EASE = { duration: TIME, easing: "cubic-bezier(.2, .7, .2, 1)" };
-
-const wantsStill = () => matchMedia("(prefers-reduced-motion: reduce)").matches;
-
-function placesIn(box) {
-  const places = new Map();
-  for (const part of box.querySelectorAll("[data-part]")) {
-    const { x = "0", y = "0", to = "" } = part.dataset;
-    places.set(part.dataset.part, { x: Number(x), y: Number(y), to, d: part.querySelector("path")?.getAttribute("d") ?? "" });
-  }
-  return places;
-}
-
-function glideArrow(part, before) {
-  const path = part.querySelector("path");
-  if (path === null || path.getAttribute("d") === before.d) return;
-  if (part.dataset.to === before.to) {
-    const forms = [before.d, path.getAttribute("d")].map((d) => ({ d: `path("${d}")` }));
-    path.animate(forms, EASE);
-  } else {
-    const length = path.getTotalLength();
-    const strokeDasharray = `${length} ${length}`;
-    path.animate([{ strokeDasharray, strokeDashoffset: length }, { strokeDasharray, strokeDashoffset: 0 }], EASE);
-  }
-}
-
-function glide(box, draw, isNear) {
-  const before = isNear && !wantsStill() && !document.hidden ? placesIn(box) : null;
-  draw();
-  if (before === null || before.size === 0) return;
-  for (const part of box.querySelectorAll("[data-part]")) {
-    const was = before.get(part.dataset.part);
-    if (was === undefined) part.animate([{ opacity: 0 }, { opacity: 1 }], EASE);
-    else if (part.dataset.part.startsWith("link ")) glideArrow(part, was);
-    else {
-      const [dx, dy] = [was.x - Number(part.dataset.x), was.y - Number(part.dataset.y)];
-      if (dx !== 0 || dy !== 0) part.animate([{ translate: `${dx}px ${dy}px` }, { translate: "0 0" }], EASE);
-    }
-  }
-}
-return { glide };
-})();
-
-// draw/places.js
-const $draw_places = (() => {
-const { LISTS } = $made_rows;
-const { letterOf } = $run_markup;
-const { ownerIn } = $run_outcomes;
-const { isWritten, keyNumber, linkTarget } = $run_state;
-const { NODE_REGISTERS } = $run_trace;
-const WIDE = { node: 94, gap: 48, share: 1 };
-const COMPACT = { node: 76, gap: 32, share: 0.76 }; // share: of the room that a wide one needs
-const NARROW = 480; // pixels
-const shapeFor = (room) => (room < NARROW ? COMPACT : WIDE);
-
-const NODE_HEIGHT = 54;
-const LEAST_GAP = 12; // between nodes that are not in the chain
-const FOLD_WIDTH = 84;
-const TOP = 58;
-const MOST_UNFOLDED = 14; // a longer chain is folded
-const MOST_ASIDE = 10; // nodes drawn that are not in the chain
-const MOST_POINTING = 6; // threads whose registers are drawn
-const SIGN_WIDTH = 8.6; // of a register's label
-
-function pointersOf(state, event) {
-  const inCall = state.threads.map((held, thread) => ({ held, thread })).filter(({ held }) => held.pc !== 0);
-  inCall.sort((one, other) => Number(other.thread === event?.thread) - Number(one.thread === event?.thread));
-  const { calls } = LISTS[state.trace.kind];
-  return inCall.slice(0, MOST_POINTING).map(({ held, thread }) => {
-    const registers = calls[held.call.operation].registers.filter((name) => NODE_REGISTERS.includes(name));
-    const at = {};
-    for (const name of registers) if (isPointing(held, name)) (at[held[name]] ??= []).push(name);
-    return { thread, at };
-  });
-}
-
-const isPointing = (held, name) => held[name] !== "head" || (name === "pred" && held.curr !== "head");
-
-function importantNodes(state, event, pointers) {
-  const important = new Set(["head", "tail"]);
-  if (event?.word) important.add(event.word.split(".")[0]);
-  for (const { at } of pointers) Object.keys(at).forEach((name) => important.add(name));
-  const locked = Object.values(state.locks()).flat().map(ownerIn).filter((name) => name !== "list");
-  locked.slice(0, 8).forEach((name) => important.add(name));
-  return important;
-}
-
-function foldedChain(chain, important) {
-  if (chain.length <= MOST_UNFOLDED) return chain.map((name) => ({ name }));
-  const isNear = (index) => chain.slice(Math.max(index - 1, 0), index + 2).some((name) => important.has(name));
-  const items = [];
-  chain.forEach((name, index) => {
-    const last = items[items.length - 1];
-    if (isNear(index)) items.push({ name });
-    else if (last?.folded) last.folded.push(name);
-    else items.push({ folded: [name] });
-  });
-  return items.flatMap((item) => (item.folded?.length === 1 ? [{ name: item.folded[0] }] : [item]));
-}
-
-function placesOfChain(items, shape) {
-  const places = {};
-  let x = 16;
-  for (const item of items) {
-    item.x = x;
-    const width = item.folded ? FOLD_WIDTH : shape.node;
-    for (const name of item.folded ?? [item.name]) places[name] = { x, y: TOP, width, gap: shape.gap, folded: !!item.folded };
-    x += width + shape.gap;
-  }
-  return { places, width: x - shape.gap + 16 };
-}
-
-function nodesAside(state, chain, important) {
-  const inChain = new Set(chain);
-  const aside = Object.keys(state.nodes).filter((name) => !inChain.has(name) && isWritten(state.nodes[name]));
-  const rank = (name) => (important.has(name) ? 2 : state.nodes[name].reached ? 0 : 1);
-  const latest = [...aside].reverse().sort((one, other) => rank(other) - rank(one));
-  return { shown: latest.slice(0, MOST_ASIDE), more: Math.max(0, aside.length - MOST_ASIDE) };
-}
-
-function placeAside(state, chain, shown, places, y) {
-  const { width, gap } = places.head;
-  const taken = [];
-  const byKey = [...shown].sort((one, other) => keyNumber(state.nodes[one].key) - keyNumber(state.nodes[other].key));
-  for (const name of byKey) {
-    const key = keyNumber(state.nodes[name].key);
-    const before = chain.filter((other) => keyNumber(state.nodes[other].key) < key);
-    const place = places[before[before.length - 1] ?? "head"];
-    let x = place.x + (place.width + gap) / 2;
-    while (taken.some((other) => Math.abs(other - x) < width + LEAST_GAP)) x += width + 16;
-    places[name] = { x, y, width, gap, aside: true, lane: taken.length % 3 };
-    taken.push(x);
-  }
-  return taken.length === 0 ? 0 : Math.max(...taken) + width + 16;
-}
-
-function roomsUnder(state, items, shown, shape) {
-  const risen = new Set(shown.map((name) => linkTarget(state.nodes[name].link)));
-  const rooms = {};
-  items.forEach(({ name }, index) => {
-    const next = items[index + 1];
-    const isCrossed = next !== undefined && (next.folded ?? [next.name]).some((other) => risen.has(other));
-    rooms[name] = shape.node + (isCrossed ? 0 : shape.gap - 6);
-  });
-  return rooms;
-}
-
-function labelTexts(thread, registers, room) {
-  const texts = [];
-  for (const register of registers) {
-    const joined = `${texts[texts.length - 1]}, ${register}`;
-    if (texts.length > 0 && joined.length * SIGN_WIDTH <= room) texts[texts.length - 1] = joined;
-    else texts.push(`▲ ${letterOf(thread)} ${register}`);
-  }
-  return texts;
-}
-
-function pointerLabels(pointers, places, rooms) {
-  const labels = [];
-  const add = (thread, name, text) => {
-    const { x, y } = places[name];
-    const own = { thread, name, text, row: y, left: x, right: x + SIGN_WIDTH * text.length + 8, lane: 0 };
-    const isBeside = (other) => other.left >= own.right || own.left >= other.right;
-    const isInTheWay = (other) => other.row === own.row && other.lane === own.lane && !isBeside(other);
-    while (labels.some(isInTheWay)) own.lane++;
-    labels.push(own);
-  };
-  for (const { thread, at } of pointers) {
-    for (const name in at) {
-      if (!places[name] || places[name].folded) continue;
-      for (const text of labelTexts(thread, at[name], rooms[name] ?? places[name].width)) add(thread, name, text);
-    }
-  }
-  return labels;
-}
-
-function arranged(state, event, shape) {
-  const chain = state.chain();
-  const pointers = pointersOf(state, event);
-  const important = importantNodes(state, event, pointers);
-  const items = foldedChain(chain, important);
-  const { places, width } = placesOfChain(items, shape);
-  const { shown, more } = nodesAside(state, chain, important);
-  const rooms = roomsUnder(state, items, shown, shape);
-  const lanesUnder = (labels, row) => Math.max(0, ...labels.filter((own) => own.row === row).map((own) => own.lane + 1));
-  const below = TOP + NODE_HEIGHT + 18 * lanesUnder(pointerLabels(pointers, places, rooms), TOP) + 62;
-  const right = placeAside(state, chain, shown, places, below);
-  const labels = pointerLabels(pointers, places, rooms);
-  const bottom = shown.length > 0 ? below : TOP;
-  const names = [...items.filter((item) => item.name).map((item) => item.name), ...shown];
-  const height = bottom + NODE_HEIGHT + 18 * lanesUnder(labels, bottom) + 14;
-  const wide = Math.max(width, right, ...labels.map((own) => own.right));
-  return { chain, items, places, labels, names, more, width: wide, height };
-}
-return { shapeFor, NODE_HEIGHT, LEAST_GAP, FOLD_WIDTH, TOP, SIGN_WIDTH, isPointing, arranged };
-})();
-
-// draw/arrows.js
-const $draw_arrows = (() => {
-const { said, tag, title } = $run_markup;
-const { linkTarget } = $run_state;
-const { FOLD_WIDTH, LEAST_GAP, NODE_HEIGHT, TOP } = $draw_places;
-const LINK_WIDTH = 24;
-
-function drawLink(state, name, places, event) {
-  const { link, reached } = state.nodes[name];
-  const target = linkTarget(link);
-  const from = places[name];
-  const to = places[target];
-  if (!to || from.folded || name === "tail" || (target === "head" && !reached)) return "";
-  const kind = event?.word === `${name}.link` ? "hot" : from.aside ? "out" : "in";
-  const isMarked = link.endsWith("*");
-  const x = from.x + from.width - (isMarked ? 1 : LINK_WIDTH / 2);
-  const y = from.y + NODE_HEIGHT / 2;
-  return tag(
-    "g",
-    { class: `link ${kind}${from.aside ? " aside" : ""}`, "data-part": `link ${name}`, "data-to": target },
-    title(`${name}.link: ${said(link)}`),
-    isMarked ? "" : tag("circle", { cx: x, cy: y, r: 4 }),
-    tag("path", { d: pathOf(from, to, x, y), "marker-end": `url(#tip-${kind})` }),
-  );
-}
-
-function pathOf(from, to, x1, y1) {
-  if (from === to) return pathAround(from, x1, y1);
-  if (from.aside && !to.aside) return pathUp(from, to, x1, y1);
-  const isNext = to.x > from.x && to.x - from.x < 2 * (from.width + LEAST_GAP);
-  if (from.aside && !isNext) return pathOver(from, to, x1, y1);
-  return `M${x1} ${y1} L${to.x - 3} ${to.y + NODE_HEIGHT / 2}`;
-}
-
-function bent(start, ...turns) {
-  const at = [...start];
-  const corners = turns.map((turn, index) => {
-    at[index % 2] = turn;
-    return ` L${at[0]} ${at[1]}`;
-  });
-  return `M${start[0]} ${start[1]}${corners.join("")}`;
-}
-
-const pathAround = (from, x1, y1) => bent([x1, y1], from.x + from.width + 10, from.y - 12, from.x + from.width - 12, from.y - 3);
-
-function pathUp(from, to, x1, y1) {
-  const beside = from.x + from.width + 8;
-  const under = from.y - 34 - 6 * from.lane;
-  const gap = to.x - (2 * to.gap) / 3 + ((7 * to.gap) / 48) * from.lane;
-  const y2 = to.y + NODE_HEIGHT - (to.folded ? 14 : 7) - 6 * from.lane;
-  return bent([x1, y1], beside, under, gap, y2, to.x - 3);
-}
-
-function pathOver(from, to, x1, y1) {
-  return bent([x1, y1], from.x + from.width + 8, from.y - 34 - 6 * from.lane, to.x + to.width - 46, to.y - 3);
-}
-
-const ARROW = { viewBox: "0 0 10 10", refX: 9, refY: 5, markerWidth: 11, markerHeight: 11, markerUnits: "userSpaceOnUse" };
-const drawTip = (kind) =>
-  tag("marker", { id: `tip-${kind}`, class: `tip ${kind}`, ...ARROW, orient: "auto" }, tag("path", { d: "M0 0 L10 5 L0 10 z" }));
-
-function drawFoldLink(item, next) {
-  const y = TOP + NODE_HEIGHT / 2;
-  const path = { d: `M${item.x + FOLD_WIDTH} ${y} L${next.x - 3} ${y}`, "marker-end": "url(#tip-in)" };
-  return tag("g", { class: "link in" }, tag("path", path));
-}
-return { LINK_WIDTH, drawLink, drawTip, drawFoldLink };
-})();
-
-// draw/list.js
-const $draw_list = (() => {
-const { LISTS } = $made_rows;
-const { callText, colourOf, holderOf, keyText, label, letterOf, said, tag, title } = $run_markup;
-const { ownerOf } = $run_state;
-const { NODE_REGISTERS } = $run_trace;
-const { drawFoldLink, drawLink, drawTip, LINK_WIDTH } = $draw_arrows;
-const { FOLD_WIDTH, isPointing, NODE_HEIGHT, TOP } = $draw_places;
-const LOCK_HEIGHT = 31; // of what stands above a node
-
-function kindOf(state, name, place) {
-  if (!state.nodes[name].reached) return `own ${colourOf(ownerOf(state.trace, name))}`;
-  return place.aside ? "out" : "in";
-}
-
-function nodeInWords(node, name, kind) {
-  const where = { in: "", out: ", unlinked" }[kind] ?? ", not linked yet";
-  return `${name}: key ${keyText(node.key)}, link ${said(node.link)}, lock ${node.lock === "free" ? "free" : holderOf(node.lock)}${where}`;
-}
-
-const KEY_FRAME = { class: "read", height: NODE_HEIGHT - 4, rx: 4 };
-
-function drawNode(state, name, place, event) {
-  const node = state.nodes[name];
-  const { x, y, width } = place;
-  const kind = kindOf(state, name, place);
-  const isMarked = node.link.endsWith("*");
-  const [hot, field] = event?.word?.split(".") ?? [];
-  const isRead = hot === name && field === "key";
-  const size = { x, y, width, height: NODE_HEIGHT, rx: 5 };
-  const box = isMarked ? { ...size, class: "box marked", style: "fill:url(#hatch)" } : { ...size, class: "box" };
-  const side = x + width - LINK_WIDTH;
-  return tag(
-    "g",
-    { class: `node ${kind}`, "data-part": `node ${name}`, "data-x": x, "data-y": y },
-    title(nodeInWords(node, name, kind)),
-    hot === name ? drawHot(place) : "",
-    tag("rect", box),
-    isRead ? tag("rect", { ...KEY_FRAME, x: x + 2, y: y + 2, width: width - LINK_WIDTH - 3 }) : "",
-    tag("line", { class: "side", x1: side, x2: side, y1: y, y2: y + NODE_HEIGHT }),
-    drawKey(node, (x + side) / 2, y + 34, isRead),
-    label({ class: "name", x: x + 2, y: y - 10 }, name),
-    isMarked ? label({ class: "cross", x: side + LINK_WIDTH / 2, y: y + 34 }, "✗") : "",
-    node.lock === "free" ? "" : drawLock(node.lock, x + width - 38, y - 28),
-  );
-}
-
-const drawHot = ({ x, y, width }) =>
-  tag("rect", { "data-hot": x, class: "hot", x: x - 6, y: y - 6, width: width + 12, height: NODE_HEIGHT + 12, rx: 9 });
-
-function drawKey(node, x, y, isTouched) {
-  const text = keyText(node.key);
-  const size = text.length > 7 ? 11 : text.length > 4 ? 16 : 21;
-  return label({ class: isTouched ? "key touched" : "key", x, y, style: `font-size:${size}px` }, text);
-}
-
-function drawLock(lock, x, y) {
-  const thread = Number(lock.slice(1));
-  return tag(
-    "g",
-    { class: `lock ${colourOf(thread)}`, transform: `translate(${x},${y})` },
-    title(`locked by ${holderOf(lock)}`),
-    tag("path", { d: "M12 9 v-3 a6 6 0 0 1 12 0 v3" }),
-    tag("rect", { x: 0, y: 8, width: 36, height: 18, rx: 4 }),
-    label({ x: 18, y: 22 }, holderOf(lock)),
-  );
-}
-
-function drawFold(item) {
-  const { x } = item;
-  const count = item.folded.length;
-  return tag(
-    "g",
-    { class: "fold" },
-    title(`${count} nodes of the chain that no thread is at`),
-    tag("rect", { x, y: TOP + 9, width: FOLD_WIDTH, height: NODE_HEIGHT - 18, rx: 18 }),
-    label({ x: x + FOLD_WIDTH / 2, y: TOP + NODE_HEIGHT / 2 + 5 }, `… ${count} …`),
-  );
-}
-
-function drawPointer({ thread, name, text, left, lane }, places) {
-  const y = places[name].y + NODE_HEIGHT + 21 + 18 * lane;
-  const named = { class: "pointer-of", "data-part": `sign ${text.split(",")[0]}`, "data-x": left, "data-y": y };
-  return tag("g", named, label({ class: `pointer ${colourOf(thread)}`, x: left, y }, text));
-}
-
-function drawListLock(state) {
-  if (state.trace.kind !== "coarse") return "";
-  const lock = state.lock === "free" ? label({ x: 110, y: 20 }, "free") : drawLock(state.lock, 110, -2);
-  return label({ class: "name", x: 16, y: 20 }, "the list's lock") + lock;
-}
-const HATCH = { id: "hatch", width: 7, height: 7, patternUnits: "userSpaceOnUse", patternTransform: "rotate(45)" };
-const DEFINITIONS = tag(
-  "defs",
-  {},
-  tag(
-    "pattern",
-    HATCH,
-    tag("rect", { class: "ground", width: 7, height: 7 }),
-    tag("line", { class: "stripe", x1: 0, x2: 0, y1: 0, y2: 7 }),
-  ),
-  ...["in", "out", "hot"].map(drawTip),
-);
-
-function drawList(state, event, { chain, items, places, labels, names, more, width, height: high }, least = 0, own = "") {
-  const above = state.trace.kind === "coarse" ? -4 : TOP - LOCK_HEIGHT; // the list's own lock stands there
-  const height = Math.max(high, least) - above;
-  const folds = items.map((item, index) => (item.folded ? drawFold(item) + drawFoldLink(item, items[index + 1]) : ""));
-  const nodes = names.map((name) => drawNode(state, name, places[name], event));
-  const links = names.map((name) => drawLink(state, name, places, event));
-  const pointers = labels.map((own) => drawPointer(own, places));
-  const frame = { width, height, viewBox: `0 ${above} ${width} ${height}`, role: "img", "aria-label": listInWords(chain, state) };
-  const drawn = tag("svg", frame, DEFINITIONS, ...nodes, ...folds, ...links, ...pointers, drawListLock(state));
-  const named = own === "" ? drawn : drawn.replace(/(url\(#|id=")(tip|hatch)/g, `$1${own}-$2`);
-  return named + (more > 0 ? tag("p", { class: "note" }, `and ${more} more nodes that are not in the chain`) : "");
-}
-
-function listInWords(chain, state) {
-  const inside = chain.filter((name) => name !== "head" && name !== "tail").map((name) => state.nodes[name]);
-  const keys = inside.map((node) => keyText(node.key) + (node.link.endsWith("*") ? " marked" : ""));
-  const more = keys.length > 40 ? ", and more" : "";
-  const list = keys.length === 0 ? "the list is empty" : `the list: ${keys.slice(0, 40).join(", ")}${more}`;
-  const locks = state.locks();
-  const threads = state.threads.map((held, thread) => threadInWords(state, held, thread, locks)).filter((text) => text !== "");
-  return [list, ...threads.slice(0, 12)].join("; ");
-}
-
-function threadInWords(state, held, thread, locks) {
-  if (held.pc === 0) return "";
-  const { registers } = LISTS[state.trace.kind].calls[held.call.operation];
-  const set = registers.filter((name) => NODE_REGISTERS.includes(name) && isPointing(held, name));
-  const at = set.map((name) => `${name} ${held[name]}`).join(", ");
-  const own = locks[`t${thread}`];
-  const has = own === undefined ? "" : `; ${letterOf(thread)} has ${own.join(" and ")}`;
-  return `${letterOf(thread)} ${callText(held.call)} at row ${held.pc}${at === "" ? "" : `: ${at}`}${has}`;
-}
-return { drawList };
-})();
-
-// data/book_code.js
-const $data_book_code = (() => {
-const CHANGES = ["add", "remove"];
-
-const READS = [
-  { of: ["contains"], text: "contains(key):  no lock, no retry" },
-  { of: ["contains"], text: "  curr = curr.next, from the head", rows: [20] },
-  { of: ["contains"], text: "  while curr.key < key: go on", rows: [21] },
-  { of: ["contains"], text: "  return key is there and unmarked", rows: [22] },
-  { of: ["ceiling"], text: "ceiling(key):" },
-  { of: ["ceiling"], text: "  curr = curr.next, from the head", rows: [23] },
-  { of: ["ceiling"], text: "  while curr.key < key: go on", rows: [24] },
-  { of: ["ceiling"], text: "  if marked: start again; return curr.key", rows: [25] },
-];
-
-const BOOK_CODE = {
-  coarse: [
-    { text: "lock the list", rows: [1] },
-    { text: "pred = head; curr = pred.next", rows: [2] },
-    { text: "while curr.key < key:", rows: [3] },
-    { text: "    pred = curr; curr = curr.next", rows: [4] },
-    { of: ["add"], text: "add, if curr.key ≠ key:" },
-    { of: ["add"], text: "    node = new Node(key, next = curr)", rows: [5, 6] },
-    { of: ["add"], text: "    pred.next = node", rows: [7] },
-    { of: ["remove"], text: "remove, if curr.key = key:" },
-    { of: ["remove"], text: "    pred.next = curr.next", rows: [8, 9] },
-    { of: ["contains"], text: "contains: true if curr.key = key" },
-    { text: "unlock the list; return", rows: [10] },
-  ],
-  fine: [
-    { text: "lock head; pred = head", rows: [1] },
-    { text: "curr = pred.next", rows: [2] },
-    { text: "loop: lock curr, pred still locked", rows: [3] },
-    { text: "    if curr.key ≥ key: leave the loop", rows: [4] },
-    { text: "    unlock pred", rows: [5] },
-    { text: "    pred = curr; curr = curr.next", rows: [6] },
-    { of: ["add"], text: "add, if curr.key ≠ key:" },
-    { of: ["add"], text: "    node = new Node(key, next = curr)", rows: [7, 8] },
-    { of: ["add"], text: "    pred.next = node", rows: [9] },
-    { of: ["remove"], text: "remove, if curr.key = key:" },
-    { of: ["remove"], text: "    pred.next = curr.next", rows: [10, 11] },
-    { of: ["contains"], text: "contains: true if curr.key = key" },
-    { text: "unlock curr; unlock pred; return", rows: [12, 13] },
-  ],
-  optimistic: [
-    { text: "pred = head; curr = pred.next", rows: [1] },
-    { text: "while curr.key < key:", rows: [2] },
-    { text: "    pred = curr; curr = curr.next", rows: [3] },
-    { text: "lock pred; lock curr", rows: [4, 5] },
-    { text: "validate: walk from the head again", rows: [6] },
-    { text: "    until pred is met, else not valid", rows: [7] },
-    { text: "    pred.next = curr? else not valid", rows: [8] },
-    { of: ["add"], text: "add, if curr.key ≠ key:" },
-    { of: ["add"], text: "    node = new Node(key, next = curr)", rows: [9, 10] },
-    { of: ["add"], text: "    pred.next = node", rows: [11] },
-    { of: ["remove"], text: "remove, if curr.key = key:" },
-    { of: ["remove"], text: "    pred.next = curr.next", rows: [12, 13] },
-    { of: ["contains"], text: "contains: true if curr.key = key" },
-    { text: "unlock pred; unlock curr", rows: [14, 15] },
-    { text: "if not valid: start again; return", isPlain: true },
-  ],
-  lazy: [
-    { of: CHANGES, text: "pred = head; curr = pred.next", rows: [1] },
-    { of: CHANGES, text: "while curr.key < key:", rows: [2] },
-    { of: CHANGES, text: "    pred = curr; curr = curr.next", rows: [3] },
-    { of: CHANGES, text: "lock pred; lock curr", rows: [4, 5] },
-    { of: CHANGES, text: "validate: pred unmarked, leads to curr", rows: [6] },
-    { of: CHANGES, text: "    and curr unmarked", rows: [7] },
-    { of: ["add"], text: "add, if curr.key ≠ key:" },
-    { of: ["add"], text: "    node = new Node(key, next = curr)", rows: [8, 9] },
-    { of: ["add"], text: "    pred.next = node", rows: [10] },
-    { of: ["remove"], text: "remove, if curr.key = key:" },
-    { of: ["remove"], text: "    mark curr", rows: [11] },
-    { of: ["remove"], text: "    pred.next = curr.next", rows: [12] },
-    { of: CHANGES, text: "unlock curr; unlock pred", rows: [13, 14] },
-    { of: CHANGES, text: "if not valid: start again; return", isPlain: true },
-    ...READS,
-  ],
-  "lock-free": [
-    { of: CHANGES, text: "find: pred = head; curr = pred.next", rows: [1] },
-    { of: CHANGES, text: "    succ, marked = curr.next", rows: [2] },
-    { of: CHANGES, text: "    marked? CAS pred.next: curr → succ", rows: [3] },
-    { of: CHANGES, text: "    if curr.key < key: go one node on", rows: [4] },
-    { of: ["add"], text: "add, if curr.key ≠ key:" },
-    { of: ["add"], text: "    node = new Node(key, next = curr)", rows: [5, 6] },
-    { of: ["add"], text: "    CAS pred.next: curr, no mark → node", rows: [7] },
-    { of: ["add"], text: "    else start again", isPlain: true },
-    { of: ["remove"], text: "remove, if curr.key = key:" },
-    { of: ["remove"], text: "    succ = curr.next", rows: [8] },
-    { of: ["remove"], text: "    CAS curr.next: succ, no mark → mark", rows: [9] },
-    { of: ["remove"], text: "    else start again", isPlain: true },
-    { of: ["remove"], text: "    CAS pred.next: curr → succ, once", rows: [10] },
-    ...READS,
-  ],
-};
-return { BOOK_CODE };
-})();
-
-// story/code.js
-const $story_code = (() => {
-const { BOOK_CODE } = $data_book_code;
-const { chipOf, colourOf, escaped, letterOf, tag } = $run_markup;
-const WORDS = /\b(while|if|else|return|start again|loop|until|unlock|lock|find|validate|CAS|mark|new)\b/g;
-
-/**
- * @typedef {object} CodeSpec  What of the code is shown, and how.
- * @property {string} list
- * @property {string[]} operations  the calls whose lines are shown
- * @property {boolean} [plain]
- * @property {number[]} [fresh]  rows that this list has anew
- * @property {number[]} [hides]  rows that are not shown
- * @property {Record<number, string>} [instead]  the words of a row, in place of its own
- * @property {{ row: number, part: string }[]} [struck]  what is struck out, of the line of a row
- * @property {{ thread: number, row: number }[]} next  the threads, and the rows that they make next
- * @property {{ thread: number, row: number } | null} made  the row that was just made
- * @property {boolean} canStep
- * @property {number} active  the thread that runs to a line where none stands
- */
-
-/** @param {CodeSpec} spec */
-function linesShown({ list, operations, plain, hides = [], instead = {} }) {
-  const isShown = ({ of, rows = [0] }) =>
-    (of === undefined || of.some((name) => operations.includes(name))) && !rows.every((row) => hides.includes(row));
-  const lines = BOOK_CODE[list].filter(isShown).map((line) => ({ ...line, text: instead[line.rows?.[0]] ?? line.text }));
-  if (!plain) return lines;
-  return lines.filter(({ rows }) => rows?.[0] !== 1).map((line) => (line.rows?.includes(10) ? { text: "return", rows: [10] } : line));
-}
-
-function wordsOf(text, rows, struck) {
-  const inBold = (words) => escaped(words).replace(WORDS, "<b>$1</b>");
-  const part = struck.find(({ row }) => rows.includes(row))?.part;
-  if (part === undefined || !text.includes(part)) return inBold(text);
-  const at = text.indexOf(part);
-  const missing = tag("del", {}, tag("span", { class: "unseen" }, "missing: "), escaped(part));
-  return `${inBold(text.slice(0, at))}${missing}${inBold(text.slice(at + part.length))}`;
-}
-
-const drawHere = (threads) => (threads.length < 3 ? threads.map(chipOf).join("") : `${chipOf(threads[0])}<small>+${threads.length - 1}</small>`);
-
-/** @param {any} line @param {CodeSpec} spec */
-function drawOwnLine({ text, rows = [], isPlain = false }, { next, made, fresh = [], struck = [], canStep, active }) {
-  const here = next.filter(({ row }) => rows.includes(row)).map(({ thread }) => thread);
-  const isMade = made !== null && rows.includes(made.row);
-  const isHead = rows.length === 0 && !isPlain;
-  const kinds = [
-    "line",
-    isHead ? "of" : "",
-    isMade ? `made ${colourOf(made.thread)}` : "",
-    here.length > 0 ? `lit ${colourOf(here[0])}` : "",
-    rows.some((row) => fresh.includes(row)) ? "fresh" : "",
-  ];
-  const words = isHead ? escaped(text.trim()) : wordsOf(text.trim(), rows, struck);
-  const depth = text.match(/^ */)[0].length;
-  const gutter = tag("span", { class: "gutter", "data-run": letterOf(active) }, drawHere(here));
-  const inside = gutter + tag("code", { style: `padding-left:${depth * 0.4}em` }, words);
-  const given = { class: kinds.filter((kind) => kind !== "").join(" "), "data-rows": rows.join(" ") };
-  if (rows.length === 0 || !canStep) return tag("li", given, tag("span", { class: "row" }, inside));
-  const what = here.length > 0 ? `next line of ${here.map(letterOf).join(" and ")}: press to step` : `${letterOf(active)} runs to this line`;
-  const button = { class: "row", title: what, "aria-label": `${text.trim()}; ${what}`, "data-threads": here.join(" ") };
-  return tag("li", given, tag("button", button, inside));
-}
-
-/** @param {CodeSpec} spec */
-const drawOwnCode = (spec) => tag("ol", { class: "steps" }, ...linesShown(spec).map((line) => drawOwnLine(line, spec)));
-return { drawOwnCode };
-})();
-
-// story/dock.js
-const $story_dock = (() => {
-const { callText, chipOf, colourOf, letterOf, tag } = $run_markup;
-const { drawContents } = $draw_contents;
-const { drawCalls, scaleOf } = $draw_history;
-const { redraw, setHtml } = $page_dom;
-const { answerText, phaseText } = $story_tale;
-const AGAIN = `<span class="again"><button data-undo class="quiet small" title="take the last press back">↶ One back</button>
-  <button data-again class="quiet small">↺ Start over</button></span>`;
-
-function showDock(figure) {
-  const { spec, run } = figure;
-  if (spec.dock === false || figure.hidesDock) return redraw(figure.part("dock"), "");
-  const isChanged = run.lines.length !== run.first.length && spec.again !== false;
-  redraw(figure.part("dock"), figure.shown.map((thread) => rowOf(figure, thread)).join("") + (isChanged ? AGAIN : ""));
-}
-
-function rowOf(figure, thread) {
-  const { run, spec } = figure;
-  const own = run.trace.calls.filter((call) => call.thread === thread && call.begun <= run.count);
-  const [next] = figure.left(thread);
-  const isIdle = run.isIdle(thread);
-  if (isIdle && next === undefined) return spec.free ? chooser(figure, thread, own) : restOf(run, thread, own.at(-1));
-  const call = isIdle ? { operation: next[0], key: next[1] } : own.at(-1);
-  const plan = run.nextOf(thread, next);
-  const words = spec.words?.[plan.phase] ?? phaseText(plan.phase, call);
-  const key = letterOf(thread).toLowerCase();
-  const given = { class: "step", "data-step": thread, "aria-keyshortcuts": key, ...(figure.isOpen ? {} : { disabled: "" }) };
-  const button = tag("button", given, words, `<kbd aria-hidden="true">${key}</kbd>`);
-  const waits = plan.waits && plan.steps === 1 ? '<span class="waits">has to wait</span>' : "";
-  return threadRow(thread, `<code>${callText(call)}</code> ${button} ${waits}`);
-}
-
-function threadRow(thread, inside) {
-  const given = { class: `thread ${colourOf(thread)}`, "data-thread": thread, role: "group", "aria-label": `thread ${letterOf(thread)}` };
-  return tag("div", given, chipOf(thread), " ", inside);
-}
-
-function restOf(run, thread, last) {
-  if (last === undefined) return threadRow(thread, "");
-  const reply = last.ended !== null && run.count >= last.ended ? `<b class="reply ${last.reply}">${answerText(last.reply)}</b>` : "";
-  return threadRow(thread, `<code>${callText(last)}</code> <span class="does">${reply}</span>`);
-}
-
-function chooser(figure, thread, own) {
-  const last = own.at(-1);
-  const [operation, key] = figure.chosen[thread] ?? [last?.operation ?? "add", last?.key ?? 5];
-  const names = figure.spec.operations ?? ["add", "remove", "contains"];
-  const options = names.map((name) => tag("option", name === operation ? { selected: "" } : {}, name));
-  const letter = letterOf(thread);
-  const field = { type: "number", min: 0, max: 999, value: key, "data-key": thread, "aria-label": `number of ${letter}’s call` };
-  const fields = tag("select", { "data-call": thread, "aria-label": `call of ${letter}` }, ...options) + tag("input", field);
-  const reply = last === undefined ? "" : `<small>${callText(last)}: <b class="reply ${last.reply}">${answerText(last.reply)}</b></small>`;
-  return threadRow(thread, `<span class="choose">${fields}<button data-begin="${thread}">begin</button></span> ${reply}`);
-}
-
-function showStrip(figure) {
-  const { run } = figure;
-  const wide = Math.max(280, figure.stripWide);
-  const room = 26 + 9 * `{${run.promised().join(", ")}}`.length; // right of the last event, for what is in the set then
-  const scale = scaleOf(run.trace, run.count, wide - room, figure.hides);
-  Object.assign(scale, { edge: scale.edge + room, width: wide });
-  figure.scale = scale;
-  setHtml(figure.part("strip"), tag("div", { class: "calls" }, drawCalls(run.trace, scale)) + drawContents(run.trace, scale));
-}
-const MOST_CALLS = 400; // pixels: of more threads the bars scroll
-
-function scrollToLane(figure) {
-  const { run, scale } = figure;
-  if (scale.height <= MOST_CALLS || run.count === 0) return;
-  const box = figure.part("calls");
-  const y = scale.y(run.trace.event(run.count).thread);
-  if (y < box.scrollTop + 20 || y > box.scrollTop + box.clientHeight - 20) box.scrollTop = y - box.clientHeight / 2;
-}
-
-const SCRUB = `<button class="small" data-move="-1" aria-label="one step back">◂</button>
-  <input type="range" min="0" aria-label="moment of the run"><button class="small" data-move="1" aria-label="one step on">▸</button>
-  <span class="small count"></span>`;
-
-function showScrub(figure) {
-  const box = figure.part("scrub");
-  const { count, trace } = figure.run;
-  if (box.firstElementChild === null) {
-    box.innerHTML = SCRUB;
-    box.querySelector("input").oninput = ({ target }) => figure.moveTo(Number(target.value));
-  }
-  const slider = box.querySelector("input");
-  Object.assign(slider, { max: trace.total, value: count });
-  slider.setAttribute("aria-valuetext", `step ${count} of ${trace.total}: ${figure.part("tale").textContent}`);
-  box.querySelector(".count").textContent = `${count} of ${trace.total}`;
-  box.hidden = !figure.isOpen;
-}
-
-
-const MOST_KEY = 999;
-
-function pressed(figure, event) {
-  const button = event.target.closest("button");
-  if (button === null || !figure.box.contains(button)) return;
-  const { step, move, begin, active } = button.dataset;
-  if (step !== undefined) figure.step(Number(step));
-  else if (button.closest("[data-rows]") !== null) pressLine(figure, button);
-  else if (active !== undefined) figure.set({ active: Number(active) });
-  else if ("again" in button.dataset) figure.again();
-  else if ("undo" in button.dataset) figure.undo();
-  else if (move !== undefined) figure.moveTo(figure.run.count + Number(move));
-  else if (begin !== undefined) beginOwn(figure, Number(begin));
-}
-
-function pressLine(figure, button) {
-  if (figure.isBusy || !figure.canStep) return;
-  const rows = button.closest("[data-rows]").dataset.rows.split(" ").map(Number);
-  const here = (button.dataset.threads ?? "").split(" ").filter((text) => text !== "").map(Number);
-  const thread = here.length === 0 || here.includes(figure.active) ? figure.active : here[0];
-  const isIdle = figure.run.isIdle(thread);
-  if (isIdle && figure.left(thread).length === 0) return figure.tell(`${chipOf(thread)} has no call under way.`);
-  figure.leaves();
-  const from = figure.run.trace.total;
-  if (isIdle) figure.run.begin(thread, figure.left(thread)[0]);
-  const isThere = ({ changes }) => rows.includes(changes.pc);
-  const isOff = (event) => !isThere(event) || event.deed === "exchange";
-  figure.play(thread, figure.run.stepsUntil(thread, here.length > 0 ? isOff : isThere), from);
-}
-
-function chooseCall(figure, row) {
-  const call = [row.querySelector("select").value, row.querySelector("input").value];
-  figure.chosen = { ...figure.chosen, [row.dataset.thread]: call };
-}
-
-function beginOwn(figure, thread) {
-  if (figure.isBusy || !figure.canStep) return;
-  chooseCall(figure, figure.box.querySelector(`[data-thread="${thread}"]`));
-  const [operation, key] = figure.chosen[thread];
-  if (!/^\d+$/.test(key) || Number(key) > MOST_KEY) return figure.tell(`A number from 0 to ${MOST_KEY}, please.`);
-  figure.leaves();
-  figure.active = thread;
-  figure.run.begin(thread, [operation, Number(key)]);
-  figure.draw(true);
-  figure.onStep?.(figure);
-}
-return { showDock, showStrip, scrollToLane, showScrub, pressed, chooseCall, beginOwn };
-})();
-
-// story/figure_parts.js
-const $story_figure_parts = (() => {
-const { glide } = $draw_glide;
-const { drawList } = $draw_list;
-const { arranged, shapeFor } = $draw_places;
-const { callText, colourOf, letterOf } = $run_markup;
-const { momentAt } = $run_sentences;
-const { setHtml } = $page_dom;
-const { drawOwnCode } = $story_code;
-const { scrollToLane, showDock, showScrub, showStrip } = $story_dock;
-const { taleOf } = $story_tale;
-const MOST_SCALE = 1.75;
-const MOST_HEIGHT = 0.4; // of the window, for the list
-const NARROW = "(max-width: 760px)";
-const isNarrow = () => matchMedia(NARROW).matches;
-
-
-const codeBox = ({ codeTitle, codeNote = "" }) => `<details class="codebox" ${isNarrow() ? "" : "open"}><summary><b>${codeTitle}</b></summary>
-    <p class="small code-note" ${codeNote === "" ? "hidden" : ""}>${codeNote}</p><span class="runs"></span><div class="lines"></div>
-    <p class="small hint">A letter stands at its thread’s next line. Press the line to step, another one to run there.</p></details>`;
-
-function frameOf({ box, spec }) {
-  box.innerHTML = `<div class="stage"><div class="list" tabindex="0" role="group" aria-label="the list"></div>
-    <p class="tale" aria-live="polite"></p><div class="strip"></div><div class="scrub"></div><div class="dock"></div></div>
-    ${spec.code === false ? "" : codeBox(spec)}`;
-  box.classList.add("fig");
-  box.classList.toggle("wide", spec.code === false);
-  box.classList.toggle("plain", spec.plain === true);
-  box.classList.toggle("short", spec.short === true);
-  box.classList.toggle("undoes", spec.again !== false);
-}
-
-function drawFigure(figure, moment, isNear) {
-  const { run, spec, box } = figure;
-  placeTheList(figure, moment, isNear);
-  const tale = figure.told ?? taleHere(figure, moment);
-  const words = tale === "" ? (spec.tale ?? "") : tale;
-  if (figure.part("tale").innerHTML !== words) figure.part("tale").innerHTML = words;
-  box.classList.toggle("at-end", run.count === run.trace.total);
-  box.classList.toggle("shut", !figure.canStep);
-  showCode(figure, moment);
-  showDock(figure);
-  if (spec.strip) showStrip(figure);
-  if (spec.scrub) showScrub(figure);
-  scrollSoon(figure, moment.event?.thread ?? figure.active);
-}
-
-function scrollSoon(figure, moved) {
-  cancelAnimationFrame(figure.scroll);
-  figure.scroll = requestAnimationFrame(() => {
-    if (figure.isEnded) return;
-    scrollToTouched(figure);
-    scrollToLit(figure, moved);
-    if (figure.spec.strip) scrollToLane(figure);
-  });
-}
-
-function taleHere({ run, spec }, moment) {
-  if (spec.sentence) return spec.sentence(moment);
-  if (moment.event === null) return "";
-  const isOfLock = spec.plain === true && moment.event.word === "list.lock";
-  if (!isOfLock || moment.event.answer === undefined) return taleOf(moment, spec);
-  const { answer, call } = moment.event;
-  const before = taleOf(momentAt(run.state, run.count - 1), spec);
-  run.state.moveTo(run.count);
-  return `${before} <b>${callText(call)} answers ${answer}.</b>`;
-}
-
-
-function placeTheList(figure, { state, event }, isNear) {
-  const box = figure.part("list");
-  const { id, most, spec, wide: room } = figure;
-  if (room === 0) return;
-  const shape = shapeFor(room);
-  const list = arranged(state, event, shape);
-  most.height = Math.max(most.height, list.height);
-  most.width = Math.max(most.width, list.width, (spec.roomFor ?? 0) * shape.share);
-  const draw = () => {
-    box.innerHTML = drawList(state, event, list, most.height, id);
-    const svg = box.firstElementChild;
-    fitList(figure, svg, room, list.width);
-    if (event !== null) svg.classList.add(colourOf(event.thread));
-    if (spec.names) return;
-    for (const sign of svg.querySelectorAll("text.pointer")) plainSign(spec, sign);
-    for (const name of svg.querySelectorAll("text.name")) if (/^n\d+$/.test(name.textContent)) name.remove();
-  };
-  glide(box, draw, isNear);
-}
-
-function fitList({ spec, most: { width } }, svg, room, own) {
-  const [, top, , high] = svg.getAttribute("viewBox").split(" ").map(Number);
-  const tall = Math.max(innerHeight * (spec.high ?? MOST_HEIGHT), spec.least ?? 180);
-  const scale = Math.max(0.5, Math.min(MOST_SCALE, (room - 4) / width, tall / high));
-  svg.setAttribute("viewBox", `${(own - width) / 2} ${top} ${width} ${high}`);
-  svg.setAttribute("width", width * scale);
-  svg.setAttribute("height", high * scale);
-}
-
-function scrollToTouched(figure) {
-  const [box, room] = [figure.part("list"), figure.wide];
-  const drawn = box.firstElementChild;
-  const wide = Number(drawn?.getAttribute("width"));
-  const touched = wide <= room ? null : box.querySelector("[data-hot]");
-  if (touched == null) return;
-  const [x, , width] = drawn.getAttribute("viewBox").split(" ").map(Number);
-  const at = (Number(touched.getAttribute("x")) - x) * (wide / width);
-  if (at < box.scrollLeft + 60 || at > box.scrollLeft + room - 120) box.scrollLeft = at - room / 2;
-}
-
-function plainSign(spec, sign) {
-  const [, letter, given] = /^(▲ \w+) (.*)$/.exec(sign.textContent);
-  const isTold = spec.list === "lock-free" && spec.isPath !== true;
-  const names = given.split(", ").filter((name) => name !== "succ" || isTold).map((name) => (name === "node" ? "2nd walk" : name));
-  if (names.length === 0) sign.remove();
-  else sign.textContent = `${letter} ${names.join(", ")}`;
-}
-
-function markLostNodes({ run, box }) {
-  const has = run.has();
-  const isLost = ({ key }) => run.promised().some((one) => String(one) === key && !has.includes(one));
-  for (const [name, node] of Object.entries(run.state.nodes)) {
-    if (isLost(node)) box.querySelector(`.list [data-part="node ${name}"]`)?.classList.add("lost");
-  }
-}
-
-
-function operationsOf({ spec, run, isGuess }) {
-  const planned = Object.values(spec.calls ?? {}).flat().map(([operation]) => operation);
-  const begun = run.trace.calls.map(({ operation }) => operation);
-  const hidden = isGuess ? (spec.hidden?.operations ?? []) : [];
-  return [...new Set([...(spec.operations ?? []), ...planned, ...begun])].filter((name) => !hidden.includes(name));
-}
-
-function showCode(figure, { state, event, before }) {
-  const box = figure.part("lines");
-  if (box === null) return;
-  const { spec, run, canStep } = figure;
-  const { list, plain, fresh, struck, instead } = spec;
-  const isAble = (thread) => !run.isIdle(thread) || figure.left(thread).length > 0;
-  if (!isAble(figure.active)) figure.active = figure.shown.find(isAble) ?? figure.active;
-  const { active } = figure;
-  const made = event === null || event.deed === "begin" ? null : { row: before.pc, thread: event.thread };
-  const next = state.threads.map((own, thread) => ({ thread, row: own.pc })).filter(({ row }) => row !== 0);
-  const hides = (figure.isGuess ? spec.hidden?.hides : undefined) ?? spec.hides; // some is not told before the guess
-  setHtml(box, drawOwnCode({ list, plain, fresh, struck, hides, instead, operations: operationsOf(figure), next, made, canStep, active }));
-  const toggles = figure.shown.filter(isAble).map((thread) => toggleOf(thread, active));
-  setHtml(figure.part("runs"), canStep && toggles.length > 1 ? toggles.join("") : "");
-}
-
-const toggleOf = (thread, active) => `<button class="who ${colourOf(thread)}" data-active="${thread}" aria-pressed="${thread === active}"
-  title="${letterOf(thread)} runs to another line that is pressed">${letterOf(thread)}</button>`;
-
-function scrollToLit(figure, moved) {
-  const box = figure.part("lines");
-  const line = box?.querySelector(`.lit.${colourOf(moved)}`) ?? box?.querySelector(".made") ?? box?.querySelector(".lit");
-  if (line == null || box.scrollHeight <= box.clientHeight) return;
-  const y = line.offsetTop - box.offsetTop;
-  if (y < box.scrollTop + 10 || y > box.scrollTop + box.clientHeight - 50) box.scrollTop = y - box.clientHeight / 2;
-}
-return { isNarrow, frameOf, drawFigure, markLostNodes };
-})();
-
-// story/figure.js
-const $story_figure = (() => {
-const { momentAt } = $run_sentences;
-const { drawFigure, frameOf, isNarrow, markLostNodes } = $story_figure_parts;
-const { beginOwn, chooseCall, pressed } = $story_dock;
-const { LiveRun } = $story_live_run;
-const BIT = 300; // milliseconds between two steps of one press
-const BETWEEN = 450; // and between two presses that the page makes
-const wantsStill = () => matchMedia("(prefers-reduced-motion: reduce)").matches;
-const sleep = (time) => new Promise((done) => setTimeout(done, time));
-const drawn = { count: 0 };
-const tellBusy = (isBusy) => (document.body.dataset.busy = isBusy ? "yes" : "no");
-
-/**
- * @typedef {import("./live_run.js").RunSpec & { [name: string]: any }} FigureSpec  What a run needs; `calls`, of each thread those
- *   that it is to make; `shown`, the threads with a button; `dock`, `code`, `strip`, `scrub`: what is shown besides the list.
- */
-class Figure {
-  id = `f${drawn.count++}`;
-  past = []; // what stood there before each deed
-  isBusy = false; // steps are being shown
-  isActing = false; // and more of them will be
-  isHurried = false;
-  isEnded = false;
-  isOpen = true; // the reader may step
-  hidesDock = false;
-  isGuess = false; // what would tell the answer is not shown
-  isLost = false; // the nodes that are lost are lit
-  hides = true; // of the history, what comes later
-  wide = 0; // of the list, in pixels
-  stripWide = 0;
-  scroll = 0;
-  told = null;
-  onStep = null;
-  onFork = null;
-
-  /** @param {any} box @param {FigureSpec} spec */
-  constructor(box, spec) {
-    this.box = box;
-    this.spec = spec;
-    this.run = spec.run ?? new LiveRun(spec);
-    this.shown = spec.shown ?? this.run.state.threads.map((_, thread) => thread);
-    this.active = spec.active ?? 0;
-    this.chosen = spec.chosen ?? {}; // of an idle thread, the call that stands in its fields
-    this.most = { width: 0, height: spec.tall && !isNarrow() ? 262 : 0 }; // room for a node that is sure to come
-    frameOf(this);
-    box.addEventListener("click", (event) => pressed(this, event));
-    box.addEventListener("input", ({ target }) => target.closest(".choose") !== null && chooseCall(this, target.closest("[data-thread]")));
-    this.stretch = new ResizeObserver(() => {
-      if (this.part("list").clientWidth !== this.wide) requestAnimationFrame(() => this.isEnded || this.fit());
-    });
-    this.stretch.observe(this.part("list"));
-    this.fit();
-  }
-
-  fit() {
-    [this.wide, this.stripWide] = ["list", "strip"].map((name) => this.part(name).clientWidth);
-    this.draw();
-  }
-
-  end() {
-    this.stretch.disconnect();
-    this.isEnded = true;
-    tellBusy(false);
-  }
-
-  part(name) {
-    return this.box.querySelector(`.${name}`);
-  }
-
-  set(given) {
-    Object.assign(this, given);
-    this.draw();
-  }
-
-  get canStep() {
-    return this.isOpen && !this.hidesDock && this.spec.dock !== false;
-  }
-
-  left(thread) {
-    const own = this.spec.calls?.[thread] ?? [];
-    return own.slice(this.run.trace.calls.filter((call) => call.thread === thread).length);
-  }
-
-  reset() {
-    this.run.take(this.run.first);
-    Object.assign(this, { past: [], told: null, isLost: false });
-    this.draw();
-  }
-
-  leaves() {
-    this.onFork?.(this);
-    this.past.push([...this.run.lines]);
-  }
-
-  async step(thread) {
-    if (!this.isOpen) return;
-    if (this.isBusy) return void (this.isHurried = true);
-    const [call] = this.left(thread);
-    if (this.run.isIdle(thread) && call === undefined) return;
-    this.leaves();
-    const next = this.run.nextOf(thread, call);
-    const before = this.run.trace.total;
-    if (next.isBegin) this.run.begin(thread, call);
-    await this.play(thread, next.steps, before);
-  }
-
-  press(thread) {
-    if (!this.canStep || !this.shown.includes(thread)) return;
-    if (this.run.isIdle(thread) && this.left(thread).length === 0 && this.spec.free) beginOwn(this, thread);
-    else this.step(thread);
-  }
-
-  async play(thread, steps, from) {
-    this.active = thread;
-    this.run.go(thread, steps);
-    await this.show(from);
-    if (!this.isEnded) this.onStep?.(this);
-  }
-
-  async show(from) {
-    const { total } = this.run.trace;
-    this.isBusy = true;
-    this.isHurried = false;
-    tellBusy(true);
-    for (let count = Math.min(from + 1, total); count <= total; count++) {
-      if (this.isEnded) return;
-      if (count < total && (this.isHurried || wantsStill() || this.isHidden(count))) continue;
-      this.run.moveTo(count);
-      this.part("tale").setAttribute("aria-live", count < total ? "off" : "polite"); // of a play only the last sentence is read out
-      this.isBusy = count < total;
-      this.draw(true);
-      if (count < total) await sleep(BIT);
-    }
-    this.isBusy = false;
-    tellBusy(this.isActing);
-  }
-
-  async replay(from = 0) {
-    if (this.isBusy) return;
-    this.run.moveTo(from);
-    this.draw();
-    await this.show(from);
-  }
-
-  isHidden(count) {
-    return this.spec.plain === true && this.run.trace.event(count).word === "list.lock";
-  }
-
-  async act(deeds) {
-    const { onStep } = this;
-    Object.assign(this, { onStep: null, isActing: true });
-    for (const [thread, many = 1] of deeds) {
-      for (let bit = 0; many === "out" ? bit === 0 || !this.run.isIdle(thread) : bit < many; bit++) {
-        if (this.isEnded) return;
-        await this.step(thread);
-        await sleep(wantsStill() ? 0 : BETWEEN);
-      }
-    }
-    Object.assign(this, { onStep, isActing: false });
-    tellBusy(false);
-  }
-
-  undo() {
-    if (this.isBusy || this.past.length === 0) return;
-    this.run.take(this.past.pop());
-    this.isLost = false;
-    this.draw(true);
-    this.onStep?.(this);
-  }
-
-  again() {
-    if (this.isBusy) return;
-    this.reset();
-    this.onStep?.(this);
-  }
-
-  tell(text) {
-    this.told = text;
-    this.part("tale").innerHTML = text;
-  }
-
-  draw(isNear = false, moment = momentAt(this.run.state, this.run.count)) {
-    if (isNear) this.told = null;
-    drawFigure(this, moment, isNear);
-    if (this.isLost && this.run.count === this.run.trace.total) markLostNodes(this);
-  }
-
-  moveTo(count) {
-    if (this.isBusy) return;
-    const isNear = Math.abs(count - this.run.count) <= 1;
-    this.run.moveTo(count);
-    this.draw(isNear);
-  }
-}
-return { Figure };
-})();
-
-// story/still_figure.js
-const $story_still_figure = (() => {
-const { momentAt } = $run_sentences;
-const { Figure } = $story_figure;
-class StillFigure extends Figure {
-  constructor(box, spec) {
-    super(box, { dock: false, names: true, strip: true, short: true, again: false, ...spec });
-  }
-
-  take(run, moment = momentAt(run.state, run.count), hides = true) {
-    const isNear = run.trace.kind === this.run.trace.kind && Math.abs(run.count - this.run.count) === 1;
-    Object.assign(this, { run, hides });
-    this.draw(isNear, moment);
-  }
-}
-return { StillFigure };
-})();
-
-// run/address.js
-const $run_address = (() => {
-const { LACKING } = $made_classics;
-const { LISTS } = $made_rows;
-const { scheduleText, versionOf } = $run_schedule_text;
-const LONGEST_ADDRESS = 30000; // characters; a longer schedule has no address
-const SHORT_WORDS = { begin: "b", go: "g" };
-const LONG_WORDS = { b: "begin", g: "go" };
-const SHORT_EVENT = String.raw`(b\d+\.[a-z]+\.\d+|g\d+\.\d+)`;
-const ADDRESS_PARTS = {
-  example: /^[a-z-]+$/,
-  list: /^[A-Za-z-]+$/,
-  threads: /^\d+$/,
-  quota: /^\d+$/,
-  version: /^\d+$/,
-  opening: /^\d+(\.\d+)*$/,
-  s: new RegExp(`^(${SHORT_EVENT}(,${SHORT_EVENT})*)?$`),
-  event: /^\d+$/,
-  lacks: /^(\d+|[A-Za-z-]+)$/,
-  view: /^(lecture|list|history)$/,
-  course: /^[A-Za-z0-9_-]+$/,
-  sides: /^(coarse|fine|optimistic|lazy|lock-free)\.(coarse|fine|optimistic|lazy|lock-free)$/,
-  calls: /^(\d\d?\.[a-z]+\.\d+(,|$))+$/,
-  turns: /^(\d\d?(\.\d\d?)*)?$/,
-  watch: /^[a-z-]*$/,
-  learn: /^[a-z0-9-]*$/,
-  judge: /^$/,
-  break: /^\d*$/,
-  compare: /^$/,
-  read: /^$/,
-  seed: /^(coarse|fine|optimistic|lazy|lock-free)\.\d{1,2}\.\d{1,2}\.\d{1,2}\.\d{1,9}$/,
-};
-
-class AddressFault extends Error {}
-
-function addressOf(text, event, lacks = null) {
-  if (text.length > 2 * LONGEST_ADDRESS) return null; // an address has more than half of the letters
-  const [title, list, threads, quota, ...lines] = text.split("\n").slice(0, -1);
-  const isOpening = (line) => line.startsWith("opening ");
-  const opening = lines.filter(isOpening).map((line) => line.slice("opening ".length));
-  const events = lines.filter((line) => !isOpening(line)).map(shortLine);
-  const version = title?.split(" ")[1];
-  const needed = versionOf(scheduleText({ list, threads, quota, opening }, lines));
-  const parts = [`list=${list?.split(" ")[1]}`, `threads=${threads?.split(" ")[1]}`, `quota=${quota?.split(" ")[1]}`];
-  if (version !== String(needed)) parts.push(`version=${version}`);
-  if (opening.length > 0) parts.push(`opening=${opening.join(".")}`);
-  parts.push(`s=${events.join()}`, `event=${event}`);
-  if (lacks !== null) parts.push(`lacks=${Object.keys(LACKING).indexOf(lacks) + 1}`);
-  const address = `#${parts.join("&")}`;
-  return address.length <= LONGEST_ADDRESS && isAddressOf(address, text) ? address : null;
-}
-
-const shortLine = (line) => {
-  const [word, ...values] = line.split(" ");
-  return `${SHORT_WORDS[word] ?? word}${values.join(".")}`;
-};
-
-const longLine = (short) => `${LONG_WORDS[short[0]]} ${short.slice(1).replaceAll(".", " ")}`;
-
-function isAddressOf(address, text) {
-  try {
-    return readAddress(address).text === text;
-  } catch (fault) {
-    if (!(fault instanceof AddressFault)) throw fault;
-    return false;
-  }
-}
-
-function readAddress(hash) {
-  const { view = null, course = null, lacks: which, seed = null, ...rest } = partsOf(hash);
-  const { place, isJudged, parts } = placeOf(rest, seed);
-  const lacks = which === undefined ? null : lackingNamed(which, parts);
-  const own = { view, course, sides: null, lacks, place, seed, isJudged };
-  const named = { example: parts.example ?? null, text: null, event: Number(parts.event ?? 0), ...own };
-  if (parts.sides !== undefined) return { ...named, sides: parts };
-  const ofSchedule = Object.keys(parts).filter((name) => name !== "event" && name !== "example");
-  if (named.example !== null && ofSchedule.length > 0) {
-    throw new AddressFault(`the address names an example, and has "${ofSchedule[0]}" too`);
-  }
-  if (ofSchedule.length > 0) named.text = textOfParts(parts);
-  return named;
-}
-
-function lackingNamed(which, { list, example }) {
-  const names = Object.keys(LACKING);
-  const lacks = names.includes(which) ? which : names[which - 1];
-  if (lacks === undefined) {
-    throw new AddressFault(`there is no broken list "${which}": expected 1 to ${names.length}, or a name that "listset show --help" prints`);
-  }
-  if (list === LACKING[lacks]) return lacks;
-  const named = list !== undefined ? `list=${list}` : example !== undefined ? `example=${example}` : "no list";
-  throw new AddressFault(`lacks=${which} is a broken ${LISTS[LACKING[lacks]].name}, and the address has ${named}`);
-}
-
-function placeOf(parts, seed) {
-  const isRun = seed !== null || parts.example !== undefined || parts.list !== undefined;
-  const name = ["watch", "learn", "judge", "break", "compare", "read"].find((one) => parts[one] !== undefined);
-  if (name === undefined) return { place: null, isJudged: false, parts };
-  const { [name]: value, ...others } = parts;
-  const isJudged = name === "judge" && isRun;
-  return { place: isJudged ? null : [name, value], isJudged, parts: others };
-}
-
-function partsOf(hash) {
-  const parts = {};
-  for (const [name, value] of new URLSearchParams(hash.replace(/^#/, ""))) {
-    if (!Object.hasOwn(ADDRESS_PARTS, name)) throw new AddressFault(`the address has a part "${name}", which is none`);
-    if (name in parts) throw new AddressFault(`the address has "${name}" twice`);
-    if (!ADDRESS_PARTS[name].test(value)) throw new AddressFault(`"${value.slice(0, 60)}" is no ${name} of an address`);
-    parts[name] = value;
-  }
-  return parts;
-}
-
-function textOfParts(parts) {
-  const missing = ["list", "threads", "quota"].find((name) => parts[name] === undefined);
-  if (missing !== undefined) throw new AddressFault(`the address has no "${missing}"`);
-  const events = (parts.s ? parts.s.split(",") : []).map(longLine);
-  return scheduleText({ ...parts, opening: parts.opening?.split(".") }, events);
-}
-
-const warningOf = (link) =>
-  link.startsWith("file:") ? " Others cannot open it, since it leads to a file on this computer: copy it from a page on a web server." : "";
-return { LONGEST_ADDRESS, AddressFault, addressOf, shortLine, longLine, readAddress, warningOf };
-})();
-
-// run/seed.js
-const $run_seed = (() => {
-const { AddressFault } = $run_address;
-const { isTrace, Trace } = $run_trace;
-const KINDS = ["coarse", "fine", "optimistic", "lazy", "lock-free"];
-const TRIES = 200;
-const MOST_TRIED_CALLS = 8; // of a run with more calls the first is taken
-const MOST_SEEN = 60; // events that are told apart by eye
-
-const seedOf = (kind, number, { threads = 2, calls = 5, keys = 2 } = {}) => `${kind}.${threads}.${calls}.${keys}.${number}`;
-
-function partsOfSeed(seed) {
-  const [kind, ...values] = seed.split(".");
-  const [threads, calls, keys, number] = values.map(Number);
-  return { kind, threads, calls, keys, number };
-}
-
-function scheduleOfSeed(ask, seed) {
-  const { kind, threads, calls, keys, number } = partsOfSeed(seed);
-  const tries = calls > MOST_TRIED_CALLS ? 1 : TRIES;
-  let text = "";
-  for (let tried = 0; tried < tries; tried++) {
-    const answer = ask("listset_gen", [kind, threads, 4, calls, keys, number * TRIES + tried].join("\0"));
-    if (answer.status !== 0) throw new AddressFault(`the address names no run: ${answer.text.trim()}`);
-    text = answer.text;
-    const traced = ask("listset_trace", text).text;
-    if (!isTrace(traced)) throw new AddressFault(`the run of the address has no trace: ${traced.trim()}`);
-    if (isWorthIt(new Trace(traced))) break;
-  }
-  return joined(text);
-}
-
-function isWorthIt({ calls, changes, total }) {
-  const puts = changes.some(({ put }) => put !== undefined) && changes.some(({ took }) => took !== undefined);
-  const isBeside = (one, other) => one.thread !== other.thread && one.begun < other.ended && other.begun < one.ended;
-  const beside = calls.filter((one) => calls.some((other) => isBeside(one, other)));
-  const isTold = beside.some(({ changes: own, operation, reply }) => !own && (operation === "contains" || reply === "false"));
-  return puts && isTold && total <= MOST_SEEN && calls.every(({ ended }) => ended !== null);
-}
-
-function joined(text) {
-  const lines = [];
-  for (const line of text.trimEnd().split("\n")) {
-    const [thread, steps] = /^go (\d+) (\d+)$/.exec(line)?.slice(1) ?? [];
-    const [before, count] = /^go (\d+) (\d+)$/.exec(lines.at(-1) ?? "")?.slice(1) ?? [];
-    if (thread !== undefined && thread === before) lines[lines.length - 1] = `go ${thread} ${Number(count) + Number(steps)}`;
-    else lines.push(line);
-  }
-  return `${lines.join("\n")}\n`;
-}
-
-function anotherSeed(before, kind = null) {
-  const list = kind ?? KINDS[Math.floor(Math.random() * KINDS.length)];
-  const number = 1 + Math.floor(Math.random() * 9999);
-  const seed = seedOf(list, number);
-  return seed === before ? seedOf(list, (number % 9999) + 1) : seed;
-}
-return { seedOf, partsOfSeed, scheduleOfSeed, anotherSeed };
-})();
-
-// data/levels.js
-const $data_levels = (() => {
-const BREAK_LEVELS = {
-  lock: {
-    story: "One thread at a time, they say. Let two of them meet.",
-    hints: [
-      "Two adds of different keys, both between 3 and 7.",
-      "Let both threads walk to the same place: pred is the node of 3, curr that of 7.",
-      "Stop A just before it writes pred.next. Let B do its whole add. Then let A end.",
-    ],
-    lacks: "It continues although another thread holds the lock.",
-    others: {
-      "It releases the lock before it writes the arrow.": "it releases the lock only after that",
-      "It writes the arrow of pred before that of its own node.": "it writes the arrow of its own node first",
-    },
-    start: [["add", 5], ["add", 4]], shortest: [20, 2],
-    missing: [{ row: 1, part: "lock the list" }],
-  },
-  "mark-in-remove": {
-    story: "Two threads remove one key. One of them should answer that it came too late.",
-    hints: [
-      "Two removes of the same key, 3.",
-      "Let both threads find the node of 3 before either of them marks it.",
-      "Stop A before the step that sets the mark; let B set its own; then let both end.",
-    ],
-    lacks: "A remove marks a node that is marked already.",
-    others: {
-      "A remove takes its node out before it marks it.": "it marks the node first",
-      "A remove does not look whether its key is there.": "it compares curr.key with its key",
-    },
-    start: [["remove", 3], ["remove", 3]], shortest: [14, 2],
-    missing: [{ row: 9, part: "no mark" }],
-  },
-  mark: {
-    story: "Removing a node is one compare-and-set here. Fast. Too fast?",
-    hints: [
-      "An add of 5, and a remove of the node in front of it.",
-      "The pred of the add must be the node of 3, which the other thread removes.",
-      "Stop A before the step that links 5 in. Let B remove 3. Then one step of A.",
-    ],
-    lacks: "A remove unlinks its node without marking it first.",
-    others: {
-      "A remove marks a node that is marked already.": "it marks no node at all",
-      "An add writes its arrow without comparing.": "it compares with what it saw",
-    },
-    start: [["add", 5], ["remove", 3]], shortest: [15, 2],
-    missing: [{ row: 9, part: "CAS curr.next: succ, no mark → mark" }],
-  },
-  "new-slot": {
-    story: "Each key that is added needs a node of its own. Does it get one?",
-    hints: ["One thread is enough. It adds.", "Two adds of different keys, one after the other.", "Let A add 4, and then 5. Where is 4?"],
-    lacks: "An add writes into the node of its last key.",
-    others: {
-      "An add does not look whether its key is there.": "it compares curr.key with its key",
-      "An add writes its arrow without comparing.": "it compares with what it saw",
-    },
-    start: [["add", 4], ["add", 5]], shortest: [20, 2],
-    missing: [{ row: 5, part: "new " }],
-  },
-  "second-lock": {
-    story: "Hand over hand means two locks at a time. Here one hand stays in the pocket.",
-    hints: [
-      "An add of 5 beside a remove of 3, its neighbour.",
-      "The add must hold the lock of 3 while the other thread removes that node.",
-      "Let B step through its add until just before it writes pred.next, with 3 as its pred. Then try a remove of 3 by A.",
-    ],
-    lacks: "A remove locks only pred, and not the node that it unlinks.",
-    others: {
-      "A remove does not lock pred.": "it locks pred, and keeps that lock until it has written",
-      "A remove releases its lock before it writes.": "it releases its lock only after that",
-    },
-    start: [["remove", 3], ["add", 5]], shortest: [21, 2],
-    missing: [{ row: 3, part: "lock curr," }],
-  },
-  "hand-over-hand": {
-    story: "A walk should never be without a lock, not for one moment.",
-    hints: [
-      "An add of 5 beside a remove of 3, its neighbour.",
-      "There is a moment in which the walk of the add holds no lock. Find it.",
-      "Stop B on its way from the node of 3 to that of 7. Let A remove 3. Then let B end.",
-    ],
-    lacks: "A walk releases one lock before it has the next.",
-    others: {
-      "It releases its locks before it writes.": "it releases them only after that",
-      "A walk does not lock the head.": "it locks the head first of all",
-    },
-    start: [["remove", 3], ["add", 5]], shortest: [24, 2],
-    missing: [{ row: 3, part: "pred still locked" }],
-  },
-  "second-walk": {
-    story: "It locks two nodes, and looks again. But what does it look at?",
-    hints: [
-      "An add of 5 beside a remove of 3, its neighbour.",
-      "The node that the add has found as pred may be unlinked before it is locked.",
-      "Stop A before it locks pred, which is the node of 3. Let B remove 3. Then let A end.",
-    ],
-    lacks: "With the locks it does not walk again: pred may not be in the list any more.",
-    others: {
-      "It does not lock curr.": "it locks pred and curr",
-      "It does not look whether pred still leads to curr.": "it looks at that, with both locks",
-    },
-    start: [["add", 5], ["remove", 3]], shortest: [23, 2],
-    missing: [{ row: 6, part: "walk from the head again" }, { row: 7, part: "until pred is met, else not valid" }],
-  },
-  "marks-in-validation": {
-    story: "Marks are set here. Does everybody read them?",
-    hints: [
-      "An add of 5 beside a remove of 3, its neighbour.",
-      "The node that the add has found as pred may be removed before it is locked.",
-      "Stop A before it locks pred, which is the node of 3. Let B remove 3. Then let A end.",
-    ],
-    lacks: "The validation does not look at the marks.",
-    others: {
-      "The validation does not look whether pred still leads to curr.": "it looks at that, with both locks",
-      "A remove does not mark its node.": "it marks the node before it unlinks it",
-    },
-    start: [["add", 5], ["remove", 3]], shortest: [25, 2],
-    missing: [{ row: 6, part: "pred unmarked," }, { row: 7, part: "and curr unmarked" }],
-  },
-  "mark-in-add": {
-    story: "A marked arrow must not change. Somebody changes it all the same.",
-    hints: [
-      "An add of 5, and a remove of the node in front of it.",
-      "The remove must have marked the node of 3, and done no more.",
-      "Stop A before its last step. Let B remove 3 until it has set the mark. Then let A end.",
-    ],
-    lacks: "An add inserts its node behind a marked one.",
-    others: {
-      "A remove does not mark its node.": "it marks the node before it unlinks it",
-      "An add does not look whether its key is there.": "it compares curr.key with its key",
-    },
-    start: [["add", 5], ["remove", 3]], shortest: [17, 2],
-    missing: [{ row: 7, part: "no mark" }],
-  },
-  "same-node": {
-    story: "The second walk looks for pred. It meets something that looks like it.",
-    hints: [
-      "Three calls: an add of 5, and of the other thread a remove and an add of one key.",
-      "The node of 3 is unlinked, and another node of 3 is inserted.",
-      "Stop A before it locks pred, the old node of 3. Let B remove 3 and add 3 again. Then let A end.",
-    ],
-    lacks: "The second walk looks for the key of pred, and not for the node itself.",
-    others: {
-      "It does not walk a second time.": "it walks from the head again, with its locks",
-      "It does not lock pred.": "it locks pred and curr",
-    },
-    start: [["add", 5], ["remove", 3]], shortest: [36, 3],
-    missing: [{ row: 7, part: "pred is met" }],
-  },
-  "mark-at-key": {
-    story: "A marked node can stay in the chain for a while. Who reads it there?",
-    hints: [
-      "Three calls: an add of 5, a remove of 7, and then a contains of 7.",
-      "A remove whose last compare-and-set fails leaves its node in the chain, marked.",
-      "Stop A before it links 5 in. Let B remove 7 up to its last step. Link 5 in, let B end. Then call contains(7).",
-    ],
-    lacks: "A contains does not look at the mark of the node with its key.",
-    others: {
-      "A remove does not mark its node.": "it marks the node before it unlinks it",
-      "A contains stops before it comes to its key.": "it walks on while curr.key is below its key",
-    },
-    start: [["add", 5], ["remove", 7]], shortest: [26, 3],
-    missing: [{ row: 22, part: "and unmarked" }],
-  },
-  "mark-in-ceiling": {
-    story: "ceiling(2) asks for the smallest key from 2 on. It takes the first node that it finds. Any node?",
-    hints: [
-      "A remove of 3, and a ceiling of 2. Let something end in between.",
-      "The remove has marked the node of 3 and has not ended. A contains of 3 answers false. And then the ceiling?",
-      "Stop A after it set the mark. Let B call contains(3), and then ceiling(2).",
-    ],
-    lacks: "A ceiling does not look at the mark of its node.",
-    others: {
-      "A ceiling stops before it comes to its key.": "it walks on while curr.key is below its key",
-      "A remove does not mark its node.": "it marks the node before it unlinks it",
-    },
-    start: [["remove", 3], ["contains", 3]], shortest: [16, 3],
-    missing: [{ row: 25, part: "if marked: start again;" }],
-  },
-  "mark-in-contains": {
-    story: "Here contains does not look at the mark. No schedule is known after which no order explains the calls. Why not?",
-    hints: [
-      "A remove of 3, and a contains of 3 by the other thread.",
-      "The remove has set its mark and is still pending. So it may come after the contains.",
-      "When the remove has ended, can a new contains still reach its node? In this list a remove ends after the node is unlinked.",
-    ],
-    lacks: "A contains does not look at the mark of its node.",
-    others: {},
-    start: [["remove", 3], ["contains", 3]], shortest: null,
-    missing: [{ row: 22, part: "and unmarked" }],
-  },
-};
-
-const TEN = [
-  "lock", "second-lock", "hand-over-hand", "second-walk", "same-node", "marks-in-validation", "mark-in-remove", "mark", "mark-in-add",
-  "mark-at-key",
-];
-const THREE_MORE = ["new-slot", "mark-in-ceiling", "mark-in-contains"];
-
-const NUMBERED = Object.keys(BREAK_LEVELS);
-const numberOfLevel = (name) => NUMBERED.indexOf(name) + 1;
-const levelOfNumber = (number) => NUMBERED[Number(number) - 1];
-
-const whyWrong = (name, sentence) => `No: ${BREAK_LEVELS[name].others[sentence]}. Look for the line that this list makes differently.`;
-return { BREAK_LEVELS, TEN, THREE_MORE, numberOfLevel, levelOfNumber, whyWrong };
-})();
-
-// page/scene_address.js
-const $page_scene_address = (() => {
-const { CLASSICS } = $made_classics;
-const { LISTS } = $made_rows;
-const { levelOfNumber } = $data_levels;
-const { AddressFault, addressOf, LONGEST_ADDRESS, longLine, shortLine } = $run_address;
-const { startOfLacking } = $run_broken;
-const { inLetters } = $run_markup;
-const { eventsAsked } = $run_schedule_text;
-const { partsOfSeed } = $run_seed;
-const SCENES = ["assignment", "story", "ask", "code", "teachers"]; // run/address.js reads the others, with their schedules
-const SCENE_VIEWS = ["lecture", "embed"];
-
-function sceneOfHash(hash) {
-  const { view = null, ...parts } = Object.fromEntries(new URLSearchParams(hash.replace(/^#/, "")));
-  const activity = SCENES.find((name) => name in parts);
-  if (activity === undefined) return null;
-  if (view !== null && !SCENE_VIEWS.includes(view)) throw new AddressFault(`"${view.slice(0, 60)}" is no view of a page`);
-  const { [activity]: id, ...given } = parts;
-  return { activity, id, given, view };
-}
-
-const START_OF_CODE = [3, 7];
-const linesOfCode = (s) => s.split(",").filter((line) => /^(b\d+\.[a-z]+\.\d+|g\d+\.\d+)$/.test(line)).map(longLine);
-
-const SET_OF_CODE = { threads: 2, quota: 9 };
-
-function addressOfCode(list, opening, lines, set = SET_OF_CODE) {
-  const ofOpening = opening.join() === START_OF_CODE.join() && lines.length === 0 ? "" : `&opening=${opening.join(".")}`;
-  const ofSet = ["threads", "quota"].map((name) => (set[name] === SET_OF_CODE[name] ? "" : `&${name}=${set[name]}`)).join("");
-  return `#code=${list}${ofSet}${ofOpening}${lines.length > 0 ? `&s=${lines.map(shortLine).join()}` : ""}`;
-}
-
-function addressOfLevel({ id }, { text }) {
-  const name = levelOfNumber(id);
-  if (id === "" || text === "" || text === startOfLacking(name)) return id === "" ? "#break" : `#break=${id}`;
-  return `#break=${id}&${addressOf(text, eventsAsked(text))?.slice(1) ?? ""}`;
-}
-
-function addressOfLesson({ id }, { text }, { course }) {
-  const named = `${course === null ? "#" : `${course}&`}learn${id === "" ? "" : `=${id}`}`;
-  const own = text === "" ? null : addressOf(text, eventsAsked(text));
-  const whole = own === null ? named : `${named}&${own.slice(1)}`;
-  return whole.length <= LONGEST_ADDRESS ? whole : named;
-}
-
-const addressOfAssignment = ({ id, given }) => `#${new URLSearchParams({ assignment: id, ...given })}`.replaceAll("%2C", ",");
-
-const plainAddress = ({ activity, id }) => `#${activity}${id === "" ? "" : `=${id}`}`;
-
-const ADDRESSES = {
-  code: ({ id, given }, { text }) => text || `#${new URLSearchParams({ code: id, ...given })}`,
-  compare: (place, { text }) => text || plainAddress(place),
-  break: addressOfLevel,
-  learn: addressOfLesson,
-  assignment: addressOfAssignment,
-};
-
-const addressOfScene = ({ place, scene }, given) =>
-  `${(ADDRESSES[place.activity] ?? plainAddress)(place, scene, given)}${place.view === null ? "" : `&view=${place.view}`}`;
-
-
-function ofRun(state) {
-  const { task, run } = state;
-  if (task.kind === "own") return addressOf(run.text, run.count, run.lacks);
-  return `#${task.kind}=${task.id}&event=${run.count}`;
-}
-
-function addressIn(state, given) {
-  const { place, exercise } = state;
-  if (place.screen === "scene") return addressOfScene(state, given);
-  const view = place.view === null ? "" : `&view=${place.view}`;
-  const address = ofRun(state);
-  return address === null ? null : `${address}${exercise === null ? "" : "&judge"}${view}`;
-}
-
-const WHOLE = "Why not just one lock?";
-
-function titleIn(state, titleOfScene) {
-  const { place, task, run } = state;
-  const list = run.trace === null ? "" : LISTS[run.trace.kind].name;
-  if (place.screen === "scene") return titleOfScene(place);
-  const judged = state.exercise === null ? "" : "Judge: ";
-  const ofTask = {
-    example: () => `${judged}${inLetters(CLASSICS[task.id].question)}`,
-    seed: () => `${judged}Run ${partsOfSeed(task.id).number} of ${list}`,
-    own: () => `${judged}${task.work}: ${list}`,
-  };
-  return `${ofTask[task.kind]()} · ${WHOLE}`;
-}
-return { sceneOfHash, START_OF_CODE, linesOfCode, SET_OF_CODE, addressOfCode, addressOfAssignment, addressIn, titleIn };
-})();
-
-// run/moments.js
-const $run_moments = (() => {
-const { isFailed, isLock, ownerIn } = $run_outcomes;
-const { State } = $run_state;
-class Run {
-  constructor(trace) {
-    const state = new State(trace);
-    const keys = new Set(trace.opening);
-    this.calls = trace.calls;
-    this.moments = trace.events().map((event) => momentAfter(state, keys, event));
-  }
-
-  ofCall(call) {
-    return this.moments.filter(({ event }) => event.call === call);
-  }
-
-  lastOf(call) {
-    return this.moments[call.ended - 1];
-  }
-
-  restsOf(thread) {
-    const steps = this.moments.filter(({ event }) => event.thread === thread);
-    return steps.map((step, at) => {
-      const next = steps[at + 1]?.event.number ?? this.moments.length + 1;
-      return { step, others: this.moments.slice(step.event.number, next - 1) };
-    });
-  }
-
-  nodeOf(call) {
-    return call.changes ? nodeOf(this.moments[call.at - 1].event) : null;
-  }
-
-  isTakenOut(node, { event, chain }) {
-    return this.moments[event.number - 2]?.chain.includes(node) === true && !chain.includes(node);
-  }
-}
-
-function momentAfter(state, keys, event) {
-  const row = state.threads[event.thread].pc;
-  state.moveTo(event.number);
-  if (event.put !== undefined) keys.add(event.put);
-  if (event.took !== undefined) keys.delete(event.took);
-  const thread = { ...state.threads[event.thread] };
-  const linkOfPred = state.nodes[thread.pred]?.link;
-  return { event, row, thread, linkOfPred, chain: state.chain(), locks: locksIn(state), keys: new Set(keys) };
-}
-
-function locksIn(state) {
-  const words = [state, ...Object.values(state.nodes)];
-  return words.map(({ lock }) => lock).filter((lock) => lock !== "free");
-}
-
-const locksOf = (moment, thread) => moment.locks.filter((lock) => lock === `t${thread}`).length;
-const nodeOf = (event) => ownerIn(event.word);
-const isFailedStep = ({ event }) => isFailed(event);
-const isFailedTry = (moment) => isFailedStep(moment) && isLock(moment.event.word);
-const isMarkSeen = ({ event }) => event.saw !== undefined && event.saw.endsWith("*");
-const isReadOfLink = ({ event }) => event.deed === "load" && event.word.endsWith(".link");
-const isInChain = (moment) => moment.chain.includes(nodeOf(moment.event));
-
-const isWithin = (call, { step, others }) =>
-  call.begun > step.event.number && call.ended !== null && call.ended <= step.event.number + others.length;
-return { Run, locksOf, nodeOf, isFailedStep, isFailedTry, isMarkSeen, isReadOfLink, isInChain, isWithin };
-})();
-
 // course/goal_words.js
 const $course_goal_words = (() => {
-const { isFailedStep, isFailedTry, isInChain, isMarkSeen, isReadOfLink, isWithin, locksOf, nodeOf } = $run_moments;
+const { isFailed, isLock, ownerIn } = $run_outcomes;
+const { State } = $run_state;
 class GoalFault extends Error {
   constructor(line, fault) {
     super(fault);
@@ -6516,7 +5075,67 @@ function conditionsOf(goal, run) {
   const ends = goal.map(({ says }, index) => ({ says, index })).filter(({ says }) => says !== undefined);
   return ends.map(({ says, index }) => ({ says, isMet: canMeet(goal.slice(0, index), run) }));
 }
-return { GoalFault, CLAUSES, readGoal, TooManyWays, conditionsOf };
+
+
+class Run {
+  constructor(trace) {
+    const state = new State(trace);
+    const keys = new Set(trace.opening);
+    this.calls = trace.calls;
+    this.moments = trace.events().map((event) => momentAfter(state, keys, event));
+  }
+
+  ofCall(call) {
+    return this.moments.filter(({ event }) => event.call === call);
+  }
+
+  lastOf(call) {
+    return this.moments[call.ended - 1];
+  }
+
+  restsOf(thread) {
+    const steps = this.moments.filter(({ event }) => event.thread === thread);
+    return steps.map((step, at) => {
+      const next = steps[at + 1]?.event.number ?? this.moments.length + 1;
+      return { step, others: this.moments.slice(step.event.number, next - 1) };
+    });
+  }
+
+  nodeOf(call) {
+    return call.changes ? nodeOf(this.moments[call.at - 1].event) : null;
+  }
+
+  isTakenOut(node, { event, chain }) {
+    return this.moments[event.number - 2]?.chain.includes(node) === true && !chain.includes(node);
+  }
+}
+
+function momentAfter(state, keys, event) {
+  const row = state.threads[event.thread].pc;
+  state.moveTo(event.number);
+  if (event.put !== undefined) keys.add(event.put);
+  if (event.took !== undefined) keys.delete(event.took);
+  const thread = { ...state.threads[event.thread] };
+  const linkOfPred = state.nodes[thread.pred]?.link;
+  return { event, row, thread, linkOfPred, chain: state.chain(), locks: locksIn(state), keys: new Set(keys) };
+}
+
+function locksIn(state) {
+  const words = [state, ...Object.values(state.nodes)];
+  return words.map(({ lock }) => lock).filter((lock) => lock !== "free");
+}
+
+const locksOf = (moment, thread) => moment.locks.filter((lock) => lock === `t${thread}`).length;
+const nodeOf = (event) => ownerIn(event.word);
+const isFailedStep = ({ event }) => isFailed(event);
+const isFailedTry = (moment) => isFailedStep(moment) && isLock(moment.event.word);
+const isMarkSeen = ({ event }) => event.saw !== undefined && event.saw.endsWith("*");
+const isReadOfLink = ({ event }) => event.deed === "load" && event.word.endsWith(".link");
+const isInChain = (moment) => moment.chain.includes(nodeOf(moment.event));
+
+const isWithin = (call, { step, others }) =>
+  call.begun > step.event.number && call.ended !== null && call.ended <= step.event.number + others.length;
+return { GoalFault, CLAUSES, readGoal, TooManyWays, conditionsOf, Run };
 })();
 
 // course/course_text.js
@@ -6690,10 +5309,9 @@ const $course_lesson = (() => {
 const { readFault, sentenceOn } = $engine_answers;
 const { askList, TO_BREAK, verdictOnLacking } = $run_broken;
 const { eventsAsked, scheduleOfDraft, scheduleText, versionOf } = $run_schedule_text;
-const { Run } = $run_moments;
+const { conditionsOf, Run, TooManyWays } = $course_goal_words;
 const { HEADER_LINES, isTrace, Trace } = $run_trace;
 const { readCourse } = $course_course_text;
-const { conditionsOf, TooManyWays } = $course_goal_words;
 const MOST_EVENTS = 1000; // of a solution
 const OTHER_SET = "The list, the number of threads, the quota and the opening keys are to be those of the lesson.";
 
@@ -6795,193 +5413,6 @@ function triedCourse(ask, text) {
   return { name, lessons, text, faults: faults.sort((one, other) => one.line - other.line) };
 }
 return { MOST_EVENTS, judged, conditionTexts, missingIn, triedCourse };
-})();
-
-// story/kept.js
-const $story_kept = (() => {
-const { BOOK_NAME } = $made_book;
-const { LACKING } = $made_classics;
-const { isText, keepUnder, keptUnder } = $page_kept;
-const { change } = $page_now;
-const STORY = "listset-story";
-const BROKEN = "listset-broken"; // of each list that was broken the line that is handed in
-const NAMED = "listset-named-checks"; // the lists of which the reader has said what they lack
-const NOTHING = { at: 1, done: {}, asks: {}, student: "", number: "", homework: null };
-
-/** @returns {{ at: number, done: Record<string, boolean>, asks: Record<string, string>, student: string, number: string, homework: any }} */
-const keptStory = () => ({ ...NOTHING, ...keptUnder(STORY) });
-const keepStory = (change) => keepUnder(STORY, { ...keptStory(), ...change });
-
-const isBrokenLine = ([name, line]) => Object.hasOwn(LACKING, name) && isText(line);
-const brokenLines = () => Object.entries(keptUnder(BROKEN) ?? {}).filter(isBrokenLine);
-const isBrokenOnce = (name) => brokenLines().some(([one]) => one === name);
-const keepBrokenLine = (name, line) => keepUnder(BROKEN, { ...keptUnder(BROKEN), [name]: line });
-const isNamed = (name) => (keptUnder(NAMED) ?? []).includes(name);
-const keepNamed = (name) => keepUnder(NAMED, [...new Set([...(keptUnder(NAMED) ?? []), name])]);
-
-function startAfresh(button) {
-  if (button.dataset.isSure !== "yes") {
-    button.dataset.isSure = "yes";
-    button.textContent = "Press again: answers, solutions and names kept here go";
-    return;
-  }
-  change("text", { text: "" }); // and is not kept anew
-  try {
-    for (const name of Object.keys(localStorage)) if (name.startsWith("listset-")) localStorage.removeItem(name);
-  } catch {
-  }
-  location.hash = "#story=1&gone=yes"; // the first screen says so
-  location.reload();
-}
-
-
-const LESSONS_KEPT = "listset-lessons-2";
-const LESSONS_KEPT_BEFORE = "listset-lessons-1"; // the book's alone, as the page kept them before
-const textsKept = (kept) => Object.entries(kept ?? {}).filter(([, text]) => isText(text));
-const namesKept = (kept) => (Array.isArray(kept) ? kept.filter(isText) : []);
-
-class KeptLessons {
-  constructor() {
-    const kept = keptUnder(LESSONS_KEPT) ?? { of: { [BOOK_NAME]: keptUnder(LESSONS_KEPT_BEFORE) } };
-    this.student = isText(kept.student) ? kept.student : "";
-    this.course = isText(kept.course) ? kept.course : BOOK_NAME;
-    this.courses = new Map(textsKept(kept.courses));
-    this.of = new Map(Object.entries(kept.of ?? {}).map(([name, own]) => [name, ownOf(own)]));
-  }
-
-  ofCourse(name) {
-    if (!this.of.has(name)) this.of.set(name, ownOf({}));
-    return this.of.get(name);
-  }
-
-  save() {
-    const { student, course } = this;
-    const toObject = ({ solutions, looked }) => ({ solutions: Object.fromEntries(solutions), looked: [...looked] });
-    const of = Object.fromEntries([...this.of].map(([name, own]) => [name, toObject(own)]));
-    return keepUnder(LESSONS_KEPT, { student, course, courses: Object.fromEntries(this.courses), of });
-  }
-}
-
-function ownOf(kept) {
-  return {
-    solutions: new Map(textsKept(kept?.solutions)),
-    looked: new Set(namesKept(kept?.looked)),
-  };
-}
-return { keptStory, keepStory, brokenLines, isBrokenOnce, keepBrokenLine, isNamed, keepNamed, startAfresh, KeptLessons };
-})();
-
-// story/assignment.js
-const $story_assignment = (() => {
-const { BOOK, BOOK_NAME } = $made_book;
-const { LACKING } = $made_classics;
-const { LISTS } = $made_rows;
-const { triedCourse } = $course_lesson;
-const { BREAK_LEVELS, levelOfNumber, numberOfLevel } = $data_levels;
-const { keptUnder } = $page_kept;
-const { askNow } = $page_now;
-const { addressOfAssignment } = $page_scene_address;
-const { AddressFault, addressOf, readAddress } = $run_address;
-const { NO_TASK } = $run_broken;
-const { inLetters } = $run_markup;
-const { eventsAsked } = $run_schedule_text;
-const { partsOfSeed, scheduleOfSeed } = $run_seed;
-const { brokenLines, keptStory } = $story_kept;
-const known = { course: null };
-
-const bookCourse = () => (known.course ??= triedCourse(askNow, BOOK));
-
-const allLevels = () => Object.keys(BREAK_LEVELS).filter((name) => name !== NO_TASK).map((name) => ({ name, number: numberOfLevel(name) }));
-
-const wordsIn = (text, sign = ".") => (text ?? "").split(sign).filter((word) => word !== "");
-const isSeed = (word) => /^(coarse|fine|optimistic|lazy|lock-free)\.\d{1,2}\.\d{1,2}\.\d{1,2}\.\d{1,9}$/.test(word);
-
-function addressOfTasks(title, { learn, levels, seeds }) {
-  const parts = Object.entries({ learn: learn.join("."), break: levels.join("."), judge: seeds.join(",") });
-  return addressOfAssignment({ id: title, given: Object.fromEntries(parts.filter(([, value]) => value !== "")) });
-}
-
-/** @typedef {{ id: string, kind: "Solve" | "Break" | "Judge", title: string, says: string, href: string, seed?: string }} Task */
-
-/** @returns {Task | null} */
-function lessonTask(name) {
-  const lesson = bookCourse().lessons.find((one) => one.name === name);
-  return lesson === undefined ? null : { id: name, kind: "Solve", title: lesson.title, says: inLetters(lesson.question), href: `#learn=${name}` };
-}
-
-/** @returns {Task | null} */
-function levelTask(number) {
-  const name = levelOfNumber(number);
-  if (name === undefined || name === NO_TASK) return null;
-  const title = `Level ${number}, ${LISTS[LACKING[name]].name}`;
-  return { id: `break ${name}`, kind: "Break", title, says: BREAK_LEVELS[name].story, href: `#break=${number}` };
-}
-
-/** @returns {Task | null} */
-function seedTask(seed) {
-  if (!isSeed(seed)) return null;
-  const { kind, number, calls } = partsOfSeed(seed);
-  const says = `${calls} calls: what does each answer, and where does it take effect?`;
-  return { id: `judge ${seed}`, kind: "Judge", title: `Run ${number}, ${LISTS[kind].name}`, says, href: `#seed=${seed}&judge`, seed };
-}
-
-function homeworkOf({ activity, id }, task = { kind: "", id: "" }) {
-  const { homework } = keptStory();
-  const isRun = activity === "judge" && task.kind === "seed";
-  if (homework === null || !(isRun || ["learn", "break"].includes(activity))) return null;
-  return wordsIn(homework.given[activity], isRun ? "," : ".").includes(isRun ? task.id : id) ? homework : null;
-}
-
-function wayOn({ activity, id }, own) {
-  const homework = homeworkOf({ activity, id });
-  if (homework === null) return own;
-  const { tasks } = tasksOf(homework.given);
-  const next = tasks[tasks.findIndex(({ href }) => href === `#${activity}=${id}`) + 1];
-  return next === undefined ? { href: addressOfAssignment(homework), words: "All tasks →" } : { href: next.href, words: "Next task →" };
-}
-
-function tasksOf(given) {
-  const unknown = [];
-  const taken = (words, taskOf, what) =>
-    words.flatMap((word) => {
-      const task = taskOf(word);
-      if (task === null) unknown.push(`${what} ${word.slice(0, 40)}`);
-      return task === null ? [] : [task];
-    });
-  const learn = taken(wordsIn(given.learn), lessonTask, "lesson");
-  const levels = taken(wordsIn(given.break), levelTask, "level");
-  return { tasks: [...learn, ...levels, ...taken(wordsIn(given.judge, ","), seedTask, "run")], unknown };
-}
-
-
-function textOfRun(run) {
-  try {
-    return run.includes("#") ? readAddress(run.slice(run.indexOf("#"))).text : null;
-  } catch (fault) {
-    if (fault instanceof AddressFault) return null;
-    throw fault;
-  }
-}
-
-function taskOfJudged(line, tasks) {
-  const [, run = "", level] = line.split(" ");
-  if (level === "claim") return null;
-  const text = textOfRun(run);
-  return tasks.find(({ seed }) => seed !== undefined && text === scheduleOfSeed(askNow, seed)) ?? null;
-}
-
-function linesDone(tasks) {
-  const lessons = keptUnder("listset-lessons-2")?.of?.[BOOK_NAME]?.solutions ?? {};
-  const broken = Object.fromEntries(brokenLines());
-  const judged = Object.values(keptUnder("listset-judged") ?? {}).filter((line) => typeof line === "string");
-  const lineOf = {
-    Solve: ({ id }) => (typeof lessons[id] === "string" ? `${id} ${addressOf(lessons[id], eventsAsked(lessons[id]))}` : undefined),
-    Break: ({ id }) => broken[id.slice("break ".length)],
-    Judge: (task) => judged.find((line) => taskOfJudged(line, [task]) !== null),
-  };
-  return Object.fromEntries(tasks.map((task) => [task.id, lineOf[task.kind](task)]));
-}
-return { bookCourse, allLevels, addressOfTasks, homeworkOf, wayOn, tasksOf, taskOfJudged, linesDone };
 })();
 
 // course/hand_in.js
@@ -7448,68 +5879,1477 @@ const savePicture = () => saveText("page.svg", wholePicture());
 return { saveText, comparedTrace, openFile, refreshReport, savePicture };
 })();
 
-// page/visit.js
-const $page_visit = (() => {
-const { warningOf } = $run_address;
-const { escaped } = $run_markup;
-const { addressIn } = $page_scene_address;
-const { HERE, keepUnder, keepWork } = $page_kept;
-const { now, tell } = $page_now;
-const { entryOf } = $page_state;
-const MOMENT = 400; // milliseconds: the bar follows once nothing has moved for so long, since browsers refuse quick changes of it
-const visit = { timer: 0, entry: null, isRead: false, course: null };
+// story/kept.js
+const $story_kept = (() => {
+const { BOOK_NAME } = $made_book;
+const { LACKING } = $made_classics;
+const { isText, keepUnder, keptUnder } = $page_kept;
+const { change } = $page_now;
+const STORY = "listset-story";
+const BROKEN = "listset-broken"; // of each list that was broken the line that is handed in
+const NAMED = "listset-named-checks"; // the lists of which the reader has said what they lack
+const NOTHING = { at: 1, done: {}, asks: {}, student: "", number: "", homework: null };
 
-const addressHere = () => addressIn(now, visit);
+/** @returns {{ at: number, done: Record<string, boolean>, asks: Record<string, string>, student: string, number: string, homework: any }} */
+const keptStory = () => ({ ...NOTHING, ...keptUnder(STORY) });
+const keepStory = (change) => keepUnder(STORY, { ...keptStory(), ...change });
 
-function keepSoon() {
-  clearTimeout(visit.timer);
-  visit.timer = setTimeout(keepNow, MOMENT);
-}
+const isBrokenLine = ([name, line]) => Object.hasOwn(LACKING, name) && isText(line);
+const brokenLines = () => Object.entries(keptUnder(BROKEN) ?? {}).filter(isBrokenLine);
+const isBrokenOnce = (name) => brokenLines().some(([one]) => one === name);
+const keepBrokenLine = (name, line) => keepUnder(BROKEN, { ...keptUnder(BROKEN), [name]: line });
+const isNamed = (name) => (keptUnder(NAMED) ?? []).includes(name);
+const keepNamed = (name) => keepUnder(NAMED, [...new Set([...(keptUnder(NAMED) ?? []), name])]);
 
-function keepNow() {
-  clearTimeout(visit.timer);
-  keepWork();
-  if (visit.isRead) setAddress();
-}
-
-function setAddress() {
-  const address = addressHere();
-  const entry = entryOf(now);
-  const isNew = visit.entry !== null && visit.entry !== entry;
-  visit.entry = entry;
-  if (now.place.view !== "embed") keepUnder(HERE, address);
-  if (!isNew && location.hash === (address ?? "")) return;
-  const { text, count, lacks } = now.run;
-  const kept = address === null ? { text, count, lacks } : null;
-  const how = isNew ? "pushState" : "replaceState";
-  const place = address ?? location.pathname + location.search;
+function startAfresh(button) {
+  if (button.dataset.isSure !== "yes") {
+    button.dataset.isSure = "yes";
+    button.textContent = "Press again: answers, solutions and names kept here go";
+    return;
+  }
+  change("text", { text: "" }); // and is not kept anew
   try {
-    history[how](kept, "", place);
+    for (const name of Object.keys(localStorage)) if (name.startsWith("listset-")) localStorage.removeItem(name);
   } catch {
-    history[how](null, "", place); // a state may be too large for a browser
+  }
+  location.hash = "#story=1&gone=yes"; // the first screen says so
+  location.reload();
+}
+
+
+const LESSONS_KEPT = "listset-lessons-2";
+const LESSONS_KEPT_BEFORE = "listset-lessons-1"; // the book's alone, as the page kept them before
+const textsKept = (kept) => Object.entries(kept ?? {}).filter(([, text]) => isText(text));
+const namesKept = (kept) => (Array.isArray(kept) ? kept.filter(isText) : []);
+
+class KeptLessons {
+  constructor() {
+    const kept = keptUnder(LESSONS_KEPT) ?? { of: { [BOOK_NAME]: keptUnder(LESSONS_KEPT_BEFORE) } };
+    this.student = isText(kept.student) ? kept.student : "";
+    this.course = isText(kept.course) ? kept.course : BOOK_NAME;
+    this.courses = new Map(textsKept(kept.courses));
+    this.of = new Map(Object.entries(kept.of ?? {}).map(([name, own]) => [name, ownOf(own)]));
+  }
+
+  ofCourse(name) {
+    if (!this.of.has(name)) this.of.set(name, ownOf({}));
+    return this.of.get(name);
+  }
+
+  save() {
+    const { student, course } = this;
+    const toObject = ({ solutions, looked }) => ({ solutions: Object.fromEntries(solutions), looked: [...looked] });
+    const of = Object.fromEntries([...this.of].map(([name, own]) => [name, toObject(own)]));
+    return keepUnder(LESSONS_KEPT, { student, course, courses: Object.fromEntries(this.courses), of });
   }
 }
 
-const linkTo = (address) => location.href.replace(/#.*$/, "") + address;
+function ownOf(kept) {
+  return {
+    solutions: new Map(textsKept(kept?.solutions)),
+    looked: new Set(namesKept(kept?.looked)),
+  };
+}
+return { keptStory, keepStory, brokenLines, isBrokenOnce, keepBrokenLine, isNamed, keepNamed, startAfresh, KeptLessons };
+})();
 
-async function copyLink() {
-  const address = now.run.isRun ? addressHere() : null;
-  if (address === null) return tell("This schedule has no link: it is refused, or too long for an address. Save it as a file.");
-  const link = linkTo(address);
-  const shown = `<code>${escaped(link)}</code>${warningOf(link)}`;
-  tell(`Copy this link: ${shown}`);
-  if (await copied(link)) tell(`The link is copied: ${shown}`);
+// draw/glide.js
+const $draw_glide = (() => {
+const TIME = 260; // milliseconds
+const EASE = { duration: TIME, easing: "cubic-bezier(.2, .7, .2, 1)" };
+
+const wantsStill = () => matchMedia("(prefers-reduced-motion: reduce)").matches;
+
+function placesIn(box) {
+  const places = new Map();
+  for (const part of box.querySelectorAll("[data-part]")) {
+    const { x = "0", y = "0", to = "" } = part.dataset;
+    places.set(part.dataset.part, { x: Number(x), y: Number(y), to, d: part.querySelector("path")?.getAttribute("d") ?? "" });
+  }
+  return places;
 }
 
-async function copied(text) {
-  try {
-    await navigator.clipboard.writeText(text);
-    return true;
-  } catch {
-    return false;
+function glideArrow(part, before) {
+  const path = part.querySelector("path");
+  if (path === null || path.getAttribute("d") === before.d) return;
+  if (part.dataset.to === before.to) {
+    const forms = [before.d, path.getAttribute("d")].map((d) => ({ d: `path("${d}")` }));
+    path.animate(forms, EASE);
+  } else {
+    const length = path.getTotalLength();
+    const strokeDasharray = `${length} ${length}`;
+    path.animate([{ strokeDasharray, strokeDashoffset: length }, { strokeDasharray, strokeDashoffset: 0 }], EASE);
   }
 }
-return { visit, keepSoon, keepNow, linkTo, copyLink, copied };
+
+function glide(box, draw, isNear) {
+  const before = isNear && !wantsStill() && !document.hidden ? placesIn(box) : null;
+  draw();
+  if (before === null || before.size === 0) return;
+  for (const part of box.querySelectorAll("[data-part]")) {
+    const was = before.get(part.dataset.part);
+    if (was === undefined) part.animate([{ opacity: 0 }, { opacity: 1 }], EASE);
+    else if (part.dataset.part.startsWith("link ")) glideArrow(part, was);
+    else {
+      const [dx, dy] = [was.x - Number(part.dataset.x), was.y - Number(part.dataset.y)];
+      if (dx !== 0 || dy !== 0) part.animate([{ translate: `${dx}px ${dy}px` }, { translate: "0 0" }], EASE);
+    }
+  }
+}
+return { glide };
+})();
+
+// draw/places.js
+const $draw_places = (() => {
+const { LISTS } = $made_rows;
+const { letterOf } = $run_markup;
+const { ownerIn } = $run_outcomes;
+const { isWritten, keyNumber, linkTarget } = $run_state;
+const { NODE_REGISTERS } = $run_trace;
+const WIDE = { node: 94, gap: 48, share: 1 };
+const COMPACT = { node: 76, gap: 32, share: 0.76 }; // share: of the room that a wide one needs
+const NARROW = 480; // pixels
+const shapeFor = (room) => (room < NARROW ? COMPACT : WIDE);
+
+const NODE_HEIGHT = 54;
+const LEAST_GAP = 12; // between nodes that are not in the chain
+const FOLD_WIDTH = 84;
+const TOP = 58;
+const MOST_UNFOLDED = 14; // a longer chain is folded
+const MOST_ASIDE = 10; // nodes drawn that are not in the chain
+const MOST_POINTING = 6; // threads whose registers are drawn
+const SIGN_WIDTH = 8.6; // of a register's label
+
+function pointersOf(state, event) {
+  const inCall = state.threads.map((held, thread) => ({ held, thread })).filter(({ held }) => held.pc !== 0);
+  inCall.sort((one, other) => Number(other.thread === event?.thread) - Number(one.thread === event?.thread));
+  const { calls } = LISTS[state.trace.kind];
+  return inCall.slice(0, MOST_POINTING).map(({ held, thread }) => {
+    const registers = calls[held.call.operation].registers.filter((name) => NODE_REGISTERS.includes(name));
+    const at = {};
+    for (const name of registers) if (isPointing(held, name)) (at[held[name]] ??= []).push(name);
+    return { thread, at };
+  });
+}
+
+const isPointing = (held, name) => held[name] !== "head" || (name === "pred" && held.curr !== "head");
+
+function importantNodes(state, event, pointers) {
+  const important = new Set(["head", "tail"]);
+  if (event?.word) important.add(event.word.split(".")[0]);
+  for (const { at } of pointers) Object.keys(at).forEach((name) => important.add(name));
+  const locked = Object.values(state.locks()).flat().map(ownerIn).filter((name) => name !== "list");
+  locked.slice(0, 8).forEach((name) => important.add(name));
+  return important;
+}
+
+function foldedChain(chain, important) {
+  if (chain.length <= MOST_UNFOLDED) return chain.map((name) => ({ name }));
+  const isNear = (index) => chain.slice(Math.max(index - 1, 0), index + 2).some((name) => important.has(name));
+  const items = [];
+  chain.forEach((name, index) => {
+    const last = items[items.length - 1];
+    if (isNear(index)) items.push({ name });
+    else if (last?.folded) last.folded.push(name);
+    else items.push({ folded: [name] });
+  });
+  return items.flatMap((item) => (item.folded?.length === 1 ? [{ name: item.folded[0] }] : [item]));
+}
+
+function placesOfChain(items, shape) {
+  const places = {};
+  let x = 16;
+  for (const item of items) {
+    item.x = x;
+    const width = item.folded ? FOLD_WIDTH : shape.node;
+    for (const name of item.folded ?? [item.name]) places[name] = { x, y: TOP, width, gap: shape.gap, folded: !!item.folded };
+    x += width + shape.gap;
+  }
+  return { places, width: x - shape.gap + 16 };
+}
+
+function nodesAside(state, chain, important) {
+  const inChain = new Set(chain);
+  const aside = Object.keys(state.nodes).filter((name) => !inChain.has(name) && isWritten(state.nodes[name]));
+  const rank = (name) => (important.has(name) ? 2 : state.nodes[name].reached ? 0 : 1);
+  const latest = [...aside].reverse().sort((one, other) => rank(other) - rank(one));
+  return { shown: latest.slice(0, MOST_ASIDE), more: Math.max(0, aside.length - MOST_ASIDE) };
+}
+
+function placeAside(state, chain, shown, places, y) {
+  const { width, gap } = places.head;
+  const taken = [];
+  const byKey = [...shown].sort((one, other) => keyNumber(state.nodes[one].key) - keyNumber(state.nodes[other].key));
+  for (const name of byKey) {
+    const key = keyNumber(state.nodes[name].key);
+    const before = chain.filter((other) => keyNumber(state.nodes[other].key) < key);
+    const place = places[before[before.length - 1] ?? "head"];
+    let x = place.x + (place.width + gap) / 2;
+    while (taken.some((other) => Math.abs(other - x) < width + LEAST_GAP)) x += width + 16;
+    places[name] = { x, y, width, gap, aside: true, lane: taken.length % 3 };
+    taken.push(x);
+  }
+  return taken.length === 0 ? 0 : Math.max(...taken) + width + 16;
+}
+
+function roomsUnder(state, items, shown, shape) {
+  const risen = new Set(shown.map((name) => linkTarget(state.nodes[name].link)));
+  const rooms = {};
+  items.forEach(({ name }, index) => {
+    const next = items[index + 1];
+    const isCrossed = next !== undefined && (next.folded ?? [next.name]).some((other) => risen.has(other));
+    rooms[name] = shape.node + (isCrossed ? 0 : shape.gap - 6);
+  });
+  return rooms;
+}
+
+function labelTexts(thread, registers, room) {
+  const texts = [];
+  for (const register of registers) {
+    const joined = `${texts[texts.length - 1]}, ${register}`;
+    if (texts.length > 0 && joined.length * SIGN_WIDTH <= room) texts[texts.length - 1] = joined;
+    else texts.push(`▲ ${letterOf(thread)} ${register}`);
+  }
+  return texts;
+}
+
+function pointerLabels(pointers, places, rooms) {
+  const labels = [];
+  const add = (thread, name, text) => {
+    const { x, y } = places[name];
+    const own = { thread, name, text, row: y, left: x, right: x + SIGN_WIDTH * text.length + 8, lane: 0 };
+    const isBeside = (other) => other.left >= own.right || own.left >= other.right;
+    const isInTheWay = (other) => other.row === own.row && other.lane === own.lane && !isBeside(other);
+    while (labels.some(isInTheWay)) own.lane++;
+    labels.push(own);
+  };
+  for (const { thread, at } of pointers) {
+    for (const name in at) {
+      if (!places[name] || places[name].folded) continue;
+      for (const text of labelTexts(thread, at[name], rooms[name] ?? places[name].width)) add(thread, name, text);
+    }
+  }
+  return labels;
+}
+
+function arranged(state, event, shape) {
+  const chain = state.chain();
+  const pointers = pointersOf(state, event);
+  const important = importantNodes(state, event, pointers);
+  const items = foldedChain(chain, important);
+  const { places, width } = placesOfChain(items, shape);
+  const { shown, more } = nodesAside(state, chain, important);
+  const rooms = roomsUnder(state, items, shown, shape);
+  const lanesUnder = (labels, row) => Math.max(0, ...labels.filter((own) => own.row === row).map((own) => own.lane + 1));
+  const below = TOP + NODE_HEIGHT + 18 * lanesUnder(pointerLabels(pointers, places, rooms), TOP) + 62;
+  const right = placeAside(state, chain, shown, places, below);
+  const labels = pointerLabels(pointers, places, rooms);
+  const bottom = shown.length > 0 ? below : TOP;
+  const names = [...items.filter((item) => item.name).map((item) => item.name), ...shown];
+  const height = bottom + NODE_HEIGHT + 18 * lanesUnder(labels, bottom) + 14;
+  const wide = Math.max(width, right, ...labels.map((own) => own.right));
+  return { chain, items, places, labels, names, more, width: wide, height };
+}
+return { shapeFor, NODE_HEIGHT, LEAST_GAP, FOLD_WIDTH, TOP, SIGN_WIDTH, isPointing, arranged };
+})();
+
+// draw/arrows.js
+const $draw_arrows = (() => {
+const { said, tag, title } = $run_markup;
+const { linkTarget } = $run_state;
+const { FOLD_WIDTH, LEAST_GAP, NODE_HEIGHT, TOP } = $draw_places;
+const LINK_WIDTH = 24;
+
+function drawLink(state, name, places, event) {
+  const { link, reached } = state.nodes[name];
+  const target = linkTarget(link);
+  const from = places[name];
+  const to = places[target];
+  if (!to || from.folded || name === "tail" || (target === "head" && !reached)) return "";
+  const kind = event?.word === `${name}.link` ? "hot" : from.aside ? "out" : "in";
+  const isMarked = link.endsWith("*");
+  const x = from.x + from.width - (isMarked ? 1 : LINK_WIDTH / 2);
+  const y = from.y + NODE_HEIGHT / 2;
+  return tag(
+    "g",
+    { class: `link ${kind}${from.aside ? " aside" : ""}`, "data-part": `link ${name}`, "data-to": target },
+    title(`${name}.link: ${said(link)}`),
+    isMarked ? "" : tag("circle", { cx: x, cy: y, r: 4 }),
+    tag("path", { d: pathOf(from, to, x, y), "marker-end": `url(#tip-${kind})` }),
+  );
+}
+
+function pathOf(from, to, x1, y1) {
+  if (from === to) return pathAround(from, x1, y1);
+  if (from.aside && !to.aside) return pathUp(from, to, x1, y1);
+  const isNext = to.x > from.x && to.x - from.x < 2 * (from.width + LEAST_GAP);
+  if (from.aside && !isNext) return pathOver(from, to, x1, y1);
+  return `M${x1} ${y1} L${to.x - 3} ${to.y + NODE_HEIGHT / 2}`;
+}
+
+function bent(start, ...turns) {
+  const at = [...start];
+  const corners = turns.map((turn, index) => {
+    at[index % 2] = turn;
+    return ` L${at[0]} ${at[1]}`;
+  });
+  return `M${start[0]} ${start[1]}${corners.join("")}`;
+}
+
+const pathAround = (from, x1, y1) => bent([x1, y1], from.x + from.width + 10, from.y - 12, from.x + from.width - 12, from.y - 3);
+
+function pathUp(from, to, x1, y1) {
+  const beside = from.x + from.width + 8;
+  const under = from.y - 34 - 6 * from.lane;
+  const gap = to.x - (2 * to.gap) / 3 + ((7 * to.gap) / 48) * from.lane;
+  const y2 = to.y + NODE_HEIGHT - (to.folded ? 14 : 7) - 6 * from.lane;
+  return bent([x1, y1], beside, under, gap, y2, to.x - 3);
+}
+
+function pathOver(from, to, x1, y1) {
+  return bent([x1, y1], from.x + from.width + 8, from.y - 34 - 6 * from.lane, to.x + to.width - 46, to.y - 3);
+}
+
+const ARROW = { viewBox: "0 0 10 10", refX: 9, refY: 5, markerWidth: 11, markerHeight: 11, markerUnits: "userSpaceOnUse" };
+const drawTip = (kind) =>
+  tag("marker", { id: `tip-${kind}`, class: `tip ${kind}`, ...ARROW, orient: "auto" }, tag("path", { d: "M0 0 L10 5 L0 10 z" }));
+
+function drawFoldLink(item, next) {
+  const y = TOP + NODE_HEIGHT / 2;
+  const path = { d: `M${item.x + FOLD_WIDTH} ${y} L${next.x - 3} ${y}`, "marker-end": "url(#tip-in)" };
+  return tag("g", { class: "link in" }, tag("path", path));
+}
+return { LINK_WIDTH, drawLink, drawTip, drawFoldLink };
+})();
+
+// draw/list.js
+const $draw_list = (() => {
+const { LISTS } = $made_rows;
+const { callText, colourOf, holderOf, keyText, label, letterOf, said, tag, title } = $run_markup;
+const { ownerOf } = $run_state;
+const { NODE_REGISTERS } = $run_trace;
+const { drawFoldLink, drawLink, drawTip, LINK_WIDTH } = $draw_arrows;
+const { FOLD_WIDTH, isPointing, NODE_HEIGHT, TOP } = $draw_places;
+const LOCK_HEIGHT = 31; // of what stands above a node
+
+function kindOf(state, name, place) {
+  if (!state.nodes[name].reached) return `own ${colourOf(ownerOf(state.trace, name))}`;
+  return place.aside ? "out" : "in";
+}
+
+function nodeInWords(node, name, kind) {
+  const where = { in: "", out: ", unlinked" }[kind] ?? ", not linked yet";
+  return `${name}: key ${keyText(node.key)}, link ${said(node.link)}, lock ${node.lock === "free" ? "free" : holderOf(node.lock)}${where}`;
+}
+
+const KEY_FRAME = { class: "read", height: NODE_HEIGHT - 4, rx: 4 };
+
+function drawNode(state, name, place, event) {
+  const node = state.nodes[name];
+  const { x, y, width } = place;
+  const kind = kindOf(state, name, place);
+  const isMarked = node.link.endsWith("*");
+  const [hot, field] = event?.word?.split(".") ?? [];
+  const isRead = hot === name && field === "key";
+  const size = { x, y, width, height: NODE_HEIGHT, rx: 5 };
+  const box = isMarked ? { ...size, class: "box marked", style: "fill:url(#hatch)" } : { ...size, class: "box" };
+  const side = x + width - LINK_WIDTH;
+  return tag(
+    "g",
+    { class: `node ${kind}`, "data-part": `node ${name}`, "data-x": x, "data-y": y },
+    title(nodeInWords(node, name, kind)),
+    hot === name ? drawHot(place) : "",
+    tag("rect", box),
+    isRead ? tag("rect", { ...KEY_FRAME, x: x + 2, y: y + 2, width: width - LINK_WIDTH - 3 }) : "",
+    tag("line", { class: "side", x1: side, x2: side, y1: y, y2: y + NODE_HEIGHT }),
+    drawKey(node, (x + side) / 2, y + 34, isRead),
+    label({ class: "name", x: x + 2, y: y - 10 }, name),
+    isMarked ? label({ class: "cross", x: side + LINK_WIDTH / 2, y: y + 34 }, "✗") : "",
+    node.lock === "free" ? "" : drawLock(node.lock, x + width - 38, y - 28),
+  );
+}
+
+const drawHot = ({ x, y, width }) =>
+  tag("rect", { "data-hot": x, class: "hot", x: x - 6, y: y - 6, width: width + 12, height: NODE_HEIGHT + 12, rx: 9 });
+
+function drawKey(node, x, y, isTouched) {
+  const text = keyText(node.key);
+  const size = text.length > 7 ? 11 : text.length > 4 ? 16 : 21;
+  return label({ class: isTouched ? "key touched" : "key", x, y, style: `font-size:${size}px` }, text);
+}
+
+function drawLock(lock, x, y) {
+  const thread = Number(lock.slice(1));
+  return tag(
+    "g",
+    { class: `lock ${colourOf(thread)}`, transform: `translate(${x},${y})` },
+    title(`locked by ${holderOf(lock)}`),
+    tag("path", { d: "M12 9 v-3 a6 6 0 0 1 12 0 v3" }),
+    tag("rect", { x: 0, y: 8, width: 36, height: 18, rx: 4 }),
+    label({ x: 18, y: 22 }, holderOf(lock)),
+  );
+}
+
+function drawFold(item) {
+  const { x } = item;
+  const count = item.folded.length;
+  return tag(
+    "g",
+    { class: "fold" },
+    title(`${count} nodes of the chain that no thread is at`),
+    tag("rect", { x, y: TOP + 9, width: FOLD_WIDTH, height: NODE_HEIGHT - 18, rx: 18 }),
+    label({ x: x + FOLD_WIDTH / 2, y: TOP + NODE_HEIGHT / 2 + 5 }, `… ${count} …`),
+  );
+}
+
+function drawPointer({ thread, name, text, left, lane }, places) {
+  const y = places[name].y + NODE_HEIGHT + 21 + 18 * lane;
+  const named = { class: "pointer-of", "data-part": `sign ${text.split(",")[0]}`, "data-x": left, "data-y": y };
+  return tag("g", named, label({ class: `pointer ${colourOf(thread)}`, x: left, y }, text));
+}
+
+function drawListLock(state) {
+  if (state.trace.kind !== "coarse") return "";
+  const lock = state.lock === "free" ? label({ x: 110, y: 20 }, "free") : drawLock(state.lock, 110, -2);
+  return label({ class: "name", x: 16, y: 20 }, "the list's lock") + lock;
+}
+const HATCH = { id: "hatch", width: 7, height: 7, patternUnits: "userSpaceOnUse", patternTransform: "rotate(45)" };
+const DEFINITIONS = tag(
+  "defs",
+  {},
+  tag(
+    "pattern",
+    HATCH,
+    tag("rect", { class: "ground", width: 7, height: 7 }),
+    tag("line", { class: "stripe", x1: 0, x2: 0, y1: 0, y2: 7 }),
+  ),
+  ...["in", "out", "hot"].map(drawTip),
+);
+
+function drawList(state, event, { chain, items, places, labels, names, more, width, height: high }, least = 0, own = "") {
+  const above = state.trace.kind === "coarse" ? -4 : TOP - LOCK_HEIGHT; // the list's own lock stands there
+  const height = Math.max(high, least) - above;
+  const folds = items.map((item, index) => (item.folded ? drawFold(item) + drawFoldLink(item, items[index + 1]) : ""));
+  const nodes = names.map((name) => drawNode(state, name, places[name], event));
+  const links = names.map((name) => drawLink(state, name, places, event));
+  const pointers = labels.map((own) => drawPointer(own, places));
+  const frame = { width, height, viewBox: `0 ${above} ${width} ${height}`, role: "img", "aria-label": listInWords(chain, state) };
+  const drawn = tag("svg", frame, DEFINITIONS, ...nodes, ...folds, ...links, ...pointers, drawListLock(state));
+  const named = own === "" ? drawn : drawn.replace(/(url\(#|id=")(tip|hatch)/g, `$1${own}-$2`);
+  return named + (more > 0 ? tag("p", { class: "note" }, `and ${more} more nodes that are not in the chain`) : "");
+}
+
+function listInWords(chain, state) {
+  const inside = chain.filter((name) => name !== "head" && name !== "tail").map((name) => state.nodes[name]);
+  const keys = inside.map((node) => keyText(node.key) + (node.link.endsWith("*") ? " marked" : ""));
+  const more = keys.length > 40 ? ", and more" : "";
+  const list = keys.length === 0 ? "the list is empty" : `the list: ${keys.slice(0, 40).join(", ")}${more}`;
+  const locks = state.locks();
+  const threads = state.threads.map((held, thread) => threadInWords(state, held, thread, locks)).filter((text) => text !== "");
+  return [list, ...threads.slice(0, 12)].join("; ");
+}
+
+function threadInWords(state, held, thread, locks) {
+  if (held.pc === 0) return "";
+  const { registers } = LISTS[state.trace.kind].calls[held.call.operation];
+  const set = registers.filter((name) => NODE_REGISTERS.includes(name) && isPointing(held, name));
+  const at = set.map((name) => `${name} ${held[name]}`).join(", ");
+  const own = locks[`t${thread}`];
+  const has = own === undefined ? "" : `; ${letterOf(thread)} has ${own.join(" and ")}`;
+  return `${letterOf(thread)} ${callText(held.call)} at row ${held.pc}${at === "" ? "" : `: ${at}`}${has}`;
+}
+return { drawList };
+})();
+
+// story/code.js
+const $story_code = (() => {
+const { chipOf, colourOf, escaped, letterOf, tag } = $run_markup;
+const WORDS = /\b(while|if|else|return|start again|loop|until|unlock|lock|find|validate|CAS|mark|new)\b/g;
+
+/**
+ * @typedef {object} CodeSpec  What of the code is shown, and how.
+ * @property {string} list
+ * @property {string[]} operations  the calls whose lines are shown
+ * @property {boolean} [plain]
+ * @property {number[]} [fresh]  rows that this list has anew
+ * @property {number[]} [hides]  rows that are not shown
+ * @property {Record<number, string>} [instead]  the words of a row, in place of its own
+ * @property {{ row: number, part: string }[]} [struck]  what is struck out, of the line of a row
+ * @property {{ thread: number, row: number }[]} next  the threads, and the rows that they make next
+ * @property {{ thread: number, row: number } | null} made  the row that was just made
+ * @property {boolean} canStep
+ * @property {number} active  the thread that runs to a line where none stands
+ */
+
+/** @param {CodeSpec} spec */
+function linesShown({ list, operations, plain, hides = [], instead = {} }) {
+  const isShown = ({ of, rows = [0] }) =>
+    (of === undefined || of.some((name) => operations.includes(name))) && !rows.every((row) => hides.includes(row));
+  const lines = BOOK_CODE[list].filter(isShown).map((line) => ({ ...line, text: instead[line.rows?.[0]] ?? line.text }));
+  if (!plain) return lines;
+  return lines.filter(({ rows }) => rows?.[0] !== 1).map((line) => (line.rows?.includes(10) ? { text: "return", rows: [10] } : line));
+}
+
+function wordsOf(text, rows, struck) {
+  const inBold = (words) => escaped(words).replace(WORDS, "<b>$1</b>");
+  const part = struck.find(({ row }) => rows.includes(row))?.part;
+  if (part === undefined || !text.includes(part)) return inBold(text);
+  const at = text.indexOf(part);
+  const missing = tag("del", {}, tag("span", { class: "unseen" }, "missing: "), escaped(part));
+  return `${inBold(text.slice(0, at))}${missing}${inBold(text.slice(at + part.length))}`;
+}
+
+const drawHere = (threads) => (threads.length < 3 ? threads.map(chipOf).join("") : `${chipOf(threads[0])}<small>+${threads.length - 1}</small>`);
+
+/** @param {any} line @param {CodeSpec} spec */
+function drawOwnLine({ text, rows = [], isPlain = false }, { next, made, fresh = [], struck = [], canStep, active }) {
+  const here = next.filter(({ row }) => rows.includes(row)).map(({ thread }) => thread);
+  const isMade = made !== null && rows.includes(made.row);
+  const isHead = rows.length === 0 && !isPlain;
+  const kinds = [
+    "line",
+    isHead ? "of" : "",
+    isMade ? `made ${colourOf(made.thread)}` : "",
+    here.length > 0 ? `lit ${colourOf(here[0])}` : "",
+    rows.some((row) => fresh.includes(row)) ? "fresh" : "",
+  ];
+  const words = isHead ? escaped(text.trim()) : wordsOf(text.trim(), rows, struck);
+  const depth = text.match(/^ */)[0].length;
+  const gutter = tag("span", { class: "gutter", "data-run": letterOf(active) }, drawHere(here));
+  const inside = gutter + tag("code", { style: `padding-left:${depth * 0.4}em` }, words);
+  const given = { class: kinds.filter((kind) => kind !== "").join(" "), "data-rows": rows.join(" ") };
+  if (rows.length === 0 || !canStep) return tag("li", given, tag("span", { class: "row" }, inside));
+  const what = here.length > 0 ? `next line of ${here.map(letterOf).join(" and ")}: press to step` : `${letterOf(active)} runs to this line`;
+  const button = { class: "row", title: what, "aria-label": `${text.trim()}; ${what}`, "data-threads": here.join(" ") };
+  return tag("li", given, tag("button", button, inside));
+}
+
+/** @param {CodeSpec} spec */
+const drawOwnCode = (spec) => tag("ol", { class: "steps" }, ...linesShown(spec).map((line) => drawOwnLine(line, spec)));
+
+
+const CHANGES = ["add", "remove"];
+
+const READS = [
+  { of: ["contains"], text: "contains(key):  no lock, no retry" },
+  { of: ["contains"], text: "  curr = curr.next, from the head", rows: [20] },
+  { of: ["contains"], text: "  while curr.key < key: go on", rows: [21] },
+  { of: ["contains"], text: "  return key is there and unmarked", rows: [22] },
+  { of: ["ceiling"], text: "ceiling(key):" },
+  { of: ["ceiling"], text: "  curr = curr.next, from the head", rows: [23] },
+  { of: ["ceiling"], text: "  while curr.key < key: go on", rows: [24] },
+  { of: ["ceiling"], text: "  if marked: start again; return curr.key", rows: [25] },
+];
+
+const BOOK_CODE = {
+  coarse: [
+    { text: "lock the list", rows: [1] },
+    { text: "pred = head; curr = pred.next", rows: [2] },
+    { text: "while curr.key < key:", rows: [3] },
+    { text: "    pred = curr; curr = curr.next", rows: [4] },
+    { of: ["add"], text: "add, if curr.key ≠ key:" },
+    { of: ["add"], text: "    node = new Node(key, next = curr)", rows: [5, 6] },
+    { of: ["add"], text: "    pred.next = node", rows: [7] },
+    { of: ["remove"], text: "remove, if curr.key = key:" },
+    { of: ["remove"], text: "    pred.next = curr.next", rows: [8, 9] },
+    { of: ["contains"], text: "contains: true if curr.key = key" },
+    { text: "unlock the list; return", rows: [10] },
+  ],
+  fine: [
+    { text: "lock head; pred = head", rows: [1] },
+    { text: "curr = pred.next", rows: [2] },
+    { text: "loop: lock curr, pred still locked", rows: [3] },
+    { text: "    if curr.key ≥ key: leave the loop", rows: [4] },
+    { text: "    unlock pred", rows: [5] },
+    { text: "    pred = curr; curr = curr.next", rows: [6] },
+    { of: ["add"], text: "add, if curr.key ≠ key:" },
+    { of: ["add"], text: "    node = new Node(key, next = curr)", rows: [7, 8] },
+    { of: ["add"], text: "    pred.next = node", rows: [9] },
+    { of: ["remove"], text: "remove, if curr.key = key:" },
+    { of: ["remove"], text: "    pred.next = curr.next", rows: [10, 11] },
+    { of: ["contains"], text: "contains: true if curr.key = key" },
+    { text: "unlock curr; unlock pred; return", rows: [12, 13] },
+  ],
+  optimistic: [
+    { text: "pred = head; curr = pred.next", rows: [1] },
+    { text: "while curr.key < key:", rows: [2] },
+    { text: "    pred = curr; curr = curr.next", rows: [3] },
+    { text: "lock pred; lock curr", rows: [4, 5] },
+    { text: "validate: walk from the head again", rows: [6] },
+    { text: "    until pred is met, else not valid", rows: [7] },
+    { text: "    pred.next = curr? else not valid", rows: [8] },
+    { of: ["add"], text: "add, if curr.key ≠ key:" },
+    { of: ["add"], text: "    node = new Node(key, next = curr)", rows: [9, 10] },
+    { of: ["add"], text: "    pred.next = node", rows: [11] },
+    { of: ["remove"], text: "remove, if curr.key = key:" },
+    { of: ["remove"], text: "    pred.next = curr.next", rows: [12, 13] },
+    { of: ["contains"], text: "contains: true if curr.key = key" },
+    { text: "unlock pred; unlock curr", rows: [14, 15] },
+    { text: "if not valid: start again; return", isPlain: true },
+  ],
+  lazy: [
+    { of: CHANGES, text: "pred = head; curr = pred.next", rows: [1] },
+    { of: CHANGES, text: "while curr.key < key:", rows: [2] },
+    { of: CHANGES, text: "    pred = curr; curr = curr.next", rows: [3] },
+    { of: CHANGES, text: "lock pred; lock curr", rows: [4, 5] },
+    { of: CHANGES, text: "validate: pred unmarked, leads to curr", rows: [6] },
+    { of: CHANGES, text: "    and curr unmarked", rows: [7] },
+    { of: ["add"], text: "add, if curr.key ≠ key:" },
+    { of: ["add"], text: "    node = new Node(key, next = curr)", rows: [8, 9] },
+    { of: ["add"], text: "    pred.next = node", rows: [10] },
+    { of: ["remove"], text: "remove, if curr.key = key:" },
+    { of: ["remove"], text: "    mark curr", rows: [11] },
+    { of: ["remove"], text: "    pred.next = curr.next", rows: [12] },
+    { of: CHANGES, text: "unlock curr; unlock pred", rows: [13, 14] },
+    { of: CHANGES, text: "if not valid: start again; return", isPlain: true },
+    ...READS,
+  ],
+  "lock-free": [
+    { of: CHANGES, text: "find: pred = head; curr = pred.next", rows: [1] },
+    { of: CHANGES, text: "    succ, marked = curr.next", rows: [2] },
+    { of: CHANGES, text: "    marked? CAS pred.next: curr → succ", rows: [3] },
+    { of: CHANGES, text: "    if curr.key < key: go one node on", rows: [4] },
+    { of: ["add"], text: "add, if curr.key ≠ key:" },
+    { of: ["add"], text: "    node = new Node(key, next = curr)", rows: [5, 6] },
+    { of: ["add"], text: "    CAS pred.next: curr, no mark → node", rows: [7] },
+    { of: ["add"], text: "    else start again", isPlain: true },
+    { of: ["remove"], text: "remove, if curr.key = key:" },
+    { of: ["remove"], text: "    succ = curr.next", rows: [8] },
+    { of: ["remove"], text: "    CAS curr.next: succ, no mark → mark", rows: [9] },
+    { of: ["remove"], text: "    else start again", isPlain: true },
+    { of: ["remove"], text: "    CAS pred.next: curr → succ, once", rows: [10] },
+    ...READS,
+  ],
+};
+return { drawOwnCode, BOOK_CODE };
+})();
+
+// story/tale.js
+const $story_tale = (() => {
+const { callText, chipOf, keyText } = $run_markup;
+const { isLock, ownerIn } = $run_outcomes;
+const walkers = (...rows) => Object.fromEntries(rows.map((row) => [row, "walk"]));
+
+const PHASES = {
+  plain: { ...walkers(1, 2, 3, 4), 5: "make", 6: "make", 7: "link", 8: "unlink", 9: "unlink", 10: "answer" },
+  coarse: { 1: "lock", ...walkers(2, 3, 4), 5: "make", 6: "make", 7: "link", 8: "unlink", 9: "unlink", 10: "unlock" },
+  fine: {
+    1: "first", 2: "next", 3: "next", 4: "next", 5: "letgo", 6: "next", 7: "make", 8: "make", 9: "link", 10: "unlink", 11: "unlink",
+    12: "unlock", 13: "unlock",
+  },
+  optimistic: {
+    ...walkers(1, 2, 3), 4: "locks", 5: "locks", 6: "again", 7: "again", 8: "again", 9: "make", 10: "make", 11: "link", 12: "unlink",
+    13: "unlink", 14: "unlock", 15: "unlock",
+  },
+  lazy: {
+    ...walkers(1, 2, 3, 20, 21, 23, 24), 25: "look", 4: "locks", 5: "locks", 6: "check", 7: "check", 8: "make", 9: "make", 10: "link", 11: "mark",
+    12: "tidy", 13: "unlock", 14: "unlock", 22: "look",
+  },
+  "lock-free": {
+    ...walkers(1, 2, 4, 8, 20, 21, 23, 24), 25: "look", 3: "snip", 5: "make", 6: "make", 7: "swing", 9: "marktry", 10: "tidytry", 22: "look",
+  },
+};
+
+const phaseAt = (list, row, plain) => PHASES[plain ? "plain" : list][row] ?? "answer";
+const joinedRows = (list, plain) => (plain ? [10] : list === "lock-free" || list === "lazy" ? [22, 25] : []);
+
+const WORDS = {
+  walk: ({ key }) => `walk to the place of ${key}`,
+  make: ({ key }) => `make a node for ${key}`,
+  link: ({ key }) => `hang ${key} in`,
+  unlink: ({ key }) => `point past ${key}`,
+  answer: () => "answer",
+  lock: () => "take the lock",
+  unlock: () => "let go, and answer",
+  first: () => "lock the head",
+  next: () => "lock the next node",
+  letgo: () => "let go of the one behind",
+  locks: () => "lock pred and curr",
+  again: () => "look once more",
+  check: () => "look at the marks",
+  mark: ({ key }) => `mark ${key}: removed`,
+  tidy: ({ key }) => `take ${key} out of the chain`,
+  look: () => "look at the mark",
+  snip: () => "take the marked node out",
+  swing: ({ key }) => `try to hang ${key} in`,
+  marktry: ({ key }) => `try to mark ${key}`,
+  tidytry: ({ key }) => `try to take ${key} out`,
+};
+
+const phaseText = (phase, call) => WORDS[phase](call);
+
+
+const bold = (text) => `<b>${text}</b>`;
+
+const nodeName = (state, name) => {
+  if (name === "head") return "the head";
+  if (name === "tail") return "the end";
+  return name in state.nodes ? keyText(state.nodes[name].key) : "";
+};
+const bare = (link) => link.replace("*", "");
+
+const answerText = (answer) => answer.replace(/^at-/, "");
+
+function taleOf(moment, { plain = false } = {}) {
+  const { event } = moment;
+  if (event === null) return "";
+  const said = toldBy(moment, plain);
+  const { call } = event;
+  const answer = event.answer === undefined ? "" : ` ${bold(`${callText(call)} answers ${answerText(event.answer)}.`)}`;
+  return `${chipOf(event.thread)} ${said}${answer}`;
+}
+
+function toldBy(moment, plain) {
+  const { trace, state, event, before, held } = moment;
+  const { kind } = trace;
+  if (event.deed === "begin") return `begins ${bold(callText(event.call))}.`;
+  const owner = ownerIn(event.word);
+  const who = nodeName(state, owner);
+  if (isLock(event.word)) return lockTold(event, who, plain, event.changes.pc === before.pc);
+  const phase = phaseAt(kind, before.pc, plain);
+  const key = event.call.key;
+  if (event.deed === "load" && event.word.endsWith(".key")) return keyTold(event, owner, key, phase, held);
+  if (event.deed === "load") return linkTold(moment, owner, who, phase);
+  if (event.deed === "store" && event.word.endsWith(".key")) return `makes a node for ${key}. Nobody else sees it yet.`;
+  return writeTold(moment, owner, who);
+}
+
+function lockTold(event, who, plain, waits) {
+  if (plain) return event.deed === "store" ? "is done." : "sets out.";
+  const what = who === undefined || event.word === "list.lock" ? "the lock" : `the lock of ${who}`;
+  if (event.deed === "store") return `gives back ${what}.`;
+  if (event.saw === event.from) return `takes ${what}.`;
+  return `wants ${what}, but ${chipOf(event.saw.slice(1))} has it. ${bold(waits ? "It waits." : "It goes on all the same.")}`;
+}
+
+function keyTold(event, owner, key, phase, held) {
+  if (phase === "again") {
+    if (held.pc === 14 && held.reply === "none") return `is past the place of its pred, and has not met it: ${bold("pred is not in the list any more.")} It lets go and starts again.`;
+    return held.node === held.pred ? "meets its pred: it is still in the list." : "walks on: this is not its pred.";
+  }
+  if (owner === "tail") return "has come to the end: here is the place.";
+  const seen = Number(event.saw);
+  if (seen < key) return `reads ${bold(seen)}: too small, it goes on.`;
+  if (event.call.operation === "ceiling") return `reads ${bold(seen)}: big enough.`;
+  if (seen === key) return `reads ${bold(seen)}: found.`;
+  return `reads ${bold(seen)}: too big. The place of ${key} is just before it.`;
+}
+
+function linkTold(moment, owner, who, phase) {
+  const { trace, state, event, held, before } = moment;
+  const isMarked = event.saw.endsWith("*");
+  const to = nodeName(state, bare(event.saw));
+  if (phase === "look" || (event.answer !== undefined && isMarked)) return isMarked ? `sees the mark: ${bold(`this ${who} has been removed.`)}` : `sees no mark: ${who} is in.`;
+  if (phase === "check") {
+    if (held.reply === "none" && held.pc === 13) {
+      if (owner === before.pred && isMarked) return `sees a mark on its pred: ${bold("it was removed meanwhile.")} It lets go and starts again.`;
+      return isMarked ? `sees a mark on ${who}. It lets go and starts again.` : `sees that ${who} points to ${to} now. It lets go and starts again.`;
+    }
+    return owner === before.pred ? "sees no mark on its pred, which still points to curr." : `sees no mark on ${who}. It may write.`;
+  }
+  if (phase === "again") {
+    if (owner === before.pred && before.pc === 8) {
+      if (held.pc === 14 && held.reply === "none") return `sees that ${who} points to ${to} now: ${bold("something came in between.")} It lets go and starts again.`;
+      return "sees that pred still points to curr.";
+    }
+    return `walks from ${who} once more.`;
+  }
+  if (phase === "unlink" || before.pc === 8) return `reads what comes after ${who}: ${to}.`;
+  if (trace.kind === "lock-free" && event.changes.curr === undefined) {
+    return isMarked ? `meets ${who}, which is marked: it will take it out on its way.` : `looks at the arrow of ${who}: no mark.`;
+  }
+  return owner === "head" ? `sets out from the head: curr is on ${to}.` : `moves on: curr is on ${to}.`;
+}
+
+function writeTold(moment, owner, who) {
+  const { state, event, before } = moment;
+  const key = event.call.key;
+  const to = nodeName(state, bare(event.to ?? ""));
+  const isDone = event.deed === "store" || event.saw === event.from;
+  if (event.to.endsWith("*")) {
+    if (isDone) return `marks ${who}: ${bold(`${key} is removed.`)}`;
+    return event.saw.endsWith("*") ? `wants to mark ${who}, but it is marked already. ${bold("It was too late")}, and looks again.` : `wants to mark ${who}, but its arrow has changed. It looks again.`;
+  }
+  if (!state.nodes[owner].reached && event.put === undefined && event.took === undefined && event.deed === "store" && owner !== before.pred) {
+    return `lets its node point to ${to}.`;
+  }
+  if (event.put !== undefined) {
+    const isIn = state.chain().includes(bare(event.to));
+    return isIn ? `lets ${who} point to ${key}: ${bold(`${key} is in.`)}` : `lets its pred point to ${key}. ${bold("But that pred is not in the list.")}`;
+  }
+  if (!isDone) {
+    const rest = event.answer !== undefined ? "That does not matter: the mark counts." : "It looks again.";
+    return `wants to change the arrow of ${who}, but it is not what it saw. ${rest}`;
+  }
+  return `lets ${who} point to ${to}: ${nodeName(state, before.curr)} is out of the chain.`;
+}
+return { phaseAt, joinedRows, phaseText, answerText, taleOf };
+})();
+
+// story/dock.js
+const $story_dock = (() => {
+const { callText, chipOf, colourOf, letterOf, tag } = $run_markup;
+const { drawContents } = $draw_contents;
+const { drawCalls, scaleOf } = $draw_history;
+const { redraw, setHtml } = $page_dom;
+const { answerText, phaseText } = $story_tale;
+const AGAIN = `<span class="again"><button data-undo class="quiet small" title="take the last press back">↶ One back</button>
+  <button data-again class="quiet small">↺ Start over</button></span>`;
+
+function showDock(figure) {
+  const { spec, run } = figure;
+  if (spec.dock === false || figure.hidesDock) return redraw(figure.part("dock"), "");
+  const isChanged = run.lines.length !== run.first.length && spec.again !== false;
+  redraw(figure.part("dock"), figure.shown.map((thread) => rowOf(figure, thread)).join("") + (isChanged ? AGAIN : ""));
+}
+
+function rowOf(figure, thread) {
+  const { run, spec } = figure;
+  const own = run.trace.calls.filter((call) => call.thread === thread && call.begun <= run.count);
+  const [next] = figure.left(thread);
+  const isIdle = run.isIdle(thread);
+  if (isIdle && next === undefined) return spec.free ? chooser(figure, thread, own) : restOf(run, thread, own.at(-1));
+  const call = isIdle ? { operation: next[0], key: next[1] } : own.at(-1);
+  const plan = run.nextOf(thread, next);
+  const words = spec.words?.[plan.phase] ?? phaseText(plan.phase, call);
+  const key = letterOf(thread).toLowerCase();
+  const given = { class: "step", "data-step": thread, "aria-keyshortcuts": key, ...(figure.isOpen ? {} : { disabled: "" }) };
+  const button = tag("button", given, words, `<kbd aria-hidden="true">${key}</kbd>`);
+  const waits = plan.waits && plan.steps === 1 ? '<span class="waits">has to wait</span>' : "";
+  return threadRow(thread, `<code>${callText(call)}</code> ${button} ${waits}`);
+}
+
+function threadRow(thread, inside) {
+  const given = { class: `thread ${colourOf(thread)}`, "data-thread": thread, role: "group", "aria-label": `thread ${letterOf(thread)}` };
+  return tag("div", given, chipOf(thread), " ", inside);
+}
+
+function restOf(run, thread, last) {
+  if (last === undefined) return threadRow(thread, "");
+  const reply = last.ended !== null && run.count >= last.ended ? `<b class="reply ${last.reply}">${answerText(last.reply)}</b>` : "";
+  return threadRow(thread, `<code>${callText(last)}</code> <span class="does">${reply}</span>`);
+}
+
+function chooser(figure, thread, own) {
+  const last = own.at(-1);
+  const [operation, key] = figure.chosen[thread] ?? [last?.operation ?? "add", last?.key ?? 5];
+  const names = figure.spec.operations ?? ["add", "remove", "contains"];
+  const options = names.map((name) => tag("option", name === operation ? { selected: "" } : {}, name));
+  const letter = letterOf(thread);
+  const field = { type: "number", min: 0, max: 999, value: key, "data-key": thread, "aria-label": `number of ${letter}’s call` };
+  const fields = tag("select", { "data-call": thread, "aria-label": `call of ${letter}` }, ...options) + tag("input", field);
+  const reply = last === undefined ? "" : `<small>${callText(last)}: <b class="reply ${last.reply}">${answerText(last.reply)}</b></small>`;
+  return threadRow(thread, `<span class="choose">${fields}<button data-begin="${thread}">begin</button></span> ${reply}`);
+}
+
+function showStrip(figure) {
+  const { run } = figure;
+  const wide = Math.max(280, figure.stripWide);
+  const room = 26 + 9 * `{${run.promised().join(", ")}}`.length; // right of the last event, for what is in the set then
+  const scale = scaleOf(run.trace, run.count, wide - room, figure.hides);
+  Object.assign(scale, { edge: scale.edge + room, width: wide });
+  figure.scale = scale;
+  setHtml(figure.part("strip"), tag("div", { class: "calls" }, drawCalls(run.trace, scale)) + drawContents(run.trace, scale));
+}
+const MOST_CALLS = 400; // pixels: of more threads the bars scroll
+
+function scrollToLane(figure) {
+  const { run, scale } = figure;
+  if (scale.height <= MOST_CALLS || run.count === 0) return;
+  const box = figure.part("calls");
+  const y = scale.y(run.trace.event(run.count).thread);
+  if (y < box.scrollTop + 20 || y > box.scrollTop + box.clientHeight - 20) box.scrollTop = y - box.clientHeight / 2;
+}
+
+const SCRUB = `<button class="small" data-move="-1" aria-label="one step back">◂</button>
+  <input type="range" min="0" aria-label="moment of the run"><button class="small" data-move="1" aria-label="one step on">▸</button>
+  <span class="small count"></span>`;
+
+function showScrub(figure) {
+  const box = figure.part("scrub");
+  const { count, trace } = figure.run;
+  if (box.firstElementChild === null) {
+    box.innerHTML = SCRUB;
+    box.querySelector("input").oninput = ({ target }) => figure.moveTo(Number(target.value));
+  }
+  const slider = box.querySelector("input");
+  Object.assign(slider, { max: trace.total, value: count });
+  slider.setAttribute("aria-valuetext", `step ${count} of ${trace.total}: ${figure.part("tale").textContent}`);
+  box.querySelector(".count").textContent = `${count} of ${trace.total}`;
+  box.hidden = !figure.isOpen;
+}
+
+
+const MOST_KEY = 999;
+
+function pressed(figure, event) {
+  const button = event.target.closest("button");
+  if (button === null || !figure.box.contains(button)) return;
+  const { step, move, begin, active } = button.dataset;
+  if (step !== undefined) figure.step(Number(step));
+  else if (button.closest("[data-rows]") !== null) pressLine(figure, button);
+  else if (active !== undefined) figure.set({ active: Number(active) });
+  else if ("again" in button.dataset) figure.again();
+  else if ("undo" in button.dataset) figure.undo();
+  else if (move !== undefined) figure.moveTo(figure.run.count + Number(move));
+  else if (begin !== undefined) beginOwn(figure, Number(begin));
+}
+
+function pressLine(figure, button) {
+  if (figure.isBusy || !figure.canStep) return;
+  const rows = button.closest("[data-rows]").dataset.rows.split(" ").map(Number);
+  const here = (button.dataset.threads ?? "").split(" ").filter((text) => text !== "").map(Number);
+  const thread = here.length === 0 || here.includes(figure.active) ? figure.active : here[0];
+  const isIdle = figure.run.isIdle(thread);
+  if (isIdle && figure.left(thread).length === 0) return figure.tell(`${chipOf(thread)} has no call under way.`);
+  figure.leaves();
+  const from = figure.run.trace.total;
+  if (isIdle) figure.run.begin(thread, figure.left(thread)[0]);
+  const isThere = ({ changes }) => rows.includes(changes.pc);
+  const isOff = (event) => !isThere(event) || event.deed === "exchange";
+  figure.play(thread, figure.run.stepsUntil(thread, here.length > 0 ? isOff : isThere), from);
+}
+
+function chooseCall(figure, row) {
+  const call = [row.querySelector("select").value, row.querySelector("input").value];
+  figure.chosen = { ...figure.chosen, [row.dataset.thread]: call };
+}
+
+function beginOwn(figure, thread) {
+  if (figure.isBusy || !figure.canStep) return;
+  chooseCall(figure, figure.box.querySelector(`[data-thread="${thread}"]`));
+  const [operation, key] = figure.chosen[thread];
+  if (!/^\d+$/.test(key) || Number(key) > MOST_KEY) return figure.tell(`A number from 0 to ${MOST_KEY}, please.`);
+  figure.leaves();
+  figure.active = thread;
+  figure.run.begin(thread, [operation, Number(key)]);
+  figure.draw(true);
+  figure.onStep?.(figure);
+}
+return { showDock, showStrip, scrollToLane, showScrub, pressed, chooseCall, beginOwn };
+})();
+
+// story/figure_parts.js
+const $story_figure_parts = (() => {
+const { glide } = $draw_glide;
+const { drawList } = $draw_list;
+const { arranged, shapeFor } = $draw_places;
+const { callText, colourOf, letterOf } = $run_markup;
+const { momentAt } = $run_sentences;
+const { setHtml } = $page_dom;
+const { drawOwnCode } = $story_code;
+const { scrollToLane, showDock, showScrub, showStrip } = $story_dock;
+const { taleOf } = $story_tale;
+const MOST_SCALE = 1.75;
+const MOST_HEIGHT = 0.4; // of the window, for the list
+const NARROW = "(max-width: 760px)";
+const isNarrow = () => matchMedia(NARROW).matches;
+
+
+const codeBox = ({ codeTitle, codeNote = "" }) => `<details class="codebox" ${isNarrow() ? "" : "open"}><summary><b>${codeTitle}</b></summary>
+    <p class="small code-note" ${codeNote === "" ? "hidden" : ""}>${codeNote}</p><span class="runs"></span><div class="lines"></div>
+    <p class="small hint">A letter stands at its thread’s next line. Press the line to step, another one to run there.</p></details>`;
+
+function frameOf({ box, spec }) {
+  box.innerHTML = `<div class="stage"><div class="list" tabindex="0" role="group" aria-label="the list"></div>
+    <p class="tale" aria-live="polite"></p><div class="strip"></div><div class="scrub"></div><div class="dock"></div></div>
+    ${spec.code === false ? "" : codeBox(spec)}`;
+  box.classList.add("fig");
+  box.classList.toggle("wide", spec.code === false);
+  box.classList.toggle("plain", spec.plain === true);
+  box.classList.toggle("short", spec.short === true);
+  box.classList.toggle("undoes", spec.again !== false);
+}
+
+function drawFigure(figure, moment, isNear) {
+  const { run, spec, box } = figure;
+  placeTheList(figure, moment, isNear);
+  const tale = figure.told ?? taleHere(figure, moment);
+  const words = tale === "" ? (spec.tale ?? "") : tale;
+  if (figure.part("tale").innerHTML !== words) figure.part("tale").innerHTML = words;
+  box.classList.toggle("at-end", run.count === run.trace.total);
+  box.classList.toggle("shut", !figure.canStep);
+  showCode(figure, moment);
+  showDock(figure);
+  if (spec.strip) showStrip(figure);
+  if (spec.scrub) showScrub(figure);
+  scrollSoon(figure, moment.event?.thread ?? figure.active);
+}
+
+function scrollSoon(figure, moved) {
+  cancelAnimationFrame(figure.scroll);
+  figure.scroll = requestAnimationFrame(() => {
+    if (figure.isEnded) return;
+    scrollToTouched(figure);
+    scrollToLit(figure, moved);
+    if (figure.spec.strip) scrollToLane(figure);
+  });
+}
+
+function taleHere({ run, spec }, moment) {
+  if (spec.sentence) return spec.sentence(moment);
+  if (moment.event === null) return "";
+  const isOfLock = spec.plain === true && moment.event.word === "list.lock";
+  if (!isOfLock || moment.event.answer === undefined) return taleOf(moment, spec);
+  const { answer, call } = moment.event;
+  const before = taleOf(momentAt(run.state, run.count - 1), spec);
+  run.state.moveTo(run.count);
+  return `${before} <b>${callText(call)} answers ${answer}.</b>`;
+}
+
+
+function placeTheList(figure, { state, event }, isNear) {
+  const box = figure.part("list");
+  const { id, most, spec, wide: room } = figure;
+  if (room === 0) return;
+  const shape = shapeFor(room);
+  const list = arranged(state, event, shape);
+  most.height = Math.max(most.height, list.height);
+  most.width = Math.max(most.width, list.width, (spec.roomFor ?? 0) * shape.share);
+  const draw = () => {
+    box.innerHTML = drawList(state, event, list, most.height, id);
+    const svg = box.firstElementChild;
+    fitList(figure, svg, room, list.width);
+    if (event !== null) svg.classList.add(colourOf(event.thread));
+    if (spec.names) return;
+    for (const sign of svg.querySelectorAll("text.pointer")) plainSign(spec, sign);
+    for (const name of svg.querySelectorAll("text.name")) if (/^n\d+$/.test(name.textContent)) name.remove();
+  };
+  glide(box, draw, isNear);
+}
+
+function fitList({ spec, most: { width } }, svg, room, own) {
+  const [, top, , high] = svg.getAttribute("viewBox").split(" ").map(Number);
+  const tall = Math.max(innerHeight * (spec.high ?? MOST_HEIGHT), spec.least ?? 180);
+  const scale = Math.max(0.5, Math.min(MOST_SCALE, (room - 4) / width, tall / high));
+  svg.setAttribute("viewBox", `${(own - width) / 2} ${top} ${width} ${high}`);
+  svg.setAttribute("width", width * scale);
+  svg.setAttribute("height", high * scale);
+}
+
+function scrollToTouched(figure) {
+  const [box, room] = [figure.part("list"), figure.wide];
+  const drawn = box.firstElementChild;
+  const wide = Number(drawn?.getAttribute("width"));
+  const touched = wide <= room ? null : box.querySelector("[data-hot]");
+  if (touched == null) return;
+  const [x, , width] = drawn.getAttribute("viewBox").split(" ").map(Number);
+  const at = (Number(touched.getAttribute("x")) - x) * (wide / width);
+  if (at < box.scrollLeft + 60 || at > box.scrollLeft + room - 120) box.scrollLeft = at - room / 2;
+}
+
+function plainSign(spec, sign) {
+  const [, letter, given] = /^(▲ \w+) (.*)$/.exec(sign.textContent);
+  const isTold = spec.list === "lock-free" && spec.isPath !== true;
+  const names = given.split(", ").filter((name) => name !== "succ" || isTold).map((name) => (name === "node" ? "2nd walk" : name));
+  if (names.length === 0) sign.remove();
+  else sign.textContent = `${letter} ${names.join(", ")}`;
+}
+
+function markLostNodes({ run, box }) {
+  const has = run.has();
+  const isLost = ({ key }) => run.promised().some((one) => String(one) === key && !has.includes(one));
+  for (const [name, node] of Object.entries(run.state.nodes)) {
+    if (isLost(node)) box.querySelector(`.list [data-part="node ${name}"]`)?.classList.add("lost");
+  }
+}
+
+
+function operationsOf({ spec, run, isGuess }) {
+  const planned = Object.values(spec.calls ?? {}).flat().map(([operation]) => operation);
+  const begun = run.trace.calls.map(({ operation }) => operation);
+  const hidden = isGuess ? (spec.hidden?.operations ?? []) : [];
+  return [...new Set([...(spec.operations ?? []), ...planned, ...begun])].filter((name) => !hidden.includes(name));
+}
+
+function showCode(figure, { state, event, before }) {
+  const box = figure.part("lines");
+  if (box === null) return;
+  const { spec, run, canStep } = figure;
+  const { list, plain, fresh, struck, instead } = spec;
+  const isAble = (thread) => !run.isIdle(thread) || figure.left(thread).length > 0;
+  if (!isAble(figure.active)) figure.active = figure.shown.find(isAble) ?? figure.active;
+  const { active } = figure;
+  const made = event === null || event.deed === "begin" ? null : { row: before.pc, thread: event.thread };
+  const next = state.threads.map((own, thread) => ({ thread, row: own.pc })).filter(({ row }) => row !== 0);
+  const hides = (figure.isGuess ? spec.hidden?.hides : undefined) ?? spec.hides; // some is not told before the guess
+  setHtml(box, drawOwnCode({ list, plain, fresh, struck, hides, instead, operations: operationsOf(figure), next, made, canStep, active }));
+  const toggles = figure.shown.filter(isAble).map((thread) => toggleOf(thread, active));
+  setHtml(figure.part("runs"), canStep && toggles.length > 1 ? toggles.join("") : "");
+}
+
+const toggleOf = (thread, active) => `<button class="who ${colourOf(thread)}" data-active="${thread}" aria-pressed="${thread === active}"
+  title="${letterOf(thread)} runs to another line that is pressed">${letterOf(thread)}</button>`;
+
+function scrollToLit(figure, moved) {
+  const box = figure.part("lines");
+  const line = box?.querySelector(`.lit.${colourOf(moved)}`) ?? box?.querySelector(".made") ?? box?.querySelector(".lit");
+  if (line == null || box.scrollHeight <= box.clientHeight) return;
+  const y = line.offsetTop - box.offsetTop;
+  if (y < box.scrollTop + 10 || y > box.scrollTop + box.clientHeight - 50) box.scrollTop = y - box.clientHeight / 2;
+}
+return { isNarrow, frameOf, drawFigure, markLostNodes };
+})();
+
+// story/live_run.js
+const $story_live_run = (() => {
+const { askNow } = $page_now;
+const { askList, verdictOnLacking } = $run_broken;
+const { openingIn, scheduleOfDraft, scheduleOfTrace, scheduleText } = $run_schedule_text;
+const { isFailed, isLock } = $run_outcomes;
+const { keysInChain, promisedKeys, State } = $run_state;
+const { isTrace, Trace } = $run_trace;
+const { joinedRows, phaseAt } = $story_tale;
+const MOST_STEPS = 80; // of one call, in the short lists of the story
+
+const linesOf = (schedule) => schedule.split("\n").filter((line) => /^(begin|go) /.test(line));
+
+function runOfText(text) {
+  const valueOf = (word) => new RegExp(`^${word} (.*)$`, "m").exec(text)?.[1];
+  return {
+    threads: Number(valueOf("threads")),
+    quota: Number(valueOf("quota")),
+    opening: openingIn(text).map(Number),
+    lines: linesOf(text),
+  };
+}
+
+class ShownRun {
+  /** @param {any} trace @param {any} state */
+  constructor(trace, state, count = 0) {
+    this.trace = trace;
+    this.state = state;
+    this.count = count;
+  }
+
+  isIdle(thread) {
+    return this.state.threads[thread].pc === 0;
+  }
+
+  promised() {
+    return promisedKeys(this.trace);
+  }
+
+  has() {
+    return keysInChain(this.state);
+  }
+}
+
+/**
+ * @typedef {object} RunSpec
+ * @property {string} list
+ * @property {string | null} [lacks]  the check that the list lacks
+ * @property {number} [threads]
+ * @property {number} [quota]
+ * @property {number[]} [opening]
+ * @property {string[]} [lines]  the schedule's first lines, also those of a draft
+ * @property {number} [version]  of the schedule's text
+ * @property {boolean} [free]  the reader may begin any call, and stop before each look
+ * @property {boolean} [plain]  the list's lock is ignored, and nothing is told of it
+ */
+class LiveRun extends ShownRun {
+  /** @param {RunSpec} spec */
+  constructor(spec) {
+    super(null, null);
+    this.spec = { lacks: null, threads: 2, quota: 2, opening: [], plain: false, version: 2, ...spec };
+    this.first = this.expanded(spec.lines ?? []);
+    this.take(this.first);
+  }
+
+  expanded(lines) {
+    const { text, fault } = scheduleOfDraft(askNow, this.textOf(lines), this.spec.lacks);
+    if (fault !== null) throw new Error(fault);
+    return linesOf(text);
+  }
+
+  textOf(lines) {
+    return scheduleText(this.spec, lines);
+  }
+
+  traceOf(lines) {
+    const { text } = askList(askNow, "listset_trace", this.spec.lacks, this.textOf(lines));
+    if (!isTrace(text)) throw new Error(text.trim());
+    return new Trace(text, this.spec.version);
+  }
+
+  take(lines) {
+    this.lines = [...lines];
+    this.trace = this.traceOf(this.lines);
+    this.state = new State(this.trace);
+    this.moveTo(this.trace.total);
+  }
+
+  linesHere() {
+    return linesOf(scheduleOfTrace(this.trace, this.count));
+  }
+
+  get schedule() {
+    return this.textOf(this.lines);
+  }
+
+  moveTo(count) {
+    this.count = Math.max(0, Math.min(this.trace.total, count));
+    this.state.moveTo(this.count);
+  }
+
+  nextOf(thread, call = null) {
+    const isBegin = this.isIdle(thread);
+    const lines = isBegin ? [...this.lines, `begin ${thread} ${call.join(" ")}`] : this.lines;
+    const trace = this.traceOf([...lines, `go ${thread} ${MOST_STEPS}`]);
+    const begun = this.trace.total + lines.length - this.lines.length;
+    const row = isBegin ? trace.event(begun).changes.pc : this.state.threads[thread].pc;
+    return { ...this.chunk(trace, begun, row), thread, row, isBegin };
+  }
+
+  chunk(trace, begun, row) {
+    const { list, plain } = this.spec;
+    const phase = phaseAt(list, row, plain);
+    const joined = this.spec.free && !plain ? [] : joinedRows(list, plain);
+    let steps = 0;
+    let before = row;
+    for (let number = begun + 1; number <= trace.total; number++) {
+      const event = trace.event(number);
+      steps++;
+      if (event.answer !== undefined) break;
+      const after = event.changes.pc;
+      const ofLock = isFailed(event) && isLock(event.word);
+      const waits = ofLock && after === before; // a broken list may go on all the same
+      if (waits || (isFailed(event) && !ofLock)) return { steps, phase, waits };
+      before = after;
+      if (phaseAt(list, after, plain) !== phase && !joined.includes(after)) break;
+    }
+    return { steps, phase, waits: false };
+  }
+
+  stepsUntil(thread, isThere) {
+    const { total } = this.trace;
+    const trace = this.traceOf([...this.lines, `go ${thread} ${MOST_STEPS}`]);
+    for (let number = total + 1; number <= trace.total; number++) {
+      const event = trace.event(number);
+      if (event.answer !== undefined || isThere(event) || this.waitsAt(event)) return number - total;
+    }
+    return 1;
+  }
+
+  waitsAt(event) {
+    return isFailed(event) && isLock(event.word) && this.spec.lacks !== "lock";
+  }
+
+  begin(thread, [operation, key]) {
+    this.take([...this.lines, `begin ${thread} ${operation} ${key}`]);
+  }
+
+  go(thread, steps) {
+    this.take([...this.lines, `go ${thread} ${steps}`]);
+  }
+
+  verdict() {
+    return verdictOnLacking(askNow, this.spec.lacks, this.schedule);
+  }
+
+  isBroken() {
+    return this.spec.lacks !== null && this.verdict().kind === "broken";
+  }
+}
+return { linesOf, runOfText, ShownRun, LiveRun };
+})();
+
+// story/figure.js
+const $story_figure = (() => {
+const { momentAt } = $run_sentences;
+const { drawFigure, frameOf, isNarrow, markLostNodes } = $story_figure_parts;
+const { beginOwn, chooseCall, pressed } = $story_dock;
+const { LiveRun } = $story_live_run;
+const BIT = 300; // milliseconds between two steps of one press
+const BETWEEN = 450; // and between two presses that the page makes
+const wantsStill = () => matchMedia("(prefers-reduced-motion: reduce)").matches;
+const sleep = (time) => new Promise((done) => setTimeout(done, time));
+const drawn = { count: 0 };
+const tellBusy = (isBusy) => (document.body.dataset.busy = isBusy ? "yes" : "no");
+
+/**
+ * @typedef {import("./live_run.js").RunSpec & { [name: string]: any }} FigureSpec  What a run needs; `calls`, of each thread those
+ *   that it is to make; `shown`, the threads with a button; `dock`, `code`, `strip`, `scrub`: what is shown besides the list.
+ */
+class Figure {
+  id = `f${drawn.count++}`;
+  past = []; // what stood there before each deed
+  isBusy = false; // steps are being shown
+  isActing = false; // and more of them will be
+  isHurried = false;
+  isEnded = false;
+  isOpen = true; // the reader may step
+  hidesDock = false;
+  isGuess = false; // what would tell the answer is not shown
+  isLost = false; // the nodes that are lost are lit
+  hides = true; // of the history, what comes later
+  wide = 0; // of the list, in pixels
+  stripWide = 0;
+  scroll = 0;
+  told = null;
+  onStep = null;
+  onFork = null;
+
+  /** @param {any} box @param {FigureSpec} spec */
+  constructor(box, spec) {
+    this.box = box;
+    this.spec = spec;
+    this.run = spec.run ?? new LiveRun(spec);
+    this.shown = spec.shown ?? this.run.state.threads.map((_, thread) => thread);
+    this.active = spec.active ?? 0;
+    this.chosen = spec.chosen ?? {}; // of an idle thread, the call that stands in its fields
+    this.most = { width: 0, height: spec.tall && !isNarrow() ? 262 : 0 }; // room for a node that is sure to come
+    frameOf(this);
+    box.addEventListener("click", (event) => pressed(this, event));
+    box.addEventListener("input", ({ target }) => target.closest(".choose") !== null && chooseCall(this, target.closest("[data-thread]")));
+    this.stretch = new ResizeObserver(() => {
+      if (this.part("list").clientWidth !== this.wide) requestAnimationFrame(() => this.isEnded || this.fit());
+    });
+    this.stretch.observe(this.part("list"));
+    this.fit();
+  }
+
+  fit() {
+    [this.wide, this.stripWide] = ["list", "strip"].map((name) => this.part(name).clientWidth);
+    this.draw();
+  }
+
+  end() {
+    this.stretch.disconnect();
+    this.isEnded = true;
+    tellBusy(false);
+  }
+
+  part(name) {
+    return this.box.querySelector(`.${name}`);
+  }
+
+  set(given) {
+    Object.assign(this, given);
+    this.draw();
+  }
+
+  get canStep() {
+    return this.isOpen && !this.hidesDock && this.spec.dock !== false;
+  }
+
+  left(thread) {
+    const own = this.spec.calls?.[thread] ?? [];
+    return own.slice(this.run.trace.calls.filter((call) => call.thread === thread).length);
+  }
+
+  reset() {
+    this.run.take(this.run.first);
+    Object.assign(this, { past: [], told: null, isLost: false });
+    this.draw();
+  }
+
+  leaves() {
+    this.onFork?.(this);
+    this.past.push([...this.run.lines]);
+  }
+
+  async step(thread) {
+    if (!this.isOpen) return;
+    if (this.isBusy) return void (this.isHurried = true);
+    const [call] = this.left(thread);
+    if (this.run.isIdle(thread) && call === undefined) return;
+    this.leaves();
+    const next = this.run.nextOf(thread, call);
+    const before = this.run.trace.total;
+    if (next.isBegin) this.run.begin(thread, call);
+    await this.play(thread, next.steps, before);
+  }
+
+  press(thread) {
+    if (!this.canStep || !this.shown.includes(thread)) return;
+    if (this.run.isIdle(thread) && this.left(thread).length === 0 && this.spec.free) beginOwn(this, thread);
+    else this.step(thread);
+  }
+
+  async play(thread, steps, from) {
+    this.active = thread;
+    this.run.go(thread, steps);
+    await this.show(from);
+    if (!this.isEnded) this.onStep?.(this);
+  }
+
+  async show(from) {
+    const { total } = this.run.trace;
+    this.isBusy = true;
+    this.isHurried = false;
+    tellBusy(true);
+    for (let count = Math.min(from + 1, total); count <= total; count++) {
+      if (this.isEnded) return;
+      if (count < total && (this.isHurried || wantsStill() || this.isHidden(count))) continue;
+      this.run.moveTo(count);
+      this.part("tale").setAttribute("aria-live", count < total ? "off" : "polite"); // of a play only the last sentence is read out
+      this.isBusy = count < total;
+      this.draw(true);
+      if (count < total) await sleep(BIT);
+    }
+    this.isBusy = false;
+    tellBusy(this.isActing);
+  }
+
+  async replay(from = 0) {
+    if (this.isBusy) return;
+    this.run.moveTo(from);
+    this.draw();
+    await this.show(from);
+  }
+
+  isHidden(count) {
+    return this.spec.plain === true && this.run.trace.event(count).word === "list.lock";
+  }
+
+  async act(deeds) {
+    const { onStep } = this;
+    Object.assign(this, { onStep: null, isActing: true });
+    for (const [thread, many = 1] of deeds) {
+      for (let bit = 0; many === "out" ? bit === 0 || !this.run.isIdle(thread) : bit < many; bit++) {
+        if (this.isEnded) return;
+        await this.step(thread);
+        await sleep(wantsStill() ? 0 : BETWEEN);
+      }
+    }
+    Object.assign(this, { onStep, isActing: false });
+    tellBusy(false);
+  }
+
+  undo() {
+    if (this.isBusy || this.past.length === 0) return;
+    this.run.take(this.past.pop());
+    this.isLost = false;
+    this.draw(true);
+    this.onStep?.(this);
+  }
+
+  again() {
+    if (this.isBusy) return;
+    this.reset();
+    this.onStep?.(this);
+  }
+
+  tell(text) {
+    this.told = text;
+    this.part("tale").innerHTML = text;
+  }
+
+  draw(isNear = false, moment = momentAt(this.run.state, this.run.count)) {
+    if (isNear) this.told = null;
+    drawFigure(this, moment, isNear);
+    if (this.isLost && this.run.count === this.run.trace.total) markLostNodes(this);
+  }
+
+  moveTo(count) {
+    if (this.isBusy) return;
+    const isNear = Math.abs(count - this.run.count) <= 1;
+    this.run.moveTo(count);
+    this.draw(isNear);
+  }
+}
+return { Figure };
 })();
 
 // story/scene.js
@@ -7695,16 +7535,120 @@ const LIST_WORDS = { coarse: "One lock", fine: "Hand over hand", optimistic: "Op
 return { VIEWS, scene, part, titleOfScene, faultOfScene, isScene, setScene, copyText, talk, takeFigure, leaveScene, renderScene, openScene, listenToScene, pressInScene, head, FIGURE_AND_TALK, hintAndOn, drawHintAndOn, drawOn, takeFreeFigure, LACKS_ONE, foot, optionButtons, replyTo, drawLedger, isOddRun, threadOfKey, pressThread, numberOfKey, LIST_WORDS };
 })();
 
-// story/assignment_view.js
-const $story_assignment_view = (() => {
-const { BOOK_NAME } = $made_book;
+// story/assignment.js
+const $story_assignment = (() => {
+const { BOOK, BOOK_NAME } = $made_book;
+const { LACKING } = $made_classics;
+const { LISTS } = $made_rows;
+const { BREAK_LEVELS, levelOfNumber, numberOfLevel } = $data_levels;
+const { AddressFault, addressOf, partsOfSeed, readAddress, scheduleOfSeed } = $run_address;
+const { NO_TASK } = $run_broken;
+const { counted, escaped, inLetters, tag } = $run_markup;
+const { eventsAsked } = $run_schedule_text;
 const { handInText } = $course_hand_in;
+const { triedCourse } = $course_lesson;
 const { saveText } = $page_files;
-const { now } = $page_now;
-const { counted, escaped, tag } = $run_markup;
-const { linesDone, tasksOf } = $story_assignment;
-const { keepStory, keptStory, startAfresh } = $story_kept;
+const { keptUnder } = $page_kept;
+const { askNow, now } = $page_now;
+const { addressOfAssignment } = $page_visit;
+const { brokenLines, keepStory, keptStory, startAfresh } = $story_kept;
 const { copyText, foot, head, part } = $story_scene;
+const known = { course: null };
+
+const bookCourse = () => (known.course ??= triedCourse(askNow, BOOK));
+
+const allLevels = () => Object.keys(BREAK_LEVELS).filter((name) => name !== NO_TASK).map((name) => ({ name, number: numberOfLevel(name) }));
+
+const wordsIn = (text, sign = ".") => (text ?? "").split(sign).filter((word) => word !== "");
+const isSeed = (word) => /^(coarse|fine|optimistic|lazy|lock-free)\.\d{1,2}\.\d{1,2}\.\d{1,2}\.\d{1,9}$/.test(word);
+
+function addressOfTasks(title, { learn, levels, seeds }) {
+  const parts = Object.entries({ learn: learn.join("."), break: levels.join("."), judge: seeds.join(",") });
+  return addressOfAssignment({ id: title, given: Object.fromEntries(parts.filter(([, value]) => value !== "")) });
+}
+
+/** @typedef {{ id: string, kind: "Solve" | "Break" | "Judge", title: string, says: string, href: string, seed?: string }} Task */
+
+/** @returns {Task | null} */
+function lessonTask(name) {
+  const lesson = bookCourse().lessons.find((one) => one.name === name);
+  return lesson === undefined ? null : { id: name, kind: "Solve", title: lesson.title, says: inLetters(lesson.question), href: `#learn=${name}` };
+}
+
+/** @returns {Task | null} */
+function levelTask(number) {
+  const name = levelOfNumber(number);
+  if (name === undefined || name === NO_TASK) return null;
+  const title = `Level ${number}, ${LISTS[LACKING[name]].name}`;
+  return { id: `break ${name}`, kind: "Break", title, says: BREAK_LEVELS[name].story, href: `#break=${number}` };
+}
+
+/** @returns {Task | null} */
+function seedTask(seed) {
+  if (!isSeed(seed)) return null;
+  const { kind, number, calls } = partsOfSeed(seed);
+  const says = `${calls} calls: what does each answer, and where does it take effect?`;
+  return { id: `judge ${seed}`, kind: "Judge", title: `Run ${number}, ${LISTS[kind].name}`, says, href: `#seed=${seed}&judge`, seed };
+}
+
+function homeworkOf({ activity, id }, task = { kind: "", id: "" }) {
+  const { homework } = keptStory();
+  const isRun = activity === "judge" && task.kind === "seed";
+  if (homework === null || !(isRun || ["learn", "break"].includes(activity))) return null;
+  return wordsIn(homework.given[activity], isRun ? "," : ".").includes(isRun ? task.id : id) ? homework : null;
+}
+
+function wayOn({ activity, id }, own) {
+  const homework = homeworkOf({ activity, id });
+  if (homework === null) return own;
+  const { tasks } = tasksOf(homework.given);
+  const next = tasks[tasks.findIndex(({ href }) => href === `#${activity}=${id}`) + 1];
+  return next === undefined ? { href: addressOfAssignment(homework), words: "All tasks →" } : { href: next.href, words: "Next task →" };
+}
+
+function tasksOf(given) {
+  const unknown = [];
+  const taken = (words, taskOf, what) =>
+    words.flatMap((word) => {
+      const task = taskOf(word);
+      if (task === null) unknown.push(`${what} ${word.slice(0, 40)}`);
+      return task === null ? [] : [task];
+    });
+  const learn = taken(wordsIn(given.learn), lessonTask, "lesson");
+  const levels = taken(wordsIn(given.break), levelTask, "level");
+  return { tasks: [...learn, ...levels, ...taken(wordsIn(given.judge, ","), seedTask, "run")], unknown };
+}
+
+
+function textOfRun(run) {
+  try {
+    return run.includes("#") ? readAddress(run.slice(run.indexOf("#"))).text : null;
+  } catch (fault) {
+    if (fault instanceof AddressFault) return null;
+    throw fault;
+  }
+}
+
+function taskOfJudged(line, tasks) {
+  const [, run = "", level] = line.split(" ");
+  if (level === "claim") return null;
+  const text = textOfRun(run);
+  return tasks.find(({ seed }) => seed !== undefined && text === scheduleOfSeed(askNow, seed)) ?? null;
+}
+
+function linesDone(tasks) {
+  const lessons = keptUnder("listset-lessons-2")?.of?.[BOOK_NAME]?.solutions ?? {};
+  const broken = Object.fromEntries(brokenLines());
+  const judged = Object.values(keptUnder("listset-judged") ?? {}).filter((line) => typeof line === "string");
+  const lineOf = {
+    Solve: ({ id }) => (typeof lessons[id] === "string" ? `${id} ${addressOf(lessons[id], eventsAsked(lessons[id]))}` : undefined),
+    Break: ({ id }) => broken[id.slice("break ".length)],
+    Judge: (task) => judged.find((line) => taskOfJudged(line, [task]) !== null),
+  };
+  return Object.fromEntries(tasks.map((task) => [task.id, lineOf[task.kind](task)]));
+}
+
+
 const titleOfAssignment = ({ id }) => id || "Assignment";
 
 function doneOf(place) {
@@ -7781,116 +7725,48 @@ const assignmentView = {
     },
   },
 };
-return { titleOfAssignment, assignmentView };
+return { bookCourse, allLevels, addressOfTasks, homeworkOf, wayOn, tasksOf, taskOfJudged, titleOfAssignment, assignmentView };
 })();
 
-// activities/watch.js
-const $activities_watch = (() => {
-const { LISTS } = $made_rows;
-const { tag } = $run_markup;
-const { scheduleOfTrace } = $run_schedule_text;
-const { anotherSeed, partsOfSeed, scheduleOfSeed, seedOf } = $run_seed;
-const { byId } = $page_dom;
-const { works } = $page_kept;
-const { askNow, isJudging, now } = $page_now;
-const { addressOfAssignment, addressOfCode, titleIn } = $page_scene_address;
-const { examples, openTask } = $page_work;
-const { homeworkOf } = $story_assignment;
-const { titleOfAssignment } = $story_assignment_view;
-const { linesOf } = $story_live_run;
-const { titleOfScene } = $story_scene;
-const FIRST = { example: "marked-in-chain", event: 20 };
-
-function seedForm(id, verb) {
-  const options = Object.entries(LISTS).map(([kind, { name }]) => tag("option", { value: kind }, name));
-  const number = `<input id="${id}-number" type="number" min="1" max="999999999" placeholder="any">`;
-  const parts = [
-    tag("label", {}, "list ", tag("select", { id: `${id}-list` }, ...options)),
-    tag("label", {}, "number ", number),
-    tag("button", { id: `${id}-go`, class: "primary" }, verb),
-  ];
-  return tag("div", { class: "start-row" }, ...parts);
-}
-
-function listenToSeedForm(id, more) {
-  byId(`${id}-go`).onclick = () => {
-    const kind = byId(`${id}-list`).value;
-    const number = Number(byId(`${id}-number`).value);
-    location.hash = `#seed=${number > 0 ? seedOf(kind, number) : anotherSeed(now.task.kind === "seed" ? now.task.id : null, kind)}${more}`;
-  };
-}
-
-function openSeed(seed, count) {
-  const text = scheduleOfSeed(askNow, seed);
-  openTask({ kind: "seed", id: seed, work: works.newName(`run ${partsOfSeed(seed).number}`) }, text, count);
-}
-
-function taskOfWatch() {
-  const more = isJudging() ? "&judge" : "";
-  if (now.task.kind === "seed") drawSeedBox(now.task.id, more);
-  const names = examples().map(({ name }) => name);
-  const at = now.task.kind === "example" ? names.indexOf(now.task.id) : -1;
-  const to = (index) => (at >= 0 && names[index] !== undefined ? `#example=${names[index]}${more}` : null);
-  return { before: to(at - 1), all: more === "" ? ["#ask", "All questions"] : ["#judge", "All runs"], next: to(at + 1) };
-}
-
-function drawSeedBox(seed, more) {
-  const { kind, number } = partsOfSeed(seed);
-  byId("seed-number").textContent = number;
-  if (document.activeElement !== byId("seed-input")) byId("seed-input").value = number;
-  byId("seed-another").href = `#seed=${anotherSeed(seed, kind)}${more}`;
-  byId("seed-judge").href = `#seed=${seed}&judge`;
-  byId("seed-judge").hidden = more !== "";
-  byId("seed-open").onclick = () => {
-    const wanted = Number(byId("seed-input").value);
-    if (wanted > 0) location.hash = `#seed=${seedOf(kind, wanted)}${more}`;
-  };
-}
-
-
-function showHome() {
-  const homework = now.place.view === null ? homeworkOf(now.place, now.task) : null;
-  byId("home").hidden = homework === null;
-  if (homework === null) return;
-  byId("home").textContent = `← Back to ${titleOfAssignment(homework)}`;
-  byId("home").href = addressOfAssignment(homework);
-}
-
-function aimGoOn() {
-  const { trace, count } = now.run;
-  byId("go-on-here").hash = addressOfCode(trace.kind, trace.opening, linesOf(scheduleOfTrace(trace, count)), trace);
-}
-
-function showPlace() {
-  document.title = titleIn(now, titleOfScene);
-  showHome();
-  if (now.place.screen !== "stage") return;
-  const links = taskOfWatch();
-  for (const name of ["before", "next"]) {
-    byId(`task-${name}`).hidden = links[name] === null;
-    if (links[name] !== null) byId(`task-${name}`).href = links[name];
+// story/still_figure.js
+const $story_still_figure = (() => {
+const { momentAt } = $run_sentences;
+const { Figure } = $story_figure;
+class StillFigure extends Figure {
+  constructor(box, spec) {
+    super(box, { dock: false, names: true, strip: true, short: true, again: false, ...spec });
   }
-  [byId("task-all").hash, byId("task-all").textContent] = links.all;
+
+  take(run, moment = momentAt(run.state, run.count), hides = true) {
+    const isNear = run.trace.kind === this.run.trace.kind && Math.abs(run.count - this.run.count) === 1;
+    Object.assign(this, { run, hides });
+    this.draw(isNear, moment);
+  }
 }
-return { FIRST, seedForm, listenToSeedForm, openSeed, aimGoOn, showPlace };
+return { StillFigure };
 })();
 
 // activities/bench.js
 const $activities_bench = (() => {
 const { LISTS } = $made_rows;
+const { anotherSeed, partsOfSeed, scheduleOfSeed, seedOf } = $run_address;
+const { escaped, tag } = $run_markup;
+const { scheduleOfTrace } = $run_schedule_text;
+const { momentAt, sentenceOf } = $run_sentences;
 const { drawOrder } = $draw_contents;
 const { HISTORY_LEFT } = $draw_history;
 const { drawListing } = $draw_listing;
 const { drawTable, drawThreads, MOST_ROWS } = $draw_tables;
 const { byId, setAble, setHtml } = $page_dom;
-const { scrollToLine } = $page_work;
-const { hiddenOutcomes, isJudging, now, show, tell } = $page_now;
+const { works } = $page_kept;
+const { askNow, hiddenOutcomes, isJudging, now, show, tell } = $page_now;
 const { goByHand, isPlaying } = $page_play;
-const { escaped } = $run_markup;
-const { momentAt, sentenceOf } = $run_sentences;
-const { ShownRun } = $story_live_run;
+const { addressOfAssignment, addressOfCode, titleIn } = $page_visit;
+const { examples, openTask, scrollToLine } = $page_work;
+const { homeworkOf, titleOfAssignment } = $story_assignment;
+const { linesOf, ShownRun } = $story_live_run;
+const { titleOfScene } = $story_scene;
 const { StillFigure } = $story_still_figure;
-const { aimGoOn } = $activities_watch;
 const bench = { key: "", figure: null };
 const LACKING = "The code of the correct list. The list that runs here lacks one of its checks.";
 
@@ -7977,7 +7853,82 @@ function listenToBench() {
   byId("turns").onclick = ({ target }) => target.dataset.event && goByHand(Number(target.dataset.event));
   for (const name of ["table-box", "listing-box", "threads-box", "turns-box"]) byId(name).ontoggle = show;
 }
-return { showRun, showBar, listenToBench };
+
+
+const FIRST = { example: "marked-in-chain", event: 20 };
+
+function seedForm(id, verb) {
+  const options = Object.entries(LISTS).map(([kind, { name }]) => tag("option", { value: kind }, name));
+  const number = `<input id="${id}-number" type="number" min="1" max="999999999" placeholder="any">`;
+  const parts = [
+    tag("label", {}, "list ", tag("select", { id: `${id}-list` }, ...options)),
+    tag("label", {}, "number ", number),
+    tag("button", { id: `${id}-go`, class: "primary" }, verb),
+  ];
+  return tag("div", { class: "start-row" }, ...parts);
+}
+
+function listenToSeedForm(id, more) {
+  byId(`${id}-go`).onclick = () => {
+    const kind = byId(`${id}-list`).value;
+    const number = Number(byId(`${id}-number`).value);
+    location.hash = `#seed=${number > 0 ? seedOf(kind, number) : anotherSeed(now.task.kind === "seed" ? now.task.id : null, kind)}${more}`;
+  };
+}
+
+function openSeed(seed, count) {
+  const text = scheduleOfSeed(askNow, seed);
+  openTask({ kind: "seed", id: seed, work: works.newName(`run ${partsOfSeed(seed).number}`) }, text, count);
+}
+
+function taskOfWatch() {
+  const more = isJudging() ? "&judge" : "";
+  if (now.task.kind === "seed") drawSeedBox(now.task.id, more);
+  const names = examples().map(({ name }) => name);
+  const at = now.task.kind === "example" ? names.indexOf(now.task.id) : -1;
+  const to = (index) => (at >= 0 && names[index] !== undefined ? `#example=${names[index]}${more}` : null);
+  return { before: to(at - 1), all: more === "" ? ["#ask", "All questions"] : ["#judge", "All runs"], next: to(at + 1) };
+}
+
+function drawSeedBox(seed, more) {
+  const { kind, number } = partsOfSeed(seed);
+  byId("seed-number").textContent = number;
+  if (document.activeElement !== byId("seed-input")) byId("seed-input").value = number;
+  byId("seed-another").href = `#seed=${anotherSeed(seed, kind)}${more}`;
+  byId("seed-judge").href = `#seed=${seed}&judge`;
+  byId("seed-judge").hidden = more !== "";
+  byId("seed-open").onclick = () => {
+    const wanted = Number(byId("seed-input").value);
+    if (wanted > 0) location.hash = `#seed=${seedOf(kind, wanted)}${more}`;
+  };
+}
+
+
+function showHome() {
+  const homework = now.place.view === null ? homeworkOf(now.place, now.task) : null;
+  byId("home").hidden = homework === null;
+  if (homework === null) return;
+  byId("home").textContent = `← Back to ${titleOfAssignment(homework)}`;
+  byId("home").href = addressOfAssignment(homework);
+}
+
+function aimGoOn() {
+  const { trace, count } = now.run;
+  byId("go-on-here").hash = addressOfCode(trace.kind, trace.opening, linesOf(scheduleOfTrace(trace, count)), trace);
+}
+
+function showPlace() {
+  document.title = titleIn(now, titleOfScene);
+  showHome();
+  if (now.place.screen !== "stage") return;
+  const links = taskOfWatch();
+  for (const name of ["before", "next"]) {
+    byId(`task-${name}`).hidden = links[name] === null;
+    if (links[name] !== null) byId(`task-${name}`).href = links[name];
+  }
+  [byId("task-all").hash, byId("task-all").textContent] = links.all;
+}
+return { showRun, showBar, listenToBench, FIRST, seedForm, listenToSeedForm, openSeed, showPlace };
 })();
 
 // story/learning.js
@@ -8082,7 +8033,7 @@ const $draw_judged = (() => {
 const { lastMoment, nameOfCall } = $run_judged;
 const { callText, chipOf, colourOf, escaped, label, letterOf, tag, title } = $run_markup;
 const { recordedInWords } = $run_recorded;
-const { placeLabels, ROW_HEIGHT, signOf, widthOf } = $draw_labels;
+const { placeLabels, ROW_HEIGHT, signOf, widthOf } = $draw_history;
 const JUDGE_LEFT = 50;
 const JUDGE_RIGHT = 20;
 const JUDGE_BAR = 30;
@@ -8898,7 +8849,7 @@ const { learning } = $story_learning;
 const { foot, head, LIST_WORDS, part } = $story_scene;
 const { JUDGED } = $activities_judging;
 const { drawRecordedBox, listenToRecorded } = $activities_recorded;
-const { listenToSeedForm, seedForm } = $activities_watch;
+const { listenToSeedForm, seedForm } = $activities_bench;
 const SIGNS = { right: ["✓", "guessed right"], wrong: ["seen", "seen"], done: ["✓", "done"] };
 
 function drawCard({ href, list, title, says = "", state = "" }) {
@@ -9417,15 +9368,95 @@ const compareView = {
 return { compareView };
 })();
 
-// page/menu.js
-const $page_menu = (() => {
+// page/controls.js
+const $page_controls = (() => {
 const { CLASSICS } = $made_classics;
 const { inLetters, tag } = $run_markup;
 const { eventsAsked } = $run_schedule_text;
 const { byId, redraw } = $page_dom;
-const { examples, openExample, openKept, openWork } = $page_work;
-const { works } = $page_kept;
-const { exampleShown, held, isJudging, now } = $page_now;
+const { openFile, refreshReport, savePicture, saveText } = $page_files;
+const { keepUnder, keptUnder, works } = $page_kept;
+const { cancelLong } = $page_long_run;
+const { change, dispatch, exampleShown, held, isJudging, now } = $page_now;
+const { changeSpeed, goByHand, toggleKeys, toggleLecture, togglePlay, wantsLessMotion } = $page_play;
+const { copyLink, keepSoon } = $page_visit;
+const { examples, newSchedule, openExample, openKept, openWork, runBox, runWithOpening, showMarks, watchEditor } = $page_work;
+function stopUnable(event) {
+  if (event.target.closest?.('[aria-disabled="true"]') == null) return;
+  event.stopPropagation();
+  event.preventDefault();
+}
+
+function skipToRun() {
+  const first = { stage: "#next", scene: "#scene :is(.option, .fig button, .card, #sides-turns button, .foot .primary)" };
+  document.querySelector(first[now.place.screen])?.focus();
+}
+
+function listenToBar() {
+  byId("back").onclick = () => goByHand(now.run.count - 1);
+  byId("next").onclick = () => goByHand(now.run.count + 1);
+  byId("play").onclick = togglePlay;
+  byId("speed").onchange = changeSpeed;
+  byId("speed").value = wantsLessMotion() ? "slow" : "medium";
+  byId("slider").oninput = () => goByHand(Number(byId("slider").value));
+  byId("all-threads").onclick = () => dispatch("prefs", { allThreads: !now.prefs.allThreads });
+  byId("keys").onclick = toggleKeys;
+  byId("skip").onclick = skipToRun;
+  for (const name of ["lecture", "leave"]) byId(name).onclick = toggleLecture;
+  byId("link-here").onclick = copyLink;
+  byId("long-cancel").onclick = cancelLong;
+}
+
+function listenToSettings() {
+  const kept = keptUnder(SETTINGS) ?? {};
+  change("prefs", { hides: kept.hides !== false, letters: kept.letters !== false });
+  byId("hides").checked = now.prefs.hides;
+  byId("single-keys").checked = now.prefs.letters;
+  for (const [name, id] of [["hides", "hides"], ["letters", "single-keys"]]) {
+    byId(id).onchange = () => {
+      dispatch("prefs", { [name]: byId(id).checked });
+      keepUnder(SETTINGS, { hides: now.prefs.hides, letters: now.prefs.letters });
+    };
+  }
+}
+const SETTINGS = "listset-settings";
+
+function listenToWork() {
+  const box = byId("schedule");
+  byId("examples").onchange = () => chooseInList(byId("examples").value);
+  byId("run").onclick = runBox;
+  byId("opening").onchange = runWithOpening;
+  byId("link").onclick = copyLink;
+  byId("new").onclick = () => newSchedule(byId("new-list").value, byId("new-threads").value, byId("new-quota").value);
+  box.onscroll = showMarks;
+  watchEditor();
+  box.oninput = () => {
+    showMarks();
+    keepSoon();
+  };
+  box.onkeydown = (event) => {
+    if (event.key === "Enter" && (event.ctrlKey || event.metaKey)) runBox();
+  };
+}
+
+function listenToFiles() {
+  byId("report-box").ontoggle = refreshReport;
+  byId("file").onchange = () => openFile(byId("file").files[0]).then(() => (byId("file").value = ""));
+  byId("save-schedule").onclick = () => saveText("page.schedule", byId("schedule").value);
+  byId("save-trace").onclick = () => saveText("page.trace", now.run.trace.text);
+  byId("save-picture").onclick = savePicture;
+}
+
+function placeParts() {
+  const narrow = matchMedia("(max-width: 940px)");
+  const place = () => {
+    for (const name of ["schedule-box", "new-box", "files-box", "threads-box"]) byId(name).open = !narrow.matches;
+  };
+  narrow.addEventListener("change", place);
+  place();
+}
+
+
 const WORK = "work: ";
 
 function fillWorks() {
@@ -9469,7 +9500,7 @@ function showQuestion() {
   const here = (event) => (event === now.run.count ? { "aria-current": "true" } : {});
   redraw(byId("turns"), turns.map((event) => tag("button", { "data-event": event, ...here(event) }, event)).join(" "));
 }
-return { fillWorks, fillExamples, chooseInList, pickExample, showQuestion };
+return { stopUnable, listenToBar, listenToSettings, listenToWork, listenToFiles, placeParts, fillWorks, fillExamples, pickExample, showQuestion };
 })();
 
 // activities/open.js
@@ -9479,13 +9510,12 @@ const { numberOfLevel } = $data_levels;
 const { byId } = $page_dom;
 const { isExample, openKept, openTask, openWork, ownTask, showMarks } = $page_work;
 const { HERE, isText, keepWork, keptUnder, works } = $page_kept;
-const { fillWorks, pickExample } = $page_menu;
+const { fillWorks, pickExample } = $page_controls;
 const { exampleShown, goTo, held, now, tell } = $page_now;
 const { setView } = $page_seen;
 const { stopPlay } = $page_play;
 const { entryOf } = $page_state;
-const { keepSoon, visit } = $page_visit;
-const { sceneOfHash } = $page_scene_address;
+const { keepSoon, sceneOfHash, visit } = $page_visit;
 const { AddressFault, readAddress } = $run_address;
 const { escaped } = $run_markup;
 const { learning } = $story_learning;
@@ -9494,7 +9524,7 @@ const { faultOfScene, openScene } = $story_scene;
 const { showCourseText, takeCourseOfAddress } = $activities_courses;
 const { beginJudging } = $activities_judging;
 const { showRecorded } = $activities_recorded;
-const { FIRST, openSeed } = $activities_watch;
+const { FIRST, openSeed } = $activities_bench;
 const WANTS_ENGINE = { learn: "a lesson", judge: "runs to judge", break: "a broken list", compare: "two lists side by side" };
 
 function needEngine(what) {
@@ -9638,94 +9668,6 @@ function bringBack() {
   showMarks();
 }
 return { openRecorded, openCourseFile, followAddress, showBeforehand, openFirst };
-})();
-
-// page/controls.js
-const $page_controls = (() => {
-const { byId } = $page_dom;
-const { newSchedule, runBox, runWithOpening, showMarks, watchEditor } = $page_work;
-const { openFile, refreshReport, savePicture, saveText } = $page_files;
-const { keepUnder, keptUnder } = $page_kept;
-const { changeSpeed, goByHand, toggleKeys, toggleLecture, togglePlay, wantsLessMotion } = $page_play;
-const { cancelLong } = $page_long_run;
-const { chooseInList } = $page_menu;
-const { change, dispatch, now } = $page_now;
-const { copyLink, keepSoon } = $page_visit;
-function stopUnable(event) {
-  if (event.target.closest?.('[aria-disabled="true"]') == null) return;
-  event.stopPropagation();
-  event.preventDefault();
-}
-
-function skipToRun() {
-  const first = { stage: "#next", scene: "#scene :is(.option, .fig button, .card, #sides-turns button, .foot .primary)" };
-  document.querySelector(first[now.place.screen])?.focus();
-}
-
-function listenToBar() {
-  byId("back").onclick = () => goByHand(now.run.count - 1);
-  byId("next").onclick = () => goByHand(now.run.count + 1);
-  byId("play").onclick = togglePlay;
-  byId("speed").onchange = changeSpeed;
-  byId("speed").value = wantsLessMotion() ? "slow" : "medium";
-  byId("slider").oninput = () => goByHand(Number(byId("slider").value));
-  byId("all-threads").onclick = () => dispatch("prefs", { allThreads: !now.prefs.allThreads });
-  byId("keys").onclick = toggleKeys;
-  byId("skip").onclick = skipToRun;
-  for (const name of ["lecture", "leave"]) byId(name).onclick = toggleLecture;
-  byId("link-here").onclick = copyLink;
-  byId("long-cancel").onclick = cancelLong;
-}
-
-function listenToSettings() {
-  const kept = keptUnder(SETTINGS) ?? {};
-  change("prefs", { hides: kept.hides !== false, letters: kept.letters !== false });
-  byId("hides").checked = now.prefs.hides;
-  byId("single-keys").checked = now.prefs.letters;
-  for (const [name, id] of [["hides", "hides"], ["letters", "single-keys"]]) {
-    byId(id).onchange = () => {
-      dispatch("prefs", { [name]: byId(id).checked });
-      keepUnder(SETTINGS, { hides: now.prefs.hides, letters: now.prefs.letters });
-    };
-  }
-}
-const SETTINGS = "listset-settings";
-
-function listenToWork() {
-  const box = byId("schedule");
-  byId("examples").onchange = () => chooseInList(byId("examples").value);
-  byId("run").onclick = runBox;
-  byId("opening").onchange = runWithOpening;
-  byId("link").onclick = copyLink;
-  byId("new").onclick = () => newSchedule(byId("new-list").value, byId("new-threads").value, byId("new-quota").value);
-  box.onscroll = showMarks;
-  watchEditor();
-  box.oninput = () => {
-    showMarks();
-    keepSoon();
-  };
-  box.onkeydown = (event) => {
-    if (event.key === "Enter" && (event.ctrlKey || event.metaKey)) runBox();
-  };
-}
-
-function listenToFiles() {
-  byId("report-box").ontoggle = refreshReport;
-  byId("file").onchange = () => openFile(byId("file").files[0]).then(() => (byId("file").value = ""));
-  byId("save-schedule").onclick = () => saveText("page.schedule", byId("schedule").value);
-  byId("save-trace").onclick = () => saveText("page.trace", now.run.trace.text);
-  byId("save-picture").onclick = savePicture;
-}
-
-function placeParts() {
-  const narrow = matchMedia("(max-width: 940px)");
-  const place = () => {
-    for (const name of ["schedule-box", "new-box", "files-box", "threads-box"]) byId(name).open = !narrow.matches;
-  };
-  narrow.addEventListener("change", place);
-  place();
-}
-return { stopUnable, listenToBar, listenToSettings, listenToWork, listenToFiles, placeParts };
 })();
 
 // story/ask_view.js
@@ -9994,8 +9936,7 @@ return { breakView };
 const $story_code_view = (() => {
 const { LISTS } = $made_rows;
 const { now } = $page_now;
-const { addressOfCode, linesOfCode, SET_OF_CODE, START_OF_CODE } = $page_scene_address;
-const { linkTo } = $page_visit;
+const { addressOfCode, linesOfCode, linkTo, SET_OF_CODE, START_OF_CODE } = $page_visit;
 const { tag } = $run_markup;
 const { copyText, head, LIST_WORDS, part, pressThread, scene, setScene, takeFreeFigure } = $story_scene;
 const listOf = ({ id }) => (id in LISTS ? id : "lazy");
@@ -10853,7 +10794,7 @@ const { LACKING } = $made_classics;
 const { LISTS } = $made_rows;
 const { BREAK_LEVELS } = $data_levels;
 const { escaped, tag } = $run_markup;
-const { seedOf } = $run_seed;
+const { seedOf } = $run_address;
 const { linkTo } = $page_visit;
 const { QUESTIONS } = $story_ask;
 const { addressOfTasks, allLevels, bookCourse } = $story_assignment;
@@ -11044,26 +10985,24 @@ return { OWN_COURSE, teachView };
 
 // main.js
 const $main = (() => {
-const { listenToBench, showBar, showRun } = $activities_bench;
+const { listenToBench, showBar, showPlace, showRun } = $activities_bench;
 const { listenToCourses, listenToHandIn } = $activities_courses;
 const { compareView } = $activities_compare;
 const { drawJudging, listenToJudging } = $activities_judging;
 const { MAPS } = $activities_maps;
 const { followAddress, openCourseFile, openFirst, openRecorded, showBeforehand } = $activities_open;
-const { showPlace } = $activities_watch;
 const { Engine } = $engine_engine;
-const { listenToBar, listenToFiles, listenToSettings, listenToWork, placeParts, stopUnable } = $page_controls;
+const { fillExamples, fillWorks, listenToBar, listenToFiles, listenToSettings, listenToWork, placeParts, showQuestion, stopUnable } = $page_controls;
 const { byId } = $page_dom;
 const { showHeader, showMarks } = $page_work;
 const { refreshReport } = $page_files;
 const { keysOf, pressKey } = $page_play;
-const { fillExamples, fillWorks, showQuestion } = $page_menu;
 const { held, now, on, show, takeTrace } = $page_now;
 const { services, showParts } = $page_seen;
 const { keepNow, keepSoon } = $page_visit;
 const { Trace } = $run_trace;
 const { askView } = $story_ask_view;
-const { assignmentView } = $story_assignment_view;
+const { assignmentView } = $story_assignment;
 const { breakView } = $story_break_view;
 const { codeView } = $story_code_view;
 const { learnView } = $story_learn_view;
@@ -11151,5 +11090,5 @@ if (typeof document !== "undefined") startPage(); // in node there is none
 return {  };
 })();
 
-return Object.assign({}, $made_rows, $run_markup, $run_trace, $run_state, $draw_labels, $draw_history, $draw_contents, $made_code, $draw_listing, $draw_tables, $page_dom, $made_traces, $engine_answers, $made_classics, $run_judged, $run_schedule_text, $run_broken, $made_book, $page_state, $page_now, $page_kept, $engine_engine, $engine_worker, $page_long_run, $page_seen, $page_play, $page_work, $run_outcomes, $run_sentences, $story_tale, $story_live_run, $draw_glide, $draw_places, $draw_arrows, $draw_list, $data_book_code, $story_code, $story_dock, $story_figure_parts, $story_figure, $story_still_figure, $run_address, $run_seed, $data_levels, $page_scene_address, $run_moments, $course_goal_words, $course_course_text, $course_lesson, $story_kept, $story_assignment, $course_hand_in, $run_check_trace, $run_recorded, $page_files, $page_visit, $story_scene, $story_assignment_view, $activities_watch, $activities_bench, $story_learning, $draw_judged, $activities_judging, $story_ask, $story_ask_more, $story_ask_branches, $activities_recorded, $activities_maps, $activities_courses, $run_sides, $activities_compare, $page_menu, $activities_open, $page_controls, $story_ask_view, $story_break_view, $story_code_view, $story_learn_view, $story_path, $story_path_parts, $story_path_view, $story_handins, $story_handins_view, $story_teach_view);
+return Object.assign({}, $made_rows, $made_classics, $run_trace, $run_schedule_text, $run_address, $run_markup, $run_state, $run_outcomes, $run_sentences, $draw_history, $draw_contents, $made_code, $draw_listing, $draw_tables, $page_dom, $made_book, $engine_answers, $run_judged, $page_state, $page_now, $page_kept, $page_seen, $page_play, $data_levels, $run_broken, $page_visit, $made_traces, $engine_engine, $page_long_run, $page_work, $course_goal_words, $course_course_text, $course_lesson, $course_hand_in, $run_check_trace, $run_recorded, $page_files, $story_kept, $draw_glide, $draw_places, $draw_arrows, $draw_list, $story_code, $story_tale, $story_dock, $story_figure_parts, $story_live_run, $story_figure, $story_scene, $story_assignment, $story_still_figure, $activities_bench, $story_learning, $draw_judged, $activities_judging, $story_ask, $story_ask_more, $story_ask_branches, $activities_recorded, $activities_maps, $activities_courses, $run_sides, $activities_compare, $page_controls, $activities_open, $story_ask_view, $story_break_view, $story_code_view, $story_learn_view, $story_path, $story_path_parts, $story_path_view, $story_handins, $story_handins_view, $story_teach_view);
 })();

@@ -1,24 +1,22 @@
 // The page: its parts are put together, and it starts.
-import { listenToBench, showBar, showRun } from "./activities/bench.js";
+import { listenToBench, showBar, showPlace, showRun } from "./activities/bench.js";
 import { listenToCourses, listenToHandIn } from "./activities/courses.js";
 import { compareView } from "./activities/compare.js";
 import { drawJudging, listenToJudging } from "./activities/judging.js";
 import { MAPS } from "./activities/maps.js";
 import { followAddress, openCourseFile, openFirst, openRecorded, showBeforehand } from "./activities/open.js";
-import { showPlace } from "./activities/watch.js";
 import { Engine } from "./engine/engine.js";
-import { listenToBar, listenToFiles, listenToSettings, listenToWork, placeParts, stopUnable } from "./page/controls.js";
+import { fillExamples, fillWorks, listenToBar, listenToFiles, listenToSettings, listenToWork, placeParts, showQuestion, stopUnable } from "./page/controls.js";
 import { byId } from "./page/dom.js";
 import { showHeader, showMarks } from "./page/work.js";
 import { refreshReport } from "./page/files.js";
 import { keysOf, pressKey } from "./page/play.js";
-import { fillExamples, fillWorks, showQuestion } from "./page/menu.js";
 import { held, now, on, show, takeTrace } from "./page/now.js";
 import { services, showParts } from "./page/seen.js";
 import { keepNow, keepSoon } from "./page/visit.js";
 import { Trace } from "./run/trace.js";
 import { askView } from "./story/ask_view.js";
-import { assignmentView } from "./story/assignment_view.js";
+import { assignmentView } from "./story/assignment.js";
 import { breakView } from "./story/break_view.js";
 import { codeView } from "./story/code_view.js";
 import { learnView } from "./story/learn_view.js";

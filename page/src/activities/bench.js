@@ -1,19 +1,24 @@
 // The bench: the run in a figure at the event that is shown, the bar that moves it, and below, while they are unfolded, the threads'
 // registers, the step table and the proved code.
 import { LISTS } from "../../made/rows.js";
+import { anotherSeed, partsOfSeed, scheduleOfSeed, seedOf } from "../run/address.js";
+import { escaped, tag } from "../run/markup.js";
+import { scheduleOfTrace } from "../run/schedule_text.js";
+import { momentAt, sentenceOf } from "../run/sentences.js";
 import { drawOrder } from "../draw/contents.js";
 import { HISTORY_LEFT } from "../draw/history.js";
 import { drawListing } from "../draw/listing.js";
 import { drawTable, drawThreads, MOST_ROWS } from "../draw/tables.js";
 import { byId, setAble, setHtml } from "../page/dom.js";
-import { scrollToLine } from "../page/work.js";
-import { hiddenOutcomes, isJudging, now, show, tell } from "../page/now.js";
+import { works } from "../page/kept.js";
+import { askNow, hiddenOutcomes, isJudging, now, show, tell } from "../page/now.js";
 import { goByHand, isPlaying } from "../page/play.js";
-import { escaped } from "../run/markup.js";
-import { momentAt, sentenceOf } from "../run/sentences.js";
-import { ShownRun } from "../story/live_run.js";
+import { addressOfAssignment, addressOfCode, titleIn } from "../page/visit.js";
+import { examples, openTask, scrollToLine } from "../page/work.js";
+import { homeworkOf, titleOfAssignment } from "../story/assignment.js";
+import { linesOf, ShownRun } from "../story/live_run.js";
+import { titleOfScene } from "../story/scene.js";
 import { StillFigure } from "../story/still_figure.js";
-import { aimGoOn } from "./watch.js";
 
 const bench = { key: "", figure: null };
 const LACKING = "The code of the correct list. The list that runs here lacks one of its checks.";
@@ -49,7 +54,6 @@ export function showRun() {
   scrollToLine(moment.event);
 }
 
-// The names, and the bar below the picture.
 export function showBar() {
   const { trace, count, source } = now.run;
   const { total } = trace;
@@ -77,7 +81,6 @@ function showTable(moment) {
   if (byId("table-box").open) byId("table").innerHTML = drawTable(moment);
 }
 
-// The code of the open calls, scrolled to the line of the thread that has moved.
 function showListing(moment) {
   if (!byId("listing-box").open) return;
   const box = byId("listing");
@@ -104,4 +107,84 @@ export function listenToBench() {
   byId("go-on-here").onpointerdown = byId("go-on-here").onclick = aimGoOn;
   byId("turns").onclick = ({ target }) => target.dataset.event && goByHand(Number(target.dataset.event));
   for (const name of ["table-box", "listing-box", "threads-box", "turns-box"]) byId(name).ontoggle = show;
+}
+
+// ---- The bench: a run step by step, of an example or of a number, with its question above it.
+
+// The example that is shown without an engine, at the event before its question.
+export const FIRST = { example: "marked-in-chain", event: 20 };
+
+export function seedForm(id, verb) {
+  const options = Object.entries(LISTS).map(([kind, { name }]) => tag("option", { value: kind }, name));
+  const number = `<input id="${id}-number" type="number" min="1" max="999999999" placeholder="any">`;
+  const parts = [
+    tag("label", {}, "list ", tag("select", { id: `${id}-list` }, ...options)),
+    tag("label", {}, "number ", number),
+    tag("button", { id: `${id}-go`, class: "primary" }, verb),
+  ];
+  return tag("div", { class: "start-row" }, ...parts);
+}
+
+export function listenToSeedForm(id, more) {
+  byId(`${id}-go`).onclick = () => {
+    const kind = byId(`${id}-list`).value;
+    const number = Number(byId(`${id}-number`).value);
+    location.hash = `#seed=${number > 0 ? seedOf(kind, number) : anotherSeed(now.task.kind === "seed" ? now.task.id : null, kind)}${more}`;
+  };
+}
+
+export function openSeed(seed, count) {
+  const text = scheduleOfSeed(askNow, seed);
+  openTask({ kind: "seed", id: seed, work: works.newName(`run ${partsOfSeed(seed).number}`) }, text, count);
+}
+
+function taskOfWatch() {
+  const more = isJudging() ? "&judge" : "";
+  if (now.task.kind === "seed") drawSeedBox(now.task.id, more);
+  const names = examples().map(({ name }) => name);
+  const at = now.task.kind === "example" ? names.indexOf(now.task.id) : -1;
+  const to = (index) => (at >= 0 && names[index] !== undefined ? `#example=${names[index]}${more}` : null);
+  return { before: to(at - 1), all: more === "" ? ["#ask", "All questions"] : ["#judge", "All runs"], next: to(at + 1) };
+}
+
+function drawSeedBox(seed, more) {
+  const { kind, number } = partsOfSeed(seed);
+  byId("seed-number").textContent = number;
+  if (document.activeElement !== byId("seed-input")) byId("seed-input").value = number;
+  byId("seed-another").href = `#seed=${anotherSeed(seed, kind)}${more}`;
+  byId("seed-judge").href = `#seed=${seed}&judge`;
+  byId("seed-judge").hidden = more !== "";
+  byId("seed-open").onclick = () => {
+    const wanted = Number(byId("seed-input").value);
+    if (wanted > 0) location.hash = `#seed=${seedOf(kind, wanted)}${more}`;
+  };
+}
+
+// ---- What stands above the stage: the links to what is before and after the task, and the title of the window.
+
+// A task of the assignment that was opened last leads back to it.
+function showHome() {
+  const homework = now.place.view === null ? homeworkOf(now.place, now.task) : null;
+  byId("home").hidden = homework === null;
+  if (homework === null) return;
+  byId("home").textContent = `← Back to ${titleOfAssignment(homework)}`;
+  byId("home").href = addressOfAssignment(homework);
+}
+
+// The link that goes on from the event that is shown has its address when it is pressed: a long run has a long one.
+function aimGoOn() {
+  const { trace, count } = now.run;
+  byId("go-on-here").hash = addressOfCode(trace.kind, trace.opening, linesOf(scheduleOfTrace(trace, count)), trace);
+}
+
+export function showPlace() {
+  document.title = titleIn(now, titleOfScene);
+  showHome();
+  if (now.place.screen !== "stage") return;
+  const links = taskOfWatch();
+  for (const name of ["before", "next"]) {
+    byId(`task-${name}`).hidden = links[name] === null;
+    if (links[name] !== null) byId(`task-${name}`).href = links[name];
+  }
+  [byId("task-all").hash, byId("task-all").textContent] = links.all;
 }

@@ -59,7 +59,6 @@ function begin({ given }) {
   beginSides(turns.split(".").filter((thread) => thread !== "").map(Number));
 }
 
-// Begins at the first turn, with the program that stands there.
 function beginSides(turns = []) {
   try {
     const program = readProgram(sidesPart("program").value);
@@ -134,7 +133,6 @@ function drawSide(side, figure) {
   if (hasWaited) figure.tell(`${chipOf(turns[at - 1])} has ended its call here, and waits for the other list.`);
 }
 
-// The address of what is shown, from # on.
 function addressOfSides() {
   const { sides, quota, opening } = shown;
   const calls = sides.program.flatMap((own, thread) => own.map((call) => `${thread}.${call.replace(" ", ".")}`));

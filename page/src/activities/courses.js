@@ -30,7 +30,6 @@ function takeCourseText(text) {
   return faults.length === 0;
 }
 
-// Takes the course that an address has.
 export async function takeCourseOfAddress(letters) {
   if (held.engine === null) throw new AddressFault("the address names a course of lessons, which cannot be run here");
   const text = await courseOfAddress(letters);
@@ -41,7 +40,6 @@ export async function takeCourseOfAddress(letters) {
   }
 }
 
-// A course that was opened as a file: it is taken, or its faults are told beside its text.
 export function showCourseText(text) {
   lessonPart("course-text").value = text;
   lessonPart("write").open = true;
@@ -87,7 +85,6 @@ export function listenToCourses() {
 
 // ---- what is handed in
 
-// The text with all solutions is shown, and copied where the browser does that.
 async function handIn() {
   const { panel } = learning;
   const lessons = panel.course.lessons.filter(({ name }) => panel.isSolved(name));

@@ -14,11 +14,10 @@ import { learning } from "../story/learning.js";
 import { foot, head, LIST_WORDS, part } from "../story/scene.js";
 import { JUDGED } from "./judging.js";
 import { drawRecordedBox, listenToRecorded } from "./recorded.js";
-import { listenToSeedForm, seedForm } from "./watch.js";
+import { listenToSeedForm, seedForm } from "./bench.js";
 
 const SIGNS = { right: ["✓", "guessed right"], wrong: ["seen", "seen"], done: ["✓", "done"] };
 
-// A card: its address, the list, a title, a line below that, and what of SIGNS it is, if anything.
 function drawCard({ href, list, title, says = "", state = "" }) {
   const [sign, words] = SIGNS[state] ?? ["", ""];
   const shown = sign === "" ? "" : tag("i", { class: "sign", "aria-label": words }, sign);
@@ -87,7 +86,6 @@ function beginLearn() {
 }
 const endLearn = () => byId("courses").append(byId("lesson-folds"));
 
-// The map anew, of another course.
 export function drawLearnMap() {
   if (part("#learn-folds") === null) return;
   endLearn();

@@ -4,13 +4,12 @@ import { numberOfLevel } from "../data/levels.js";
 import { byId } from "../page/dom.js";
 import { isExample, openKept, openTask, openWork, ownTask, showMarks } from "../page/work.js";
 import { HERE, isText, keepWork, keptUnder, works } from "../page/kept.js";
-import { fillWorks, pickExample } from "../page/menu.js";
+import { fillWorks, pickExample } from "../page/controls.js";
 import { exampleShown, goTo, held, now, tell } from "../page/now.js";
 import { setView } from "../page/seen.js";
 import { stopPlay } from "../page/play.js";
 import { entryOf } from "../page/state.js";
-import { keepSoon, visit } from "../page/visit.js";
-import { sceneOfHash } from "../page/scene_address.js";
+import { keepSoon, sceneOfHash, visit } from "../page/visit.js";
 import { AddressFault, readAddress } from "../run/address.js";
 import { escaped } from "../run/markup.js";
 import { learning } from "../story/learning.js";
@@ -19,7 +18,7 @@ import { faultOfScene, openScene } from "../story/scene.js";
 import { showCourseText, takeCourseOfAddress } from "./courses.js";
 import { beginJudging } from "./judging.js";
 import { showRecorded } from "./recorded.js";
-import { FIRST, openSeed } from "./watch.js";
+import { FIRST, openSeed } from "./bench.js";
 
 const WANTS_ENGINE = { learn: "a lesson", judge: "runs to judge", break: "a broken list", compare: "two lists side by side" };
 
@@ -86,7 +85,6 @@ function openLink({ text, event, lacks, view = null }) {
   openTask(ownTask("from a link"), text, event, `${told}${others}.`);
 }
 
-// Opens what an address names: false, with a line, if it names nothing that there is.
 async function openAddress(hash) {
   try {
     const place = sceneOfHash(hash);
@@ -109,7 +107,6 @@ async function openAddress(hash) {
   }
 }
 
-// Recorded calls, or a course, that were opened as a file stand at their activity.
 export function openRecorded(text) {
   openStory({ activity: "judge" });
   showRecorded(text);
@@ -143,13 +140,11 @@ export function showBeforehand() {
   return true;
 }
 
-// A first visit: the path; without an engine an example, from its trace.
 function firstVisit() {
   if (held.engine === null) pickExample(FIRST.example, FIRST.event);
   else openStory({ activity: "story", id: "1" });
 }
 
-// What the address names; else where the reader was; else the beginning.
 export async function openFirst() {
   fillWorks();
   const isNamed = location.hash !== "" && (await openAddress(location.hash));
@@ -165,7 +160,6 @@ export async function openFirst() {
 // Where the reader was; a screen of the path welcomes who comes back to it.
 const addressBack = () => addressKept().replace(/^#story=(?!1$)\d+$/, "$&&back=yes");
 
-// What stood in the box of this work, and was not run.
 function bringBack() {
   const kept = works.byName.get(now.task.work);
   if (kept === undefined || kept.text !== now.run.text || kept.box === kept.text) return;

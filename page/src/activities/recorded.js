@@ -43,7 +43,6 @@ async function judgeCalls() {
   if (withNewline(recordedPart("text").value) === text) showVerdict(verdictOnCalls(askNow, said, text));
 }
 
-// Shows a text in the box, and what the judge says of it.
 export function showRecorded(text) {
   recordedPart("box").open = true;
   recordedPart("text").value = text;

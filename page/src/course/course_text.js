@@ -33,7 +33,6 @@ function withoutIndent(text) {
   return lines.map((line, index) => (index === first ? line.trimStart() : line.slice(Math.min(most, line.search(/\S|$/)))));
 }
 
-// The lines of a course, one after another: its name, the parts of each lesson by their words, and the faults.
 class CourseReader {
   constructor(text) {
     this.faults = [];
@@ -161,7 +160,6 @@ export async function courseAddress(text) {
   return address.length <= LONGEST_ADDRESS ? address : null;
 }
 
-// The text of a course that an address has.
 export async function courseOfAddress(letters) {
   try {
     const bytes = Uint8Array.from(atob(letters.replaceAll("-", "+").replaceAll("_", "/")), (letter) => letter.charCodeAt(0));

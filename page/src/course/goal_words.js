@@ -1,7 +1,8 @@
 // The goals of lessons, in words. A goal is a list of lines, each of which finds something in the run (a call, a step, a time in
 // which a thread rests) and gives it a name, or asks for a number of such things, or for more of one that has a name. A line
 // `say ..` is a condition as the student reads it: it is met where all lines above it can be met at once. book.course has a list.
-import { isFailedStep, isFailedTry, isInChain, isMarkSeen, isReadOfLink, isWithin, locksOf, nodeOf } from "../run/moments.js";
+import { isFailed, isLock, ownerIn } from "../run/outcomes.js";
+import { State } from "../run/state.js";
 
 export class GoalFault extends Error {
   constructor(line, fault) {
@@ -58,7 +59,6 @@ const NAMED = { "begins after": "call", "takes effect after": "call", "ends duri
 const GOAL_FORMS = '"call C of 0: ..", "step S in C: ..", "rest R of 0", "3 steps of 1: ..", "all calls ended", "say .."';
 const GOAL_LINE = /^(?:(call|step|rest) ([A-Z]\w*)|(\d+) (call|step)s?)(?: (of|in) (\w+))?(?:: (.+))?$/;
 
-// One line of a goal, in the light of the names that stand above it.
 function readGoalLine(text, number, names) {
   const fail = (fault) => {
     throw new GoalFault(number, fault);
@@ -82,7 +82,6 @@ function readGoalLine(text, number, names) {
   return { sort, name, isNew, count: count === undefined ? null : Number(count), join, whose, tests };
 }
 
-// The forms of clauses as they are told: X is a name that was given above, and N a number.
 function formOf([pattern]) {
   const bare = pattern.source.replace(/^\^|\$$/g, "").replaceAll("([A-Z]\\w*)", "X").replace(/\\d\+/g, "N");
   return bare.replace(/\(([^)]*)\)/g, "$1");
@@ -142,3 +141,68 @@ export function conditionsOf(goal, run) {
   const ends = goal.map(({ says }, index) => ({ says, index })).filter(({ says }) => says !== undefined);
   return ends.map(({ says, index }) => ({ says, isMet: canMeet(goal.slice(0, index), run) }));
 }
+
+// ---- A run as the goals of lessons look at it, moment by moment: each event, the row at which its thread stood before, and what there
+// is just after it. All of it follows from the lines of the engine's trace.
+
+export class Run {
+  constructor(trace) {
+    const state = new State(trace);
+    const keys = new Set(trace.opening);
+    this.calls = trace.calls;
+    this.moments = trace.events().map((event) => momentAfter(state, keys, event));
+  }
+
+  ofCall(call) {
+    return this.moments.filter(({ event }) => event.call === call);
+  }
+
+  lastOf(call) {
+    return this.moments[call.ended - 1];
+  }
+
+  // The stretches in which a thread makes no step: the moment of its step before, and those of the others up to its next.
+  restsOf(thread) {
+    const steps = this.moments.filter(({ event }) => event.thread === thread);
+    return steps.map((step, at) => {
+      const next = steps[at + 1]?.event.number ?? this.moments.length + 1;
+      return { step, others: this.moments.slice(step.event.number, next - 1) };
+    });
+  }
+
+  nodeOf(call) {
+    return call.changes ? nodeOf(this.moments[call.at - 1].event) : null;
+  }
+
+  // Whether a node is in the chain just before this moment, and no more just after it.
+  isTakenOut(node, { event, chain }) {
+    return this.moments[event.number - 2]?.chain.includes(node) === true && !chain.includes(node);
+  }
+}
+
+function momentAfter(state, keys, event) {
+  const row = state.threads[event.thread].pc;
+  state.moveTo(event.number);
+  if (event.put !== undefined) keys.add(event.put);
+  if (event.took !== undefined) keys.delete(event.took);
+  const thread = { ...state.threads[event.thread] };
+  const linkOfPred = state.nodes[thread.pred]?.link;
+  return { event, row, thread, linkOfPred, chain: state.chain(), locks: locksIn(state), keys: new Set(keys) };
+}
+
+function locksIn(state) {
+  const words = [state, ...Object.values(state.nodes)];
+  return words.map(({ lock }) => lock).filter((lock) => lock !== "free");
+}
+
+const locksOf = (moment, thread) => moment.locks.filter((lock) => lock === `t${thread}`).length;
+const nodeOf = (event) => ownerIn(event.word);
+const isFailedStep = ({ event }) => isFailed(event);
+const isFailedTry = (moment) => isFailedStep(moment) && isLock(moment.event.word);
+const isMarkSeen = ({ event }) => event.saw !== undefined && event.saw.endsWith("*");
+const isReadOfLink = ({ event }) => event.deed === "load" && event.word.endsWith(".link");
+const isInChain = (moment) => moment.chain.includes(nodeOf(moment.event));
+
+// Whether the call begins and ends while the thread rests.
+const isWithin = (call, { step, others }) =>
+  call.begun > step.event.number && call.ended !== null && call.ended <= step.event.number + others.length;

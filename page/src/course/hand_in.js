@@ -89,7 +89,6 @@ export function readHandIn({ lines, isEnded, number }) {
   return { course: valueOf("course"), student: valueOf("student"), solutions, faults };
 }
 
-// The schedule of a link or an address, or its fault.
 function readSchedule(link) {
   try {
     const { text } = readAddress(link.slice(link.indexOf("#")).replace(/>$/, ""));

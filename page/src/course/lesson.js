@@ -3,15 +3,13 @@
 import { readFault, sentenceOn } from "../engine/answers.js";
 import { askList, TO_BREAK, verdictOnLacking } from "../run/broken.js";
 import { eventsAsked, scheduleOfDraft, scheduleText, versionOf } from "../run/schedule_text.js";
-import { Run } from "../run/moments.js";
+import { conditionsOf, Run, TooManyWays } from "./goal_words.js";
 import { HEADER_LINES, isTrace, Trace } from "../run/trace.js";
 import { readCourse } from "./course_text.js";
-import { conditionsOf, TooManyWays } from "./goal_words.js";
 
 export const MOST_EVENTS = 1000; // of a solution
 const OTHER_SET = "The list, the number of threads, the quota and the opening keys are to be those of the lesson.";
 
-// The lines of a schedule that tell its set: list, threads, quota and opening keys.
 const setOf = (schedule) => schedule.split("\n").slice(1).filter((line) => !/^(begin|go) /.test(line)).join("\n");
 
 // The run of a schedule by the engine, or the fault for which there is none: `ask` gives what a function of the engine says of a text.
@@ -27,7 +25,6 @@ function runOfSchedule(ask, schedule, lacks) {
 
 const unjudged = (reason, fault = null) => ({ isSolved: false, reason, fault, conditions: [], deadEnd: null });
 
-// Judges a schedule of a lesson that was tried.
 export function judged(ask, lesson, schedule) {
   if (setOf(schedule) !== setOf(lesson.begun)) return unjudged(OTHER_SET);
   if (eventsAsked(schedule) > MOST_EVENTS) return unjudged(`A solution has at most ${MOST_EVENTS} events.`);
@@ -79,7 +76,6 @@ export function missingIn({ reason, conditions }) {
   return reason ?? (missing === undefined ? null : `missing: ${missing.says}`);
 }
 
-// Tries a lesson, which then has the schedules of its start and of its answer: what is wrong with it and at which line, or null.
 function troubleOf(ask, lesson) {
   const start = scheduleOfDraft(ask, scheduleText(lesson, lesson.start), lesson.lacks);
   if (start.fault !== null) return refusedLine(ask, lesson, "start", readFault(start.fault));

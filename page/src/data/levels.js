@@ -204,5 +204,4 @@ const NUMBERED = Object.keys(BREAK_LEVELS);
 export const numberOfLevel = (name) => NUMBERED.indexOf(name) + 1;
 export const levelOfNumber = (number) => NUMBERED[Number(number) - 1];
 
-// The reply to a sentence that is not what a list lacks.
 export const whyWrong = (name, sentence) => `No: ${BREAK_LEVELS[name].others[sentence]}. Look for the line that this list makes differently.`;

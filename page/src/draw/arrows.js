@@ -5,7 +5,6 @@ import { FOLD_WIDTH, LEAST_GAP, NODE_HEIGHT, TOP } from "./places.js";
 
 export const LINK_WIDTH = 24;
 
-// The arrow of a node's link.
 export function drawLink(state, name, places, event) {
   const { link, reached } = state.nodes[name];
   const target = linkTarget(link);
@@ -65,7 +64,6 @@ const ARROW = { viewBox: "0 0 10 10", refX: 9, refY: 5, markerWidth: 11, markerH
 export const drawTip = (kind) =>
   tag("marker", { id: `tip-${kind}`, class: `tip ${kind}`, ...ARROW, orient: "auto" }, tag("path", { d: "M0 0 L10 5 L0 10 z" }));
 
-// The arrow from a fold to what comes after it; the tail is never folded.
 export function drawFoldLink(item, next) {
   const y = TOP + NODE_HEIGHT / 2;
   const path = { d: `M${item.x + FOLD_WIDTH} ${y} L${next.x - 3} ${y}`, "marker-end": "url(#tip-in)" };

@@ -29,7 +29,6 @@ function glideArrow(part, before) {
   }
 }
 
-// Draws, and lets the parts glide from where they stood before, where the two drawings are of one run and one event apart.
 export function glide(box, draw, isNear) {
   const before = isNear && !wantsStill() && !document.hidden ? placesIn(box) : null;
   draw();

@@ -1,6 +1,5 @@
 // Draws the history: a bar for each call, the moment at which it takes effect, the contents of the set below, and the order.
 import { callText, colourOf, label, letterOf, tag, title } from "../run/markup.js";
-import { labelWidth, placeLabels, ROW_HEIGHT, signOf, SIGNS_IN_WORDS } from "./labels.js";
 
 export const HISTORY_LEFT = 50;
 const HISTORY_RIGHT = 16;
@@ -116,7 +115,6 @@ function drawLabel(call, scale, left, top) {
   return tag("text", { class: "call", x: place.x, y: top - 4 - ROW_HEIGHT * place.row }, callText(call), reply);
 }
 
-// Whether the point of a call is drawn.
 const isShown = (call, scale) => scale.now === Infinity || isReached(call, scale.now);
 
 // The point of a call: a disc where it changes the set, a ring where its reply fits there.
@@ -134,7 +132,6 @@ function drawPoint(call, scale) {
   );
 }
 
-// The line from a point down to the contents of the set, behind the labels.
 function drawStem(call, scale) {
   const x = scale.x(call.at);
   const state = isReached(call, scale.count) ? "reached" : "later";
@@ -163,3 +160,40 @@ export function drawCalls(trace, scale) {
   const signs = scale.areWhole ? "" : label({ class: "note", x: 2, y: height - 4 }, SIGNS_IN_WORDS);
   return tag("svg", frame, ...lanes, drawCursor(scale, height, scale.y(0) - scale.bar / 2 - 2), ...stems, ...bars, ...points, signs);
 }
+
+// ---- Where the words of calls are written above their bars: whole, in as few rows as keep them apart. The places follow from the whole run,
+// and not from the event that is shown, so that nothing jumps.
+
+const LETTER = 7.1; // pixels of a letter of a label
+const BOLD = 8; // and of one of a reply
+const BETWEEN = 8; // two labels of a row
+export const ROW_HEIGHT = 15;
+
+export const widthOf = (text, reply = "") => LETTER * text.length + (reply === "" ? 0 : LETTER + BOLD * reply.length);
+
+// Of each item, { left, right, wide } in the order of their left ends, its place { x, row }, where row 0 is next to the bar; null if
+// no row has space. A label begins at the left end of its bar, in the first row that is free there, or else ends at its right end; it
+// moves to the left if the drawing ends. `start` is the left edge of the drawing, `edge` the right one.
+export function placeLabels(items, { start, edge, mostRows }) {
+  const taken = Array.from({ length: mostRows }, () => start);
+  return items.map(({ left, right, wide }) => {
+    for (const x of [Math.min(left, edge - wide), Math.min(right, edge) - wide]) {
+      const row = taken.findIndex((end) => x >= end);
+      if (row === -1) continue;
+      taken[row] = x + wide + BETWEEN;
+      return { x, row };
+    }
+    return null;
+  });
+}
+
+// If a label has no space its call is written by signs, which a line of the drawing explains.
+const SIGNS = {
+  add: (key) => `+${key}`,
+  remove: (key) => `\u2212${key}`,
+  contains: (key) => `${key}?`,
+  ceiling: (key) => `\u2308${key}\u2309`,
+};
+const SIGNS_IN_WORDS = "+5 add, \u22125 remove, 5? contains, \u23085\u2309 ceiling of 5; more by a click on a bar";
+export const signOf = ({ operation, key }) => SIGNS[operation](key);
+const labelWidth = (call) => widthOf(callText(call), call.reply ?? "");

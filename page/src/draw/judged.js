@@ -2,7 +2,7 @@
 import { lastMoment, nameOfCall } from "../run/judged.js";
 import { callText, chipOf, colourOf, escaped, label, letterOf, tag, title } from "../run/markup.js";
 import { recordedInWords } from "../run/recorded.js";
-import { placeLabels, ROW_HEIGHT, signOf, widthOf } from "./labels.js";
+import { placeLabels, ROW_HEIGHT, signOf, widthOf } from "./history.js";
 
 const JUDGE_LEFT = 50;
 const JUDGE_RIGHT = 20;
@@ -21,7 +21,6 @@ function widthOfCall(call) {
   return Math.max(...replies.map((reply) => widthOf(callText(call), reply)));
 }
 
-// Where a moment stands, a thread's lane, and the labels of the calls.
 export function judgeScale({ last, threads, calls }, width) {
   const step = (width - JUDGE_LEFT - JUDGE_RIGHT) / last;
   const across = { step, last, x: (moment) => JUDGE_LEFT + (moment - 0.5) * step };
@@ -153,7 +152,6 @@ export function drawOwnOrder(answer) {
   return `<ol>${placed.join("")}${others.join("")}</ol>`;
 }
 
-// What a report tells of a moment of it.
 export function momentOfReport({ calls, last }, moment) {
   if (moment === 0) return `Before the first of ${last} moments.`;
   const begun = calls.find((call) => call.begun === moment);

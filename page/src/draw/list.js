@@ -46,7 +46,6 @@ function drawNode(state, name, place, event) {
   );
 }
 
-// The frame of the node that the event touches.
 const drawHot = ({ x, y, width }) =>
   tag("rect", { "data-hot": x, class: "hot", x: x - 6, y: y - 6, width: width + 12, height: NODE_HEIGHT + 12, rx: 9 });
 
@@ -56,7 +55,6 @@ function drawKey(node, x, y, isTouched) {
   return label({ class: isTouched ? "key touched" : "key", x, y, style: `font-size:${size}px` }, text);
 }
 
-// A padlock with the thread that has it.
 function drawLock(lock, x, y) {
   const thread = Number(lock.slice(1));
   return tag(
@@ -105,7 +103,6 @@ const DEFINITIONS = tag(
   ...["in", "out", "hot"].map(drawTip),
 );
 
-// The list as it is arranged, at least so high. Where several lists are drawn, each has a name for what its arrows and hatches refer to.
 export function drawList(state, event, { chain, items, places, labels, names, more, width, height: high }, least = 0, own = "") {
   const above = state.trace.kind === "coarse" ? -4 : TOP - LOCK_HEIGHT; // the list's own lock stands there
   const height = Math.max(high, least) - above;

@@ -67,13 +67,11 @@ function functionOf(code, kind, threads) {
   return tag("ol", { class: "code" }, ...items);
 }
 
-// The code of a file, and the calls that are in it.
 function fileOf(file, functions, kind, threads) {
   const calls = threads.map(({ thread, held }) => `${chipOf(thread)} ${callText(held.call)}`).join(" ");
   return tag("section", {}, tag("h3", {}, `${calls} <small>${file}</small>`), ...functions.map((code) => functionOf(code, kind, threads)));
 }
 
-// The rows of a call, as the table has them.
 function rowsOf(kind, { thread, held }) {
   const items = LISTS[kind].calls[held.call.operation].rows.map((number) => {
     const given = number === held.pc ? { class: "here", "aria-current": "step" } : {};

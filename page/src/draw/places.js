@@ -36,7 +36,6 @@ function pointersOf(state, event) {
 // A register that has the head is drawn only as `pred` of a walk that has begun: it may not have been set yet.
 export const isPointing = (held, name) => held[name] !== "head" || (name === "pred" && held.curr !== "head");
 
-// The nodes that are to be seen whatever is folded.
 function importantNodes(state, event, pointers) {
   const important = new Set(["head", "tail"]);
   if (event?.word) important.add(event.word.split(".")[0]);
@@ -142,7 +141,6 @@ function pointerLabels(pointers, places, rooms) {
   return labels;
 }
 
-// The places of all nodes that are drawn, of the registers under them, and the size of the whole.
 export function arranged(state, event, shape) {
   const chain = state.chain();
   const pointers = pointersOf(state, event);

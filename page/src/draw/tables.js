@@ -47,7 +47,6 @@ function threadRow(state, thread, event, hidesReplies) {
   return tag("tr", moved ? { class: "moved" } : {}, tag("th", { scope: "row" }, chipOf(thread)), ...cells);
 }
 
-// The table; the replies may be hidden.
 export function drawThreads(state, event, all, hidesReplies = false) {
   const { registers } = LISTS[state.trace.kind];
   const heads = ["thread", "call", "next row of the step table", ...registers, "reply", "slots used"];

@@ -46,7 +46,6 @@ export function callsOfRecording(text, most) {
 
 export const leavesKey = (text, key) => new RegExp(`^key ${key}$`, "m").test(text);
 
-// The examples in their order, each { name, kind }.
 export const readExamples = (text) =>
   linesIn(text).map((line) => {
     const [name, kind] = line.split(/ +/);

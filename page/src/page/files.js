@@ -42,7 +42,6 @@ export function comparedTrace(ask, trace) {
   return `a trace from a file; ${engines} gives another, from its event ${event} on`;
 }
 
-// Opens a file, by what its first line says that it is.
 export async function openFile(file) {
   const text = new TextDecoder().decode(new Uint8Array(await file.arrayBuffer()));
   const kind = kindOfFile(text);
@@ -79,7 +78,6 @@ async function openReportBox() {
   });
 }
 
-// Shows a report, and what `check` says of it.
 async function showReport(text, whose) {
   byId("report").textContent = text;
   byId("report-of").textContent = whose;
@@ -90,7 +88,6 @@ async function showReport(text, whose) {
   else byId("picture-box").hidden = true;
 }
 
-// The picture of a report or of a schedule as `listset show` draws it, and what it says is refused.
 function drawPicture(text) {
   const drawn = askNow("listset_show_svg", text).text;
   byId("picture-box").hidden = !drawn.startsWith("<svg ");
@@ -104,7 +101,6 @@ function drawPicture(text) {
   scrollToClash();
 }
 
-// What is said beside a picture: its own line about why its order is refused, or which event is; and why no order explains the report.
 function refusalIn(text) {
   const refused = askNow("listset_show", text).text.split("\n").filter((line) => line.startsWith("refused "));
   const { why } = readVerdict(askNow("listset_check_record", text));
@@ -142,7 +138,6 @@ export function refreshReport() {
 const DRAWN_BY = ["fill", "stroke", "stroke-width", "stroke-dasharray", "fill-opacity", "stroke-opacity", "opacity", "font-family",
   "font-size", "font-weight", "font-style", "text-anchor", "paint-order", "text-decoration-line"];
 
-// A copy of a drawing, each part with what the style sheet says of it.
 function drawnOut(svg) {
   const copy = svg.cloneNode(true);
   const parts = [...svg.querySelectorAll("*")];
@@ -153,7 +148,6 @@ function drawnOut(svg) {
   return copy;
 }
 
-// The drawings of the list and of what stands below it, one below the other.
 function wholePicture() {
   const drawings = [...byId("stage").querySelectorAll(":is(.list, .strip, #judge-bars) svg")].filter((svg) => svg.clientWidth > 0);
   const boxes = drawings.map((svg) => ({ svg, width: svg.clientWidth, height: svg.clientHeight }));

@@ -19,7 +19,6 @@ export function keptUnder(name) {
   }
 }
 
-// Whether the browser keeps it.
 export function keepUnder(name, value) {
   try {
     localStorage.setItem(name, JSON.stringify(value));
@@ -46,7 +45,6 @@ function taskOfName(name) {
 /** @type {(entry: any[]) => [string, any]} */
 const workOf = ([name, kept]) => [name, { ...kept, task: isTask(kept.task) ? kept.task : taskOfName(name) }];
 
-// The works by their names, the last one last: of each its text, that of the box, its event, and its task.
 export const works = {
   /** @type {Map<string, any>} */
   byName: new Map(),
@@ -78,7 +76,6 @@ export const works = {
     return this.last((work) => work.text === text && (work.lacks ?? null) === lacks);
   },
 
-  // A name that no work has yet.
   newName(word) {
     for (let number = 1; ; number++) {
       const name = number === 1 ? word : `${word} ${number}`;

@@ -1,6 +1,6 @@
 // Long runs: the engine works in a worker if the browser can start one, so that the run can be cancelled. If it cannot, the page says
 // that it runs, before it does.
-import { askInWorker } from "../engine/worker.js";
+import { answerInRoom, answerOf, blockOf, Engine, FIRST_ROOM, LARGE_MEMORY, textsOf } from "../engine/engine.js";
 import { eventsAsked } from "../run/schedule_text.js";
 import { byId } from "./dom.js";
 import { askNow, held, now, tellFault } from "./now.js";
@@ -25,7 +25,6 @@ export async function askLong(name, text, isOfRun = true) {
   return askNow(name, text);
 }
 
-// Runs a long text: a line tells for how long it has run, and a button ends it.
 export async function runLong(text, asked, take) {
   stopLong();
   const begun = Date.now();
@@ -54,4 +53,39 @@ export function stopLong() {
 export function cancelLong() {
   stopLong();
   tellFault(null, "", "The run was cancelled. Run begins it again.");
+}
+
+// ---- The engine in a worker of its own, which can be ended, so that the page can be used while a long run is made.
+
+const EVENT_ROOM = 96; // bytes of a trace's line, so that the engine is asked once
+
+// The text of the worker's program: the functions of engine.js, with so much room for the answer. (A page that is opened as a file
+// may not start a worker from a file.)
+const workerText = (room) => `"use strict";
+const FIRST_ROOM = ${room};
+const LARGE_MEMORY = ${LARGE_MEMORY};
+${[Engine, answerOf, textsOf, answerInRoom, blockOf].join("\n")}
+onmessage = ({ data: { module, name, given } }) => {
+  try {
+    const { status, bytes } = new Engine(module).askBytes(name, given);
+    postMessage({ status, bytes }, [bytes.buffer]);
+  } catch (fault) {
+    postMessage({ status: 1, bytes: new TextEncoder().encode(fault.message) });
+  }
+};`;
+
+// A worker that is asked of a text with so many events, and its answer to come: null if the browser starts none.
+function askInWorker(module, name, text, events) {
+  const place = URL.createObjectURL(new Blob([workerText(FIRST_ROOM + EVENT_ROOM * events)], { type: "text/javascript" }));
+  const worker = new Worker(place);
+  const came = new Promise((done) => {
+    worker.onerror = () => done(null);
+    worker.onmessage = ({ data }) => done({ status: data.status, text: new TextDecoder().decode(data.bytes) });
+    worker.postMessage({ module, name, given: new TextEncoder().encode(text) });
+  });
+  const answer = came.finally(() => {
+    worker.terminate();
+    URL.revokeObjectURL(place);
+  });
+  return { worker, answer };
 }

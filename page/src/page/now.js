@@ -9,7 +9,6 @@ import { exampleIn, reduce, stateAtFirst } from "./state.js";
 
 export const NO_ENGINE = "The replayer does not run in this browser: no schedule can be run, no report checked. A file of listset trace can be opened.";
 
-// The state, to be read.
 export const now = stateAtFirst();
 /** @type {{ engine: any, render: () => void }} */
 export const held = { engine: null, render: () => {} };
@@ -73,7 +72,6 @@ export function takeScheduleOfTrace() {
   byId("opening").value = now.run.trace.opening.join(" ");
 }
 
-// What the engine answers at once; a line about the trouble if it stopped.
 export function askNow(name, ...texts) {
   if (held.engine === null) return { status: 1, text: NO_ENGINE };
   try {

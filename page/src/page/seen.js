@@ -4,7 +4,6 @@ import { change } from "./now.js";
 
 const isStage = ({ screen }) => screen === "stage";
 
-// What decides it: the place, and what the run is.
 export function factsOf(state, { hasEngine }) {
   const { place, run, task, exercise } = state;
   return {

@@ -65,7 +65,6 @@ const within = (count, { total }) => Math.max(0, Math.min(total, count));
 
 /** @type {Record<string, (state: State, action: Action) => State>} */
 const MAKES = {
-  // A scene is shown.
   place: (state, { activity, screen, id = "", given = {} }) =>
     ({ ...state, place: { ...state.place, activity, screen, id, given }, scene: SCENE_AT_FIRST }),
   scene: (state, { type, ...given }) => ({ ...state, scene: { ...state.scene, ...given } }),
@@ -73,7 +72,6 @@ const MAKES = {
   // Something is begun: what is run from now on is for this task.
   task: (state, { task, lacks = null }) =>
     onStage({ ...state, task: { ...NO_TASK_YET, ...task }, run: { ...state.run, lacks }, exercise: null }),
-  // A text is going to be run.
   text: (state, { text }) => ({ ...state, run: { ...state.run, text } }),
   // A trace is there: the exercise was about the one before.
   trace(state, { trace, state: ofTrace, source, count }) {
@@ -82,7 +80,6 @@ const MAKES = {
     const run = { ...state.run, trace, state: ofTrace, source, lacks: trace.lacks, isRun: true, faultLine, count: within(count, trace) };
     return { ...state, run, exercise: null };
   },
-  // The text with which the task began.
   begun: (state, { begun }) => ({ ...state, task: { ...state.task, begun } }),
   source: (state, { source }) => ({ ...state, run: { ...state.run, source } }),
   fault: (state, { line, isOld }) => ({ ...state, run: { ...state.run, faultLine: line, isRun: !isOld } }),

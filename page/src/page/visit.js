@@ -1,7 +1,11 @@
 // The address bar follows what is shown, and what is kept in the browser does too.
-import { warningOf } from "../run/address.js";
-import { escaped } from "../run/markup.js";
-import { addressIn } from "./scene_address.js";
+import { CLASSICS } from "../../made/classics.js";
+import { LISTS } from "../../made/rows.js";
+import { levelOfNumber } from "../data/levels.js";
+import { AddressFault, addressOf, LONGEST_ADDRESS, longLine, partsOfSeed, shortLine, warningOf } from "../run/address.js";
+import { startOfLacking } from "../run/broken.js";
+import { escaped, inLetters } from "../run/markup.js";
+import { eventsAsked } from "../run/schedule_text.js";
 import { HERE, keepUnder, keepWork } from "./kept.js";
 import { now, tell } from "./now.js";
 import { entryOf } from "./state.js";
@@ -13,7 +17,6 @@ export const visit = { timer: 0, entry: null, isRead: false, course: null };
 
 const addressHere = () => addressIn(now, visit);
 
-// The address and what is kept in the browser follow what is shown.
 export function keepSoon() {
   clearTimeout(visit.timer);
   visit.timer = setTimeout(keepNow, MOMENT);
@@ -56,7 +59,6 @@ export async function copyLink() {
   if (await copied(link)) tell(`The link is copied: ${shown}`);
 }
 
-// Whether a text is copied, if the browser lets a page do that.
 export async function copied(text) {
   try {
     await navigator.clipboard.writeText(text);
@@ -64,4 +66,96 @@ export async function copied(text) {
   } catch {
     return false;
   }
+}
+
+// ---- The addresses of the scenes, as #story=2, #ask=snip, #code=lazy&opening=3.7&s=b0.add.5,g0.4, #teachers, and of an assignment. Both ways.
+
+const SCENES = ["assignment", "story", "ask", "code", "teachers"]; // run/address.js reads the others, with their schedules
+const SCENE_VIEWS = ["lecture", "embed"];
+
+// The scene that an address names, or null; whether there is such a screen or question says its view.
+export function sceneOfHash(hash) {
+  const { view = null, ...parts } = Object.fromEntries(new URLSearchParams(hash.replace(/^#/, "")));
+  const activity = SCENES.find((name) => name in parts);
+  if (activity === undefined) return null;
+  if (view !== null && !SCENE_VIEWS.includes(view)) throw new AddressFault(`"${view.slice(0, 60)}" is no view of a page`);
+  const { [activity]: id, ...given } = parts;
+  return { activity, id, given, view };
+}
+
+export const START_OF_CODE = [3, 7];
+export const linesOfCode = (s) => s.split(",").filter((line) => /^(b\d+\.[a-z]+\.\d+|g\d+\.\d+)$/.test(line)).map(longLine);
+
+export const SET_OF_CODE = { threads: 2, quota: 9 };
+
+// Of a list to step by its code: the numbers in it at first, the lines of a run, and how many threads and adds of each it has.
+export function addressOfCode(list, opening, lines, set = SET_OF_CODE) {
+  const ofOpening = opening.join() === START_OF_CODE.join() && lines.length === 0 ? "" : `&opening=${opening.join(".")}`;
+  const ofSet = ["threads", "quota"].map((name) => (set[name] === SET_OF_CODE[name] ? "" : `&${name}=${set[name]}`)).join("");
+  return `#code=${list}${ofSet}${ofOpening}${lines.length > 0 ? `&s=${lines.map(shortLine).join()}` : ""}`;
+}
+
+// A level with the run in it, where that is another one than at its start.
+function addressOfLevel({ id }, { text }) {
+  const name = levelOfNumber(id);
+  if (id === "" || text === "" || text === startOfLacking(name)) return id === "" ? "#break" : `#break=${id}`;
+  return `#break=${id}&${addressOf(text, eventsAsked(text))?.slice(1) ?? ""}`;
+}
+
+// Of a lesson its course, unless it is the book's, its name, and the try: as much of that as an address has room for.
+function addressOfLesson({ id }, { text }, { course }) {
+  const named = `${course === null ? "#" : `${course}&`}learn${id === "" ? "" : `=${id}`}`;
+  const own = text === "" ? null : addressOf(text, eventsAsked(text));
+  const whole = own === null ? named : `${named}&${own.slice(1)}`;
+  return whole.length <= LONGEST_ADDRESS ? whole : named;
+}
+
+export const addressOfAssignment = ({ id, given }) => `#${new URLSearchParams({ assignment: id, ...given })}`.replaceAll("%2C", ",");
+
+// Of the others: the name of the activity, and its id where it has one.
+const plainAddress = ({ activity, id }) => `#${activity}${id === "" ? "" : `=${id}`}`;
+
+const ADDRESSES = {
+  code: ({ id, given }, { text }) => text || `#${new URLSearchParams({ code: id, ...given })}`,
+  compare: (place, { text }) => text || plainAddress(place),
+  break: addressOfLevel,
+  learn: addressOfLesson,
+  assignment: addressOfAssignment,
+};
+
+// `given` has what is not of the state: the packed course, or null for the book's.
+const addressOfScene = ({ place, scene }, given) =>
+  `${(ADDRESSES[place.activity] ?? plainAddress)(place, scene, given)}${place.view === null ? "" : `&view=${place.view}`}`;
+
+// ---- The address and the title of what is shown: both follow from the state alone.
+
+function ofRun(state) {
+  const { task, run } = state;
+  if (task.kind === "own") return addressOf(run.text, run.count, run.lacks);
+  return `#${task.kind}=${task.id}&event=${run.count}`;
+}
+
+// The address of a state, from # on, or null where it has none. `given` has what is not of the state: the packed course, or null for
+// the book.
+export function addressIn(state, given) {
+  const { place, exercise } = state;
+  if (place.screen === "scene") return addressOfScene(state, given);
+  const view = place.view === null ? "" : `&view=${place.view}`;
+  const address = ofRun(state);
+  return address === null ? null : `${address}${exercise === null ? "" : "&judge"}${view}`;
+}
+
+const WHOLE = "Why not just one lock?";
+
+export function titleIn(state, titleOfScene) {
+  const { place, task, run } = state;
+  const list = run.trace === null ? "" : LISTS[run.trace.kind].name;
+  if (place.screen === "scene") return titleOfScene(place);
+  const judged = state.exercise === null ? "" : "Judge: ";
+  const ofTask = {
+    example: () => `${judged}${inLetters(CLASSICS[task.id].question)}`,
+    seed: () => `${judged}Run ${partsOfSeed(task.id).number} of ${list}`,
+    own: () => `${judged}${task.work}: ${list}`,
+  };
+  return `${ofTask[task.kind]()} · ${WHOLE}`;
 }

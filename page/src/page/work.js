@@ -17,7 +17,6 @@ export function beginTask(task, lacks = null) {
   change("task", { task, lacks });
 }
 
-// Opens a text for a task, at this event of it.
 export function openTask(task, text, at, told = "", lacks = null) {
   beginTask({ begun: text, ...task }, lacks);
   runText(text, at, told);
@@ -64,7 +63,6 @@ export function runWithOpening() {
   runBox();
 }
 
-// The header of the schedule that is shown, as the controls of a new one have it.
 export function showHeader(trace) {
   byId("new-list").value = trace.kind;
   byId("new-threads").value = trace.threads;
@@ -84,7 +82,6 @@ function runText(text, at, told = "") {
   takeAnswer(askList(askNow, "listset_trace", now.run.lacks, text), text, at, told);
 }
 
-// Shows what the engine says of a text.
 function takeAnswer(answer, text, at, told) {
   const source = now.run.lacks === null ? "run by the proved replayer" : "a run of a broken list";
   if (isTrace(answer.text)) takeTrace(new Trace(answer.text, versionOf(text), now.run.trace), at, source);
@@ -98,7 +95,6 @@ function takeAnswer(answer, text, at, told) {
 const KEPT_BESIDE = "a trace that is kept beside the page";
 const known = { examples: null };
 
-// The examples in their order, each { name, kind }, of what `listset example` prints; the rest of that would tell the answers.
 export function examples() {
   if (held.engine === null) return readExamples(EXAMPLES);
   known.examples ??= readExamples(askNow("listset_examples", "").text);
@@ -113,7 +109,6 @@ function exampleText(name) {
   return answer.status === 0 ? answer.text : null;
 }
 
-// An example from its trace.
 export function openKept(name, count) {
   change("task", { task: { kind: "example", id: name, work: "" } });
   takeTrace(new Trace(TRACES[name]), count, KEPT_BESIDE);

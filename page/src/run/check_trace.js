@@ -65,7 +65,6 @@ function wrongEvent(text) {
   }
 }
 
-// What is wrong with a text that should be a trace, in a line, or null.
 export function faultOfTrace(text) {
   const lines = text.split("\n");
   const at = wrongLine(lines);

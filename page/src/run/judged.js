@@ -23,7 +23,6 @@ export const LEVELS = {
   },
 };
 
-// An exercise about a report: the text is the engine's own, of a whole list or of a broken one.
 export function exerciseOf(text, level, isWhole = true) {
   const report = readReport(text);
   const last = Math.max(1, ...report.calls.flatMap((call) => [call.begun, call.ended ?? 0]));
@@ -89,7 +88,6 @@ export class OwnAnswer {
   }
 }
 
-// The report that the answer makes: the run's calls and keys, the reader's order and replies.
 export function reportOfAnswer(answer) {
   const { head, callLines, keyLines } = answer.exercise;
   const places = answer.order().map(({ call, reply }) => `place ${call.id} ${reply}`);
@@ -131,7 +129,6 @@ function rightInWords(answer) {
   return `check says ok: this order explains the run. ${also}`;
 }
 
-// Why an order is refused, in the reader's own terms.
 function faultInWords(answer, { fault, call, place, reply, set, answer: due, begun, other, ended }) {
   const named = (id) => nameOfCall(answer.exercise.calls[Number(id)]);
   if (fault === "SetReply") {

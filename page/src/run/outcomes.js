@@ -33,7 +33,6 @@ function wholeName({ trace, event }, name) {
 
 export const hasInChain = (state, key) => keysInChain(state).includes(Number(key));
 
-// What comes of an event. Each says its part, or nothing.
 export const OUTCOMES = {
   // In a broken list, a node may be inserted behind one that is not in the chain, and a key that is removed may stay in it; and a call
   // may add a key that is there already, or remove one that is not.

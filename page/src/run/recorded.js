@@ -29,7 +29,6 @@ function okInWords({ count, isCutOff }) {
   return `Linearizable: an order explains ${calls}${keys}. It says nothing of other runs.`;
 }
 
-// What else is said of a right recording: whether its calls meet, and that it was cut off.
 function remarksOn({ count, overlapped, isCutOff }) {
   const few = "That is few, and a bug shows only if calls meet: take fewer keys, more threads, or pauses in the set.";
   return [
@@ -42,7 +41,6 @@ function remarksOn({ count, overlapped, isCutOff }) {
 
 const isInWords = (isThere) => `the key is ${isThere ? "there" : "not there"}`;
 
-// Why no order explains the calls of a key, in sentences.
 export function reasonsOf({ key, moment, since, isThere, by, calls, hidden }) {
   if (key === null) return ["No order leaves these keys, which do not increase."];
   const isLeft = moment === null;

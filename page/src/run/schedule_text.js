@@ -28,7 +28,6 @@ export function scheduleOfTrace(trace, count = trace.total) {
   return scheduleText({ ...trace, list: trace.kind }, lines);
 }
 
-// The opening keys of a schedule's text, as they stand there.
 export function openingIn(schedule) {
   const lines = schedule.split("\n").slice(HEADER_LINES);
   const count = lines.findIndex((line) => !line.startsWith("opening "));
@@ -43,7 +42,6 @@ export function withOpening(schedule, keys) {
   return lines.join("\n");
 }
 
-// How many events the lines of a text ask for, where it is a schedule.
 export function eventsAsked(text) {
   let count = 0;
   for (const [, steps] of text.matchAll(/^(?:begin |go \d+ (\d+)$)/gm)) count += Number(steps ?? 1);

@@ -9,7 +9,6 @@ const MOST_TURNS = 500;
 
 export class ProgramFault extends Error {}
 
-// A program as text: a line for each thread, by its letter or its number, as "A: add 5, remove 5".
 export function readProgram(text) {
   const program = [];
   for (const line of text.split("\n").filter((one) => one.trim() !== "")) {
@@ -84,7 +83,6 @@ export class Sides {
     return next === undefined ? null : this.sides.map(() => `begin ${thread} ${next}`);
   }
 
-  // Makes a turn of the thread; false where there is none.
   turn(thread) {
     const lines = this.linesOf(thread);
     if (lines === null || this.turns.length === MOST_TURNS) return false;

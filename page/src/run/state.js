@@ -31,7 +31,6 @@ export class State {
     return this;
   }
 
-  // Goes to the state after `count` events, on or back.
   moveTo(count) {
     if (count < this.count - this.undo.length) this.begin();
     while (this.count < count) this.apply(this.trace.event(++this.count), count - this.count < MOST_UNDONE);
@@ -80,7 +79,6 @@ export class State {
     return held;
   }
 
-  // The nodes from the head to the tail, as the link words lead.
   chain() {
     const found = new Set(["head"]);
     for (let name = "head"; name !== "tail"; ) {
@@ -92,7 +90,6 @@ export class State {
   }
 }
 
-// The nodes of the opening keys, from the head to the tail.
 function openingNodes(trace) {
   const first = firstOpeningNode(trace);
   const nameOf = (index) => (index < trace.opening.length ? `n${first + index}` : "tail");

@@ -8,7 +8,6 @@ export const KEY_REGISTERS = ["pkey", "ckey"];
 export const CALL_WORDS = ["add", "remove", "contains", "ceiling"];
 export const MOST_NUMBER = 4294967295;
 
-// Whether an answer of the engine is a trace, and not its line about an error.
 export const isTrace = (text) => text.startsWith("listset-trace");
 
 export class Trace {
@@ -100,7 +99,6 @@ export class Trace {
     return this.text.slice(start, this.text.indexOf("\n", start));
   }
 
-  // The event of this number, from 1: what its line tells.
   event(number) {
     const pieces = this.lineOf(number).split(" ");
     const event = { number, line: Number(pieces[3]), thread: Number(pieces[5]), deed: pieces[6], changes: {} };
@@ -113,7 +111,6 @@ export class Trace {
     return event;
   }
 
-  // All events, of a short trace.
   events() {
     return this.starts.map((_, index) => this.event(index + 1));
   }

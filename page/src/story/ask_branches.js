@@ -21,7 +21,6 @@ export const ALL = [...QUESTIONS, ...APPENDIX];
 export const itemOf = ({ id }) => ALL.find(({ name }) => name === id);
 export const isEmbed = () => now.place.view === "embed";
 
-// The figure shows these lines, on the whole list or on one that lacks a check.
 export function takeBranch({ lines, opening, lacks = null, isFree = false }) {
   const item = itemOf(now.place);
   const calls = isFree ? {} : item.calls;

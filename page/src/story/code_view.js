@@ -1,8 +1,7 @@
 // Step by the code: one list, two threads, any calls. The lines are the buttons. The run is in the address.
 import { LISTS } from "../../made/rows.js";
 import { now } from "../page/now.js";
-import { addressOfCode, linesOfCode, SET_OF_CODE, START_OF_CODE } from "../page/scene_address.js";
-import { linkTo } from "../page/visit.js";
+import { addressOfCode, linesOfCode, linkTo, SET_OF_CODE, START_OF_CODE } from "../page/visit.js";
 import { tag } from "../run/markup.js";
 import { copyText, head, LIST_WORDS, part, pressThread, scene, setScene, takeFreeFigure } from "./scene.js";
 
@@ -46,7 +45,6 @@ function begin(place) {
   part("#code-opening").onchange = ({ target }) => (location.hash = addressOfCode(listOf(place), numbersIn(target.value), [], setOfPlace(place)));
 }
 
-// Another list takes the threads' first calls along.
 function takeList({ dataset }) {
   const begins = scene.figure.run.lines.filter((line) => line.startsWith("begin"));
   const first = new Map(begins.map((line) => [line.split(" ")[1], line]).reverse());

@@ -8,7 +8,6 @@ import { answerText, phaseText } from "./tale.js";
 const AGAIN = `<span class="again"><button data-undo class="quiet small" title="take the last press back">↶ One back</button>
   <button data-again class="quiet small">↺ Start over</button></span>`;
 
-// A row for each thread; none while nothing can be pressed.
 export function showDock(figure) {
   const { spec, run } = figure;
   if (spec.dock === false || figure.hidesDock) return redraw(figure.part("dock"), "");
@@ -128,13 +127,11 @@ function pressLine(figure, button) {
   figure.play(thread, figure.run.stepsUntil(thread, here.length > 0 ? isOff : isThere), from);
 }
 
-// The call that stands in the fields of an idle thread.
 export function chooseCall(figure, row) {
   const call = [row.querySelector("select").value, row.querySelector("input").value];
   figure.chosen = { ...figure.chosen, [row.dataset.thread]: call };
 }
 
-// An idle thread begins a call of the reader's own choice.
 export function beginOwn(figure, thread) {
   if (figure.isBusy || !figure.canStep) return;
   chooseCall(figure, figure.box.querySelector(`[data-thread="${thread}"]`));

@@ -53,7 +53,6 @@ export class Figure {
     this.fit();
   }
 
-  // Draws in the room that there is now.
   fit() {
     [this.wide, this.stripWide] = ["list", "strip"].map((name) => this.part(name).clientWidth);
     this.draw();
@@ -69,7 +68,6 @@ export class Figure {
     return this.box.querySelector(`.${name}`);
   }
 
-  // Sets what can be pressed and what is hidden, and draws that.
   set(given) {
     Object.assign(this, given);
     this.draw();
@@ -79,7 +77,6 @@ export class Figure {
     return this.isOpen && !this.hidesDock && this.spec.dock !== false;
   }
 
-  // The calls that a thread has not begun yet.
   left(thread) {
     const own = this.spec.calls?.[thread] ?? [];
     return own.slice(this.run.trace.calls.filter((call) => call.thread === thread).length);
@@ -117,7 +114,6 @@ export class Figure {
     else this.step(thread);
   }
 
-  // Makes the steps, and shows what came since a moment one after the other.
   async play(thread, steps, from) {
     this.active = thread;
     this.run.go(thread, steps);
@@ -144,7 +140,6 @@ export class Figure {
     tellBusy(this.isActing);
   }
 
-  // Plays the whole run, or the part of it behind a moment, once more.
   async replay(from = 0) {
     if (this.isBusy) return;
     this.run.moveTo(from);
@@ -172,7 +167,6 @@ export class Figure {
     tellBusy(false);
   }
 
-  // Takes the last press back; or all of them.
   undo() {
     if (this.isBusy || this.past.length === 0) return;
     this.run.take(this.past.pop());
@@ -198,7 +192,6 @@ export class Figure {
     if (this.isLost && this.run.count === this.run.trace.total) markLostNodes(this);
   }
 
-  // Shows another moment of the run.
   moveTo(count) {
     if (this.isBusy) return;
     const isNear = Math.abs(count - this.run.count) <= 1;

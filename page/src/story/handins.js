@@ -6,7 +6,6 @@ import { bookCourse, taskOfJudged } from "./assignment.js";
 
 const stripped = (name) => name.replace(/^.*\//, "").replace(/\.[A-Za-z]+$/, "");
 
-// The name and the number of a student, as "Ada Lovelace (1234567)".
 function studentOf(text, file) {
   const [, name, number] = /^(.*?)\s*(?:[([#]\s*((?=\D*\d)\w[\w-]{0,20})\s*[)\]]?)?\s*$/.exec(text ?? "") ?? [];
   return { name: name || stripped(file), number: number ?? "" };
@@ -57,7 +56,6 @@ function columnsOf(rows) {
   return [...ids].sort().map((id) => ({ id, title: id }));
 }
 
-// What a row has of a task: solved, wrong, or nothing.
 export const markOf = ({ solved, wrong }, { id }) => (solved.has(id) ? "solved" : wrong.has(id) ? "wrong" : "none");
 
 function noteNumbers(rows) {

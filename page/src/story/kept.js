@@ -54,13 +54,11 @@ export class KeptLessons {
     this.of = new Map(Object.entries(kept.of ?? {}).map(([name, own]) => [name, ownOf(own)]));
   }
 
-  // What is kept of the course of this name.
   ofCourse(name) {
     if (!this.of.has(name)) this.of.set(name, ownOf({}));
     return this.of.get(name);
   }
 
-  // Whether the browser keeps it.
   save() {
     const { student, course } = this;
     const toObject = ({ solutions, looked }) => ({ solutions: Object.fromEntries(solutions), looked: [...looked] });

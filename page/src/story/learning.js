@@ -63,7 +63,6 @@ class Learning {
     return `lesson ${this.lesson.name}${this.course.name === BOOK_NAME ? "" : ` of ${this.course.name}`}`;
   }
 
-  // The text of the last try that is kept, or null.
   lastTry() {
     const { course, lesson } = this;
     const isTry = ({ task }) => task.kind === "lesson" && task.course === course.name && task.id === lesson.name;

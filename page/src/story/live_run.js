@@ -23,7 +23,6 @@ export function runOfText(text) {
   };
 }
 
-// A run at one of its moments.
 export class ShownRun {
   /** @param {any} trace @param {any} state */
   constructor(trace, state, count = 0) {
@@ -67,7 +66,6 @@ export class LiveRun extends ShownRun {
     this.take(this.first);
   }
 
-  // Lines in which `go T out` and `go T to ROW` may stand, as the schedule that the engine makes of them.
   expanded(lines) {
     const { text, fault } = scheduleOfDraft(askNow, this.textOf(lines), this.spec.lacks);
     if (fault !== null) throw new Error(fault);
@@ -91,7 +89,6 @@ export class LiveRun extends ShownRun {
     this.moveTo(this.trace.total);
   }
 
-  // The lines that lead to the moment that is shown.
   linesHere() {
     return linesOf(scheduleOfTrace(this.trace, this.count));
   }

@@ -12,7 +12,6 @@ const screenOf = (place) => SCREENS[numberOf(place) - 1] ?? null;
 const here = () => screenOf(now.place);
 const shown = { count: 0 }; // how many deeds of the way were shown
 
-// A slide leads to a slide.
 const hashOf = (number) => `#story=${number}${now.place.view === "lecture" ? "&view=lecture" : ""}`;
 const goTo = (number) => (location.hash = hashOf(number));
 

@@ -46,7 +46,6 @@ export function talk(html) {
   last.scrollIntoView({ block: isTall ? "start" : "end" });
 }
 
-// How much of the talk lies under the bar.
 function hiddenBelow() {
   const [last, bar] = [part("#talk")?.lastElementChild, part(".foot")];
   return last == null || bar === null ? 0 : last.getBoundingClientRect().bottom - bar.getBoundingClientRect().top;
@@ -61,7 +60,6 @@ function fitFigure({ spec }) {
   scene.figure.draw();
 }
 
-// A figure in place of the one that is shown.
 export function takeFigure(figure) {
   scene.figure?.end();
   scene.figure = figure;
@@ -96,7 +94,6 @@ export function renderScene({ place, scene: state }) {
   scene.isFirst = false; // who comes by a key goes on at the title of what is opened
 }
 
-// Shows a place of the story.
 export function openScene({ activity, id = "", given = {}, view = null }) {
   scene.key = ""; // also where it is shown already, it begins anew
   change("view", { view });
@@ -143,7 +140,6 @@ export function takeFreeFigure(list, spec) {
 }
 export const LACKS_ONE = "One check of this code is not made here.";
 
-// The bar at the bottom.
 export const foot = (left, right) => tag("footer", { class: "foot" }, left, tag("span", { class: "spread" }), right);
 
 export const optionButtons = (texts, wrong = []) => {
@@ -156,7 +152,6 @@ export const optionButtons = (texts, wrong = []) => {
 
 const lowered = (text) => text[0].toLowerCase() + text.slice(1);
 
-// What the reader has said, and the reply to it.
 export function replyTo(options, chosen, isToCome) {
   const option = options?.[chosen];
   if (option === undefined) return "";

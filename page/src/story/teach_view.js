@@ -3,7 +3,7 @@ import { LACKING } from "../../made/classics.js";
 import { LISTS } from "../../made/rows.js";
 import { BREAK_LEVELS } from "../data/levels.js";
 import { escaped, tag } from "../run/markup.js";
-import { seedOf } from "../run/seed.js";
+import { seedOf } from "../run/address.js";
 import { linkTo } from "../page/visit.js";
 import { QUESTIONS } from "./ask.js";
 import { addressOfTasks, allLevels, bookCourse } from "./assignment.js";
