@@ -720,29 +720,18 @@ const LONGEST_ADDRESS = 30000; // characters; a longer schedule has no address
 const SHORT_WORDS = { begin: "b", go: "g" };
 const LONG_WORDS = { b: "begin", g: "go" };
 const SHORT_EVENT = String.raw`(b\d+\.[a-z]+\.\d+|g\d+\.\d+)`;
+const NUMBER = /^\d+$/;
+const KIND = `(${Object.keys(LISTS).join("|")})`;
+/** @type {Record<string, RegExp>} */
 const ADDRESS_PARTS = {
-  example: /^[a-z-]+$/,
-  list: /^[A-Za-z-]+$/,
-  threads: /^\d+$/,
-  quota: /^\d+$/,
-  version: /^\d+$/,
-  opening: /^\d+(\.\d+)*$/,
+  threads: NUMBER, quota: NUMBER, version: NUMBER, event: NUMBER, list: /^[A-Za-z-]+$/, opening: /^\d+(\.\d+)*$/,
   s: new RegExp(`^(${SHORT_EVENT}(,${SHORT_EVENT})*)?$`),
-  event: /^\d+$/,
-  lacks: /^(\d+|[A-Za-z-]+)$/,
-  view: /^(lecture|list|history)$/,
-  course: /^[A-Za-z0-9_-]+$/,
-  sides: /^(coarse|fine|optimistic|lazy|lock-free)\.(coarse|fine|optimistic|lazy|lock-free)$/,
-  calls: /^(\d\d?\.[a-z]+\.\d+(,|$))+$/,
-  turns: /^(\d\d?(\.\d\d?)*)?$/,
-  watch: /^[a-z-]*$/,
-  learn: /^[a-z0-9-]*$/,
-  judge: /^$/,
-  break: /^\d*$/,
-  compare: /^$/,
-  read: /^$/,
-  seed: /^(coarse|fine|optimistic|lazy|lock-free)\.\d{1,2}\.\d{1,2}\.\d{1,2}\.\d{1,9}$/,
+  example: /^[a-z-]+$/, seed: new RegExp(`^${KIND}(\\.\\d{1,2}){3}\\.\\d{1,9}$`), course: /^[A-Za-z0-9_-]+$/,
+  lacks: /^(\d+|[A-Za-z-]+)$/, view: /^(lecture|list|history)$/,
+  sides: new RegExp(`^${KIND}\\.${KIND}$`), calls: /^(\d\d?\.[a-z]+\.\d+(,|$))+$/, turns: /^(\d\d?(\.\d\d?)*)?$/,
+  watch: /^[a-z-]*$/, learn: /^[a-z0-9-]*$/, break: /^\d*$/, judge: /^$/, compare: /^$/, read: /^$/,
 };
+const isSeed = (word) => ADDRESS_PARTS.seed.test(word);
 
 class AddressFault extends Error {}
 
@@ -836,7 +825,6 @@ const warningOf = (link) =>
   link.startsWith("file:") ? " Others cannot open it, since it leads to a file on this computer: copy it from a page on a web server." : "";
 
 
-const KINDS = ["coarse", "fine", "optimistic", "lazy", "lock-free"];
 const TRIES = 200;
 const MOST_TRIED_CALLS = 8; // of a run with more calls the first is taken
 const MOST_SEEN = 60; // events that are told apart by eye
@@ -884,12 +872,13 @@ function joined(text) {
 }
 
 function anotherSeed(before, kind = null) {
-  const list = kind ?? KINDS[Math.floor(Math.random() * KINDS.length)];
+  const kinds = Object.keys(LISTS);
+  const list = kind ?? kinds[Math.floor(Math.random() * kinds.length)];
   const number = 1 + Math.floor(Math.random() * 9999);
   const seed = seedOf(list, number);
   return seed === before ? seedOf(list, (number % 9999) + 1) : seed;
 }
-return { LONGEST_ADDRESS, AddressFault, addressOf, shortLine, longLine, readAddress, warningOf, seedOf, partsOfSeed, scheduleOfSeed, anotherSeed };
+return { LONGEST_ADDRESS, isSeed, AddressFault, addressOf, shortLine, longLine, readAddress, warningOf, seedOf, partsOfSeed, scheduleOfSeed, anotherSeed };
 })();
 
 // run/markup.js
@@ -1327,23 +1316,11 @@ function scaleOf(trace, count, width, hides = false) {
   const labels = layLabels(trace, shownIn(trace, first, last), spanOf, width, mostRows);
   const above = ROW_HEIGHT * (isWhole ? labels.rows : mostRows);
   const lane = above + bar + below;
-  return {
-    first,
-    last,
-    step,
-    lane,
-    bar,
-    width,
-    count,
-    now: hides ? count : Infinity, // the last event of which something is told
-    edge,
-    height: 6 + trace.threads * lane + (isWhole && labels.areWhole ? 0 : ROW_HEIGHT),
-    x,
-    y: (thread) => 2 + thread * lane + above + bar / 2,
-    spanOf,
-    labels: labels.places,
-    areWhole: labels.areWhole,
-  };
+  const now = hides ? count : Infinity; // the last event of which something is told
+  const height = 6 + trace.threads * lane + (isWhole && labels.areWhole ? 0 : ROW_HEIGHT);
+  const y = (thread) => 2 + thread * lane + above + bar / 2;
+  const { places, areWhole } = labels;
+  return { first, last, step, lane, bar, width, count, now, edge, height, x, y, spanOf, labels: places, areWhole };
 }
 
 const isReached = (call, count) => call.at <= count && (call.changes || (call.ended !== null && call.ended <= count));
@@ -3018,36 +2995,17 @@ return { MOST_JUDGED, LEVELS, exerciseOf, nameOfCall, lastMoment, repliesOf, Own
 // page/state.js
 const $page_state = (() => {
 /**
- * @typedef {object} Place  A scene has the id of what is shown there, and `given`, what else its address says.
- * @property {string} activity  that of a scene (activities/views.js); of the bench "watch" or "judge"
- * @property {"stage" | "scene"} screen
- * @property {string} id
- * @property {Record<string, string>} given
- * @property {"lecture" | "embed" | "list" | "history" | null} view
- * @typedef {object} Scene  How far one is in a scene.
- * @property {"" | "task" | "again" | "guess" | "playing" | "moment" | "done"} stage
- * @property {number | null} chosen  the answer that was pressed; -1 where it was to be shown
- * @property {string} note
- * @property {string} text  the schedule of its run, where the address has it
- * @property {number} hints
- * @property {number} at  the branch that is shown
- * @property {any[]} branches
- * @property {string[]} wrong  wrong answers, so far
- * @typedef {object} Run  What was run: the text, its trace, the list without a check (or null), and the state after `count` events.
- * @property {string} text
- * @property {any} trace
- * @property {any} state
- * @property {number} count
- * @property {string | null} lacks
- * @property {string} source  who ran it, in words
- * @property {boolean} isRun  whether the trace is that of the text
- * @property {number | null} faultLine
- * @typedef {"own" | "example" | "seed"} Kind
- * @typedef {object} Task  What the run is for: of which kind, its id, the name under which tries are kept, and the text with which it begins.
- * @property {Kind} kind
- * @property {string} id
- * @property {string} work
- * @property {string} begun
+ * A place is a scene or the bench (its activity is "watch" or "judge"). A scene has the id of what is shown there, and `given`, what
+ * else its address says; how far one is in it: the answer that was pressed (-1 where it was to be shown), the schedule of its run where
+ * the address has it, and the branch that is shown. A run has the text, its trace, the check that its list lacks, and the state after
+ * `count` events; `isRun`: the trace is that of the text. A task is what the run is for: tries are kept under the name `work`, `begun` is
+ * the text with which it begins.
+ * @typedef {"lecture" | "embed" | "list" | "history" | null} PageView
+ * @typedef {{ activity: string, screen: "stage" | "scene", id: string, given: Record<string, string>, view: PageView }} Place
+ * @typedef {"" | "task" | "again" | "guess" | "playing" | "moment" | "done"} Stage
+ * @typedef {{ stage: Stage, chosen: number | null, note: string, text: string, hints: number, at: number, branches: any[], wrong: string[] }} Scene
+ * @typedef {{ text: string, trace: any, state: any, count: number, lacks: string | null, source: string, isRun: boolean, faultLine: number | null }} Run
+ * @typedef {{ kind: "own" | "example" | "seed", id: string, work: string, begun: string }} Task
  * @typedef {{ hides: boolean, allThreads: boolean, letters: boolean }} Prefs
  * @typedef {{ place: Place, scene: Scene, run: Run, task: Task, exercise: any, prefs: Prefs }} State
  * @typedef {{ [name: string]: any, type: string }} Action
@@ -3217,7 +3175,6 @@ const { CLASSICS } = $made_classics;
 const { byId } = $page_dom;
 const { announce, held, now } = $page_now;
 const KEPT = "listset-page-2";
-const KEPT_BEFORE = "listset-page"; // one text, as the page kept it before
 const HERE = "listset-here"; // the address of what was shown last
 const MOST_WORKS = 60; // the oldest ones go
 
@@ -3261,8 +3218,7 @@ const works = {
 
   load() {
     const kept = keptUnder(KEPT);
-    const before = keptUnder(KEPT_BEFORE);
-    const entries = Array.isArray(kept) ? kept : isWork(before) ? [["my schedule", before]] : [];
+    const entries = Array.isArray(kept) ? kept : [];
     const isGood = (entry) => Array.isArray(entry) && isText(entry[0]) && isWork(entry[1]);
     this.byName = new Map(entries.filter(isGood).map(workOf));
   },
@@ -3500,8 +3456,7 @@ const BREAK_LEVELS = {
       "It releases the lock before it writes the arrow.": "it releases the lock only after that",
       "It writes the arrow of pred before that of its own node.": "it writes the arrow of its own node first",
     },
-    start: [["add", 5], ["add", 4]], shortest: [20, 2],
-    missing: [{ row: 1, part: "lock the list" }],
+    start: [["add", 5], ["add", 4]], shortest: [20, 2], missing: [{ row: 1, part: "lock the list" }],
   },
   "mark-in-remove": {
     story: "Two threads remove one key. One of them should answer that it came too late.",
@@ -3515,8 +3470,7 @@ const BREAK_LEVELS = {
       "A remove takes its node out before it marks it.": "it marks the node first",
       "A remove does not look whether its key is there.": "it compares curr.key with its key",
     },
-    start: [["remove", 3], ["remove", 3]], shortest: [14, 2],
-    missing: [{ row: 9, part: "no mark" }],
+    start: [["remove", 3], ["remove", 3]], shortest: [14, 2], missing: [{ row: 9, part: "no mark" }],
   },
   mark: {
     story: "Removing a node is one compare-and-set here. Fast. Too fast?",
@@ -3530,8 +3484,7 @@ const BREAK_LEVELS = {
       "A remove marks a node that is marked already.": "it marks no node at all",
       "An add writes its arrow without comparing.": "it compares with what it saw",
     },
-    start: [["add", 5], ["remove", 3]], shortest: [15, 2],
-    missing: [{ row: 9, part: "CAS curr.next: succ, no mark → mark" }],
+    start: [["add", 5], ["remove", 3]], shortest: [15, 2], missing: [{ row: 9, part: "CAS curr.next: succ, no mark → mark" }],
   },
   "new-slot": {
     story: "Each key that is added needs a node of its own. Does it get one?",
@@ -3541,8 +3494,7 @@ const BREAK_LEVELS = {
       "An add does not look whether its key is there.": "it compares curr.key with its key",
       "An add writes its arrow without comparing.": "it compares with what it saw",
     },
-    start: [["add", 4], ["add", 5]], shortest: [20, 2],
-    missing: [{ row: 5, part: "new " }],
+    start: [["add", 4], ["add", 5]], shortest: [20, 2], missing: [{ row: 5, part: "new " }],
   },
   "second-lock": {
     story: "Hand over hand means two locks at a time. Here one hand stays in the pocket.",
@@ -3556,8 +3508,7 @@ const BREAK_LEVELS = {
       "A remove does not lock pred.": "it locks pred, and keeps that lock until it has written",
       "A remove releases its lock before it writes.": "it releases its lock only after that",
     },
-    start: [["remove", 3], ["add", 5]], shortest: [21, 2],
-    missing: [{ row: 3, part: "lock curr," }],
+    start: [["remove", 3], ["add", 5]], shortest: [21, 2], missing: [{ row: 3, part: "lock curr," }],
   },
   "hand-over-hand": {
     story: "A walk should never be without a lock, not for one moment.",
@@ -3571,8 +3522,7 @@ const BREAK_LEVELS = {
       "It releases its locks before it writes.": "it releases them only after that",
       "A walk does not lock the head.": "it locks the head first of all",
     },
-    start: [["remove", 3], ["add", 5]], shortest: [24, 2],
-    missing: [{ row: 3, part: "pred still locked" }],
+    start: [["remove", 3], ["add", 5]], shortest: [24, 2], missing: [{ row: 3, part: "pred still locked" }],
   },
   "second-walk": {
     story: "It locks two nodes, and looks again. But what does it look at?",
@@ -3616,8 +3566,7 @@ const BREAK_LEVELS = {
       "A remove does not mark its node.": "it marks the node before it unlinks it",
       "An add does not look whether its key is there.": "it compares curr.key with its key",
     },
-    start: [["add", 5], ["remove", 3]], shortest: [17, 2],
-    missing: [{ row: 7, part: "no mark" }],
+    start: [["add", 5], ["remove", 3]], shortest: [17, 2], missing: [{ row: 7, part: "no mark" }],
   },
   "same-node": {
     story: "The second walk looks for pred. It meets something that looks like it.",
@@ -3631,8 +3580,7 @@ const BREAK_LEVELS = {
       "It does not walk a second time.": "it walks from the head again, with its locks",
       "It does not lock pred.": "it locks pred and curr",
     },
-    start: [["add", 5], ["remove", 3]], shortest: [36, 3],
-    missing: [{ row: 7, part: "pred is met" }],
+    start: [["add", 5], ["remove", 3]], shortest: [36, 3], missing: [{ row: 7, part: "pred is met" }],
   },
   "mark-at-key": {
     story: "A marked node can stay in the chain for a while. Who reads it there?",
@@ -3646,8 +3594,7 @@ const BREAK_LEVELS = {
       "A remove does not mark its node.": "it marks the node before it unlinks it",
       "A contains stops before it comes to its key.": "it walks on while curr.key is below its key",
     },
-    start: [["add", 5], ["remove", 7]], shortest: [26, 3],
-    missing: [{ row: 22, part: "and unmarked" }],
+    start: [["add", 5], ["remove", 7]], shortest: [26, 3], missing: [{ row: 22, part: "and unmarked" }],
   },
   "mark-in-ceiling": {
     story: "ceiling(2) asks for the smallest key from 2 on. It takes the first node that it finds. Any node?",
@@ -3661,8 +3608,7 @@ const BREAK_LEVELS = {
       "A ceiling stops before it comes to its key.": "it walks on while curr.key is below its key",
       "A remove does not mark its node.": "it marks the node before it unlinks it",
     },
-    start: [["remove", 3], ["contains", 3]], shortest: [16, 3],
-    missing: [{ row: 25, part: "if marked: start again;" }],
+    start: [["remove", 3], ["contains", 3]], shortest: [16, 3], missing: [{ row: 25, part: "if marked: start again;" }],
   },
   "mark-in-contains": {
     story: "Here contains does not look at the mark. No schedule is known after which no order explains the calls. Why not?",
@@ -3673,15 +3619,12 @@ const BREAK_LEVELS = {
     ],
     lacks: "A contains does not look at the mark of its node.",
     others: {},
-    start: [["remove", 3], ["contains", 3]], shortest: null,
-    missing: [{ row: 22, part: "and unmarked" }],
+    start: [["remove", 3], ["contains", 3]], shortest: null, missing: [{ row: 22, part: "and unmarked" }],
   },
 };
 
-const TEN = [
-  "lock", "second-lock", "hand-over-hand", "second-walk", "same-node", "marks-in-validation", "mark-in-remove", "mark", "mark-in-add",
-  "mark-at-key",
-];
+const TEN = ["lock", "second-lock", "hand-over-hand", "second-walk", "same-node", "marks-in-validation", "mark-in-remove", "mark",
+  "mark-in-add", "mark-at-key"];
 const THREE_MORE = ["new-slot", "mark-in-ceiling", "mark-in-contains"];
 
 const NUMBERED = Object.keys(BREAK_LEVELS);
@@ -4965,7 +4908,7 @@ const CALL_CLAUSES = [
   [/^begins after ([A-Z]\w*)$/, (call, [other]) => other.begun < call.begun],
   [/^takes effect after ([A-Z]\w*)$/, (call, [other]) => isRising(other.at, call.at)],
   [/^ends during ([A-Z]\w*)$/, (call, [other]) => other.begun < endOf(call) && endOf(call) < (other.ended ?? Infinity)],
-  [/^within ([A-Z]\w*)$/, (call, [rest]) => isWithin(call, rest)],
+  [/^within ([A-Z]\w*)$/, (call, [{ step, others }]) => call.begun > step.event.number && endOf(call) <= step.event.number + others.length],
   [/^its key always in the set$/, (call, _, run) => run.ofCall(call).every(({ keys }) => keys.has(call.key))],
   [/^a smaller key always in the set$/, (call, _, run) => run.ofCall(call).every((moment) => hasSmaller(call, moment))],
   [/^its node in the chain at its end$/, (call, _, run) => run.lastOf(call)?.chain.includes(run.nodeOf(call)) === true],
@@ -4974,13 +4917,13 @@ const STEP_CLAUSES = [
   [/^row (\d+)$/, (step, [row]) => step.row === Number(row)],
   [/^to row (\d+)$/, (step, [row]) => step.thread.pc === Number(row)],
   [/^without a reply$/, (step) => step.thread.reply === "none"],
-  [/^fails$/, (step) => isFailedStep(step)],
-  [/^tries in vain a lock of (\d+)$/, (step, [thread]) => isFailedTry(step) && step.event.saw === `t${thread}`],
-  [/^sees a mark$/, (step) => isMarkSeen(step)],
-  [/^reads a link$/, (step) => isReadOfLink(step)],
+  [/^fails$/, ({ event }) => isFailed(event)],
+  [/^tries in vain a lock of (\d+)$/, ({ event }, [thread]) => isFailed(event) && isLock(event.word) && event.saw === `t${thread}`],
+  [/^sees a mark$/, ({ event }) => event.saw?.endsWith("*") === true],
+  [/^reads a link$/, ({ event }) => event.deed === "load" && event.word.endsWith(".link")],
   [/^in the chain$/, (step) => isInChain(step)],
   [/^out of the chain$/, (step) => !isInChain(step)],
-  [/^holding (\d+)$/, (step, [count]) => locksOf(step, step.event.thread) === Number(count)],
+  [/^holding (\d+)$/, (step, [count]) => locksHeld(step) === Number(count)],
   [/^last$/, (step) => step.event.answer !== undefined],
   [/^pred leads to curr$/, (step) => step.linkOfPred === step.thread.curr],
   [/^at another node than ([A-Z]\w*)$/, (step, [other]) => nodeOf(step.event) !== nodeOf(other.event)],
@@ -4989,7 +4932,7 @@ const STEP_CLAUSES = [
   [/^in ([A-Z]\w*)$/, (step, [rest]) => rest.others.includes(step)],
   [/^takes out the node of ([A-Z]\w*)$/, (step, [call], run) => run.isTakenOut(run.nodeOf(call), step)],
 ];
-const REST_CLAUSES = [[/^holding (\d+)$/, (rest, [count]) => locksOf(rest.step, rest.step.event.thread) === Number(count)]];
+const REST_CLAUSES = [[/^holding (\d+)$/, (rest, [count]) => locksHeld(rest.step) === Number(count)]];
 const CLAUSES = { call: CALL_CLAUSES, step: STEP_CLAUSES, rest: REST_CLAUSES };
 const NAMED = { "begins after": "call", "takes effect after": "call", "ends during": "call", within: "rest", in: "rest",
   "at another node than": "step", "takes out the node of": "call" };
@@ -5117,24 +5060,12 @@ function momentAfter(state, keys, event) {
   if (event.took !== undefined) keys.delete(event.took);
   const thread = { ...state.threads[event.thread] };
   const linkOfPred = state.nodes[thread.pred]?.link;
-  return { event, row, thread, linkOfPred, chain: state.chain(), locks: locksIn(state), keys: new Set(keys) };
+  return { event, row, thread, linkOfPred, chain: state.chain(), locks: state.locks(), keys: new Set(keys) };
 }
 
-function locksIn(state) {
-  const words = [state, ...Object.values(state.nodes)];
-  return words.map(({ lock }) => lock).filter((lock) => lock !== "free");
-}
-
-const locksOf = (moment, thread) => moment.locks.filter((lock) => lock === `t${thread}`).length;
+const locksHeld = ({ locks, event }) => locks[`t${event.thread}`]?.length ?? 0;
 const nodeOf = (event) => ownerIn(event.word);
-const isFailedStep = ({ event }) => isFailed(event);
-const isFailedTry = (moment) => isFailedStep(moment) && isLock(moment.event.word);
-const isMarkSeen = ({ event }) => event.saw !== undefined && event.saw.endsWith("*");
-const isReadOfLink = ({ event }) => event.deed === "load" && event.word.endsWith(".link");
 const isInChain = (moment) => moment.chain.includes(nodeOf(moment.event));
-
-const isWithin = (call, { step, others }) =>
-  call.begun > step.event.number && call.ended !== null && call.ended <= step.event.number + others.length;
 return { GoalFault, CLAUSES, readGoal, TooManyWays, conditionsOf, Run };
 })();
 
@@ -5918,13 +5849,12 @@ function startAfresh(button) {
 
 
 const LESSONS_KEPT = "listset-lessons-2";
-const LESSONS_KEPT_BEFORE = "listset-lessons-1"; // the book's alone, as the page kept them before
 const textsKept = (kept) => Object.entries(kept ?? {}).filter(([, text]) => isText(text));
 const namesKept = (kept) => (Array.isArray(kept) ? kept.filter(isText) : []);
 
 class KeptLessons {
   constructor() {
-    const kept = keptUnder(LESSONS_KEPT) ?? { of: { [BOOK_NAME]: keptUnder(LESSONS_KEPT_BEFORE) } };
+    const kept = keptUnder(LESSONS_KEPT) ?? {};
     this.student = isText(kept.student) ? kept.student : "";
     this.course = isText(kept.course) ? kept.course : BOOK_NAME;
     this.courses = new Map(textsKept(kept.courses));
@@ -6367,18 +6297,12 @@ const { chipOf, colourOf, escaped, letterOf, tag } = $run_markup;
 const WORDS = /\b(while|if|else|return|start again|loop|until|unlock|lock|find|validate|CAS|mark|new)\b/g;
 
 /**
- * @typedef {object} CodeSpec  What of the code is shown, and how.
- * @property {string} list
- * @property {string[]} operations  the calls whose lines are shown
- * @property {boolean} [plain]
- * @property {number[]} [fresh]  rows that this list has anew
- * @property {number[]} [hides]  rows that are not shown
- * @property {Record<number, string>} [instead]  the words of a row, in place of its own
- * @property {{ row: number, part: string }[]} [struck]  what is struck out, of the line of a row
- * @property {{ thread: number, row: number }[]} next  the threads, and the rows that they make next
- * @property {{ thread: number, row: number } | null} made  the row that was just made
- * @property {boolean} canStep
- * @property {number} active  the thread that runs to a line where none stands
+ * Shown are the lines of the calls `operations`, without the rows `hides`, with `instead` in place of a row's words; `fresh` rows are new in
+ * this list, of a row a part may be `struck` out. `next` has the rows that threads make next, `made` the one that was just made; `active`
+ * runs to a line where no thread stands.
+ * @typedef {{ thread: number, row: number }} At
+ * @typedef {{ list: string, operations: string[], plain?: boolean, fresh?: number[], hides?: number[], instead?: Record<number, string>,
+ *   struck?: { row: number, part: string }[], next: At[], made: At | null, canStep: boolean, active: number }} CodeSpec
  */
 
 /** @param {CodeSpec} spec */
@@ -7036,16 +6960,10 @@ class ShownRun {
 }
 
 /**
- * @typedef {object} RunSpec
- * @property {string} list
- * @property {string | null} [lacks]  the check that the list lacks
- * @property {number} [threads]
- * @property {number} [quota]
- * @property {number[]} [opening]
- * @property {string[]} [lines]  the schedule's first lines, also those of a draft
- * @property {number} [version]  of the schedule's text
- * @property {boolean} [free]  the reader may begin any call, and stop before each look
- * @property {boolean} [plain]  the list's lock is ignored, and nothing is told of it
+ * `lines` are the schedule's first lines, also those of a draft. In a `free` run the reader may begin any call, and stop before each look; of
+ * a `plain` one the list's lock is ignored, and nothing is told of it.
+ * @typedef {{ list: string, lacks?: string | null, threads?: number, quota?: number, opening?: number[], lines?: string[], version?: number,
+ *   free?: boolean, plain?: boolean }} RunSpec
  */
 class LiveRun extends ShownRun {
   /** @param {RunSpec} spec */
@@ -7167,10 +7085,6 @@ const sleep = (time) => new Promise((done) => setTimeout(done, time));
 const drawn = { count: 0 };
 const tellBusy = (isBusy) => (document.body.dataset.busy = isBusy ? "yes" : "no");
 
-/**
- * @typedef {import("./live_run.js").RunSpec & { [name: string]: any }} FigureSpec  What a run needs; `calls`, of each thread those
- *   that it is to make; `shown`, the threads with a button; `dock`, `code`, `strip`, `scrub`: what is shown besides the list.
- */
 class Figure {
   id = `f${drawn.count++}`;
   past = []; // what stood there before each deed
@@ -7190,7 +7104,7 @@ class Figure {
   onStep = null;
   onFork = null;
 
-  /** @param {any} box @param {FigureSpec} spec */
+  /** @param {any} box @param {import("./live_run.js").RunSpec & { [name: string]: any }} spec */
   constructor(box, spec) {
     this.box = box;
     this.spec = spec;
@@ -7361,16 +7275,12 @@ const { tag } = $run_markup;
 const { Figure } = $story_figure;
 const { isNarrow } = $story_figure_parts;
 /**
- * @typedef {object} View
- * @property {string} kind  the class of the place
- * @property {(place: import("../page/state.js").Place) => string} title
- * @property {(place: any) => string | null} [fault]  why there is no such place, or null
- * @property {(place: import("../page/state.js").Place) => string} html
- * @property {(place: import("../page/state.js").Place) => void} [begin]  once its parts are there: its figure, its first stage
- * @property {(scene: import("../page/state.js").Scene) => void} [draw]  what follows from how far one is
- * @property {() => void} [end]  before its parts go
- * @property {Record<string, (target: any) => any>} [deeds]
- * @property {(event: KeyboardEvent) => any} [press]  a key
+ * A view has the class of its place (`kind`) and its parts as text; `fault` says why there is no such place, `begin` makes the figure once the
+ * parts are there, `draw` shows how far one is, `end` comes before the parts go; `deeds` are done by buttons, `press` by a key.
+ * @typedef {import("../page/state.js").Place} Place
+ * @typedef {{ kind: string, title: (place: Place) => string, html: (place: Place) => string, fault?: (place: Place) => string | null,
+ *   begin?: (place: Place) => void, draw?: (scene: import("../page/state.js").Scene) => void, end?: () => void,
+ *   deeds?: Record<string, (target: any) => any>, press?: (event: KeyboardEvent) => any }} View
  */
 
 /** @type {Record<string, View>} of an activity, or of one without an id its map */
@@ -7541,7 +7451,7 @@ const { BOOK, BOOK_NAME } = $made_book;
 const { LACKING } = $made_classics;
 const { LISTS } = $made_rows;
 const { BREAK_LEVELS, levelOfNumber, numberOfLevel } = $data_levels;
-const { AddressFault, addressOf, partsOfSeed, readAddress, scheduleOfSeed } = $run_address;
+const { AddressFault, addressOf, isSeed, partsOfSeed, readAddress, scheduleOfSeed } = $run_address;
 const { NO_TASK } = $run_broken;
 const { counted, escaped, inLetters, tag } = $run_markup;
 const { eventsAsked } = $run_schedule_text;
@@ -7560,7 +7470,6 @@ const bookCourse = () => (known.course ??= triedCourse(askNow, BOOK));
 const allLevels = () => Object.keys(BREAK_LEVELS).filter((name) => name !== NO_TASK).map((name) => ({ name, number: numberOfLevel(name) }));
 
 const wordsIn = (text, sign = ".") => (text ?? "").split(sign).filter((word) => word !== "");
-const isSeed = (word) => /^(coarse|fine|optimistic|lazy|lock-free)\.\d{1,2}\.\d{1,2}\.\d{1,2}\.\d{1,9}$/.test(word);
 
 function addressOfTasks(title, { learn, levels, seeds }) {
   const parts = Object.entries({ learn: learn.join("."), break: levels.join("."), judge: seeds.join(",") });
@@ -8213,7 +8122,6 @@ class Judging {
   held = null; // the call whose point is dragged
   tries = 0; // that were refused
   moment = 0; // of a claim
-  told = "";
 
   begin(level) {
     const { lacks, text } = now.run;
@@ -8225,12 +8133,10 @@ class Judging {
   }
 
   take(exercise) {
-    Object.assign(this, { exercise, answer: new OwnAnswer(exercise) });
-    Object.assign(this, { held: null, verdict: null, tries: 0, moment: 0, told: LEVELS[exercise.level].task });
+    Object.assign(this, { exercise, answer: new OwnAnswer(exercise), held: null, verdict: null, tries: 0, moment: 0 });
     if (now.run.lacks === null) judgePart("level").value = exercise.level;
     dispatch("exercise", { exercise });
   }
-
 
   callAt(event) {
     const id = event.target.closest("[data-call]")?.dataset.call;
@@ -8269,11 +8175,6 @@ class Judging {
     event.preventDefault();
   }
 
-  say(call, reply) {
-    this.answer.say(call, reply);
-    this.changed();
-  }
-
   changed() {
     this.verdict = null;
     this.draw();
@@ -8295,12 +8196,11 @@ class Judging {
     if (run !== null) keepUnder(JUDGED, { ...keptUnder(JUDGED), [`${run} ${this.exercise.level}`]: this.line });
   }
 
-
   draw() {
     const { level, calls } = this.exercise;
     this.count = now.run.count;
     this.scale = judgeScale(this.exercise, Math.max(300, judgePart("bars").clientWidth));
-    judgePart("task").textContent = this.told;
+    judgePart("task").textContent = LEVELS[level].task;
     judgePart("none").hidden = level !== "claim";
     redraw(judgePart("bars"), drawJudged(this));
     const asked = level === "replies" ? calls.filter((call) => call.ended !== null) : [];
@@ -8315,7 +8215,10 @@ class Judging {
     choice.dataset.call = call.id;
     choice.append(new Option("?", ""), ...repliesOf(this.exercise, call).map((reply) => new Option(reply, reply)));
     choice.value = this.answer.replies.get(call.id) ?? "";
-    choice.onchange = () => this.say(call, choice.value === "" ? undefined : choice.value);
+    choice.onchange = () => {
+      this.answer.say(call, choice.value === "" ? undefined : choice.value);
+      this.changed();
+    };
     const box = document.createElement("label");
     box.innerHTML = `${chipOf(call.thread)} ${callText(call)} answers `;
     box.append(choice);
@@ -8354,7 +8257,6 @@ function hintOfRun() {
   const changes = now.run.trace.changes.map(({ number }) => number);
   return changes.length === 0 ? "No event changes the set." : `The set changes at the events ${changes.join(", ")}.`;
 }
-
 
 function beginJudging() {
   const { trace } = now.run;

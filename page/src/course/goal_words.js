@@ -27,7 +27,7 @@ const CALL_CLAUSES = [
   [/^begins after ([A-Z]\w*)$/, (call, [other]) => other.begun < call.begun],
   [/^takes effect after ([A-Z]\w*)$/, (call, [other]) => isRising(other.at, call.at)],
   [/^ends during ([A-Z]\w*)$/, (call, [other]) => other.begun < endOf(call) && endOf(call) < (other.ended ?? Infinity)],
-  [/^within ([A-Z]\w*)$/, (call, [rest]) => isWithin(call, rest)],
+  [/^within ([A-Z]\w*)$/, (call, [{ step, others }]) => call.begun > step.event.number && endOf(call) <= step.event.number + others.length],
   [/^its key always in the set$/, (call, _, run) => run.ofCall(call).every(({ keys }) => keys.has(call.key))],
   [/^a smaller key always in the set$/, (call, _, run) => run.ofCall(call).every((moment) => hasSmaller(call, moment))],
   [/^its node in the chain at its end$/, (call, _, run) => run.lastOf(call)?.chain.includes(run.nodeOf(call)) === true],
@@ -36,13 +36,13 @@ const STEP_CLAUSES = [
   [/^row (\d+)$/, (step, [row]) => step.row === Number(row)],
   [/^to row (\d+)$/, (step, [row]) => step.thread.pc === Number(row)],
   [/^without a reply$/, (step) => step.thread.reply === "none"],
-  [/^fails$/, (step) => isFailedStep(step)],
-  [/^tries in vain a lock of (\d+)$/, (step, [thread]) => isFailedTry(step) && step.event.saw === `t${thread}`],
-  [/^sees a mark$/, (step) => isMarkSeen(step)],
-  [/^reads a link$/, (step) => isReadOfLink(step)],
+  [/^fails$/, ({ event }) => isFailed(event)],
+  [/^tries in vain a lock of (\d+)$/, ({ event }, [thread]) => isFailed(event) && isLock(event.word) && event.saw === `t${thread}`],
+  [/^sees a mark$/, ({ event }) => event.saw?.endsWith("*") === true],
+  [/^reads a link$/, ({ event }) => event.deed === "load" && event.word.endsWith(".link")],
   [/^in the chain$/, (step) => isInChain(step)],
   [/^out of the chain$/, (step) => !isInChain(step)],
-  [/^holding (\d+)$/, (step, [count]) => locksOf(step, step.event.thread) === Number(count)],
+  [/^holding (\d+)$/, (step, [count]) => locksHeld(step) === Number(count)],
   [/^last$/, (step) => step.event.answer !== undefined],
   [/^pred leads to curr$/, (step) => step.linkOfPred === step.thread.curr],
   [/^at another node than ([A-Z]\w*)$/, (step, [other]) => nodeOf(step.event) !== nodeOf(other.event)],
@@ -51,9 +51,8 @@ const STEP_CLAUSES = [
   [/^in ([A-Z]\w*)$/, (step, [rest]) => rest.others.includes(step)],
   [/^takes out the node of ([A-Z]\w*)$/, (step, [call], run) => run.isTakenOut(run.nodeOf(call), step)],
 ];
-const REST_CLAUSES = [[/^holding (\d+)$/, (rest, [count]) => locksOf(rest.step, rest.step.event.thread) === Number(count)]];
+const REST_CLAUSES = [[/^holding (\d+)$/, (rest, [count]) => locksHeld(rest.step) === Number(count)]];
 export const CLAUSES = { call: CALL_CLAUSES, step: STEP_CLAUSES, rest: REST_CLAUSES };
-// What a name in a clause is to stand for.
 const NAMED = { "begins after": "call", "takes effect after": "call", "ends during": "call", within: "rest", in: "rest",
   "at another node than": "step", "takes out the node of": "call" };
 const GOAL_FORMS = '"call C of 0: ..", "step S in C: ..", "rest R of 0", "3 steps of 1: ..", "all calls ended", "say .."';
@@ -142,8 +141,7 @@ export function conditionsOf(goal, run) {
   return ends.map(({ says, index }) => ({ says, isMet: canMeet(goal.slice(0, index), run) }));
 }
 
-// ---- A run as the goals of lessons look at it, moment by moment: each event, the row at which its thread stood before, and what there
-// is just after it. All of it follows from the lines of the engine's trace.
+// ---- a run moment by moment: each event, the row at which its thread stood before, and what there is just after it
 
 export class Run {
   constructor(trace) {
@@ -187,22 +185,9 @@ function momentAfter(state, keys, event) {
   if (event.took !== undefined) keys.delete(event.took);
   const thread = { ...state.threads[event.thread] };
   const linkOfPred = state.nodes[thread.pred]?.link;
-  return { event, row, thread, linkOfPred, chain: state.chain(), locks: locksIn(state), keys: new Set(keys) };
+  return { event, row, thread, linkOfPred, chain: state.chain(), locks: state.locks(), keys: new Set(keys) };
 }
 
-function locksIn(state) {
-  const words = [state, ...Object.values(state.nodes)];
-  return words.map(({ lock }) => lock).filter((lock) => lock !== "free");
-}
-
-const locksOf = (moment, thread) => moment.locks.filter((lock) => lock === `t${thread}`).length;
+const locksHeld = ({ locks, event }) => locks[`t${event.thread}`]?.length ?? 0;
 const nodeOf = (event) => ownerIn(event.word);
-const isFailedStep = ({ event }) => isFailed(event);
-const isFailedTry = (moment) => isFailedStep(moment) && isLock(moment.event.word);
-const isMarkSeen = ({ event }) => event.saw !== undefined && event.saw.endsWith("*");
-const isReadOfLink = ({ event }) => event.deed === "load" && event.word.endsWith(".link");
 const isInChain = (moment) => moment.chain.includes(nodeOf(moment.event));
-
-// Whether the call begins and ends while the thread rests.
-const isWithin = (call, { step, others }) =>
-  call.begun > step.event.number && call.ended !== null && call.ended <= step.event.number + others.length;

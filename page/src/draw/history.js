@@ -52,23 +52,11 @@ export function scaleOf(trace, count, width, hides = false) {
   const labels = layLabels(trace, shownIn(trace, first, last), spanOf, width, mostRows);
   const above = ROW_HEIGHT * (isWhole ? labels.rows : mostRows);
   const lane = above + bar + below;
-  return {
-    first,
-    last,
-    step,
-    lane,
-    bar,
-    width,
-    count,
-    now: hides ? count : Infinity, // the last event of which something is told
-    edge,
-    height: 6 + trace.threads * lane + (isWhole && labels.areWhole ? 0 : ROW_HEIGHT),
-    x,
-    y: (thread) => 2 + thread * lane + above + bar / 2,
-    spanOf,
-    labels: labels.places,
-    areWhole: labels.areWhole,
-  };
+  const now = hides ? count : Infinity; // the last event of which something is told
+  const height = 6 + trace.threads * lane + (isWhole && labels.areWhole ? 0 : ROW_HEIGHT);
+  const y = (thread) => 2 + thread * lane + above + bar / 2;
+  const { places, areWhole } = labels;
+  return { first, last, step, lane, bar, width, count, now, edge, height, x, y, spanOf, labels: places, areWhole };
 }
 
 // A point is reached once the call that has it is known to stand there: at its change, or when it answers.

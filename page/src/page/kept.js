@@ -6,7 +6,6 @@ import { byId } from "./dom.js";
 import { announce, held, now } from "./now.js";
 
 const KEPT = "listset-page-2";
-const KEPT_BEFORE = "listset-page"; // one text, as the page kept it before
 export const HERE = "listset-here"; // the address of what was shown last
 const MOST_WORKS = 60; // the oldest ones go
 
@@ -52,8 +51,7 @@ export const works = {
 
   load() {
     const kept = keptUnder(KEPT);
-    const before = keptUnder(KEPT_BEFORE);
-    const entries = Array.isArray(kept) ? kept : isWork(before) ? [["my schedule", before]] : [];
+    const entries = Array.isArray(kept) ? kept : [];
     const isGood = (entry) => Array.isArray(entry) && isText(entry[0]) && isWork(entry[1]);
     this.byName = new Map(entries.filter(isGood).map(workOf));
   },

@@ -14,29 +14,18 @@ export const LONGEST_ADDRESS = 30000; // characters; a longer schedule has no ad
 const SHORT_WORDS = { begin: "b", go: "g" };
 const LONG_WORDS = { b: "begin", g: "go" };
 const SHORT_EVENT = String.raw`(b\d+\.[a-z]+\.\d+|g\d+\.\d+)`;
+const NUMBER = /^\d+$/;
+const KIND = `(${Object.keys(LISTS).join("|")})`;
+/** @type {Record<string, RegExp>} */
 const ADDRESS_PARTS = {
-  example: /^[a-z-]+$/,
-  list: /^[A-Za-z-]+$/,
-  threads: /^\d+$/,
-  quota: /^\d+$/,
-  version: /^\d+$/,
-  opening: /^\d+(\.\d+)*$/,
+  threads: NUMBER, quota: NUMBER, version: NUMBER, event: NUMBER, list: /^[A-Za-z-]+$/, opening: /^\d+(\.\d+)*$/,
   s: new RegExp(`^(${SHORT_EVENT}(,${SHORT_EVENT})*)?$`),
-  event: /^\d+$/,
-  lacks: /^(\d+|[A-Za-z-]+)$/,
-  view: /^(lecture|list|history)$/,
-  course: /^[A-Za-z0-9_-]+$/,
-  sides: /^(coarse|fine|optimistic|lazy|lock-free)\.(coarse|fine|optimistic|lazy|lock-free)$/,
-  calls: /^(\d\d?\.[a-z]+\.\d+(,|$))+$/,
-  turns: /^(\d\d?(\.\d\d?)*)?$/,
-  watch: /^[a-z-]*$/,
-  learn: /^[a-z0-9-]*$/,
-  judge: /^$/,
-  break: /^\d*$/,
-  compare: /^$/,
-  read: /^$/,
-  seed: /^(coarse|fine|optimistic|lazy|lock-free)\.\d{1,2}\.\d{1,2}\.\d{1,2}\.\d{1,9}$/,
+  example: /^[a-z-]+$/, seed: new RegExp(`^${KIND}(\\.\\d{1,2}){3}\\.\\d{1,9}$`), course: /^[A-Za-z0-9_-]+$/,
+  lacks: /^(\d+|[A-Za-z-]+)$/, view: /^(lecture|list|history)$/,
+  sides: new RegExp(`^${KIND}\\.${KIND}$`), calls: /^(\d\d?\.[a-z]+\.\d+(,|$))+$/, turns: /^(\d\d?(\.\d\d?)*)?$/,
+  watch: /^[a-z-]*$/, learn: /^[a-z0-9-]*$/, break: /^\d*$/, judge: /^$/, compare: /^$/, read: /^$/,
 };
+export const isSeed = (word) => ADDRESS_PARTS.seed.test(word);
 
 export class AddressFault extends Error {}
 
@@ -137,7 +126,6 @@ export const warningOf = (link) =>
 
 // ---- Runs without end: the engine's generator makes a schedule of a number. The same number is the same run for everyone.
 
-const KINDS = ["coarse", "fine", "optimistic", "lazy", "lock-free"];
 const TRIES = 200;
 const MOST_TRIED_CALLS = 8; // of a run with more calls the first is taken
 const MOST_SEEN = 60; // events that are told apart by eye
@@ -190,7 +178,8 @@ function joined(text) {
 
 // A number that was not shown just before, up to 9999, and one of the lists.
 export function anotherSeed(before, kind = null) {
-  const list = kind ?? KINDS[Math.floor(Math.random() * KINDS.length)];
+  const kinds = Object.keys(LISTS);
+  const list = kind ?? kinds[Math.floor(Math.random() * kinds.length)];
   const number = 1 + Math.floor(Math.random() * 9999);
   const seed = seedOf(list, number);
   return seed === before ? seedOf(list, (number % 9999) + 1) : seed;

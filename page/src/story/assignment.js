@@ -4,7 +4,7 @@ import { BOOK, BOOK_NAME } from "../../made/book.js";
 import { LACKING } from "../../made/classics.js";
 import { LISTS } from "../../made/rows.js";
 import { BREAK_LEVELS, levelOfNumber, numberOfLevel } from "../data/levels.js";
-import { AddressFault, addressOf, partsOfSeed, readAddress, scheduleOfSeed } from "../run/address.js";
+import { AddressFault, addressOf, isSeed, partsOfSeed, readAddress, scheduleOfSeed } from "../run/address.js";
 import { NO_TASK } from "../run/broken.js";
 import { counted, escaped, inLetters, tag } from "../run/markup.js";
 import { eventsAsked } from "../run/schedule_text.js";
@@ -24,7 +24,6 @@ export const bookCourse = () => (known.course ??= triedCourse(askNow, BOOK));
 export const allLevels = () => Object.keys(BREAK_LEVELS).filter((name) => name !== NO_TASK).map((name) => ({ name, number: numberOfLevel(name) }));
 
 const wordsIn = (text, sign = ".") => (text ?? "").split(sign).filter((word) => word !== "");
-const isSeed = (word) => /^(coarse|fine|optimistic|lazy|lock-free)\.\d{1,2}\.\d{1,2}\.\d{1,2}\.\d{1,9}$/.test(word);
 
 export function addressOfTasks(title, { learn, levels, seeds }) {
   const parts = Object.entries({ learn: learn.join("."), break: levels.join("."), judge: seeds.join(",") });

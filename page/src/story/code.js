@@ -5,18 +5,12 @@ import { chipOf, colourOf, escaped, letterOf, tag } from "../run/markup.js";
 const WORDS = /\b(while|if|else|return|start again|loop|until|unlock|lock|find|validate|CAS|mark|new)\b/g;
 
 /**
- * @typedef {object} CodeSpec  What of the code is shown, and how.
- * @property {string} list
- * @property {string[]} operations  the calls whose lines are shown
- * @property {boolean} [plain]
- * @property {number[]} [fresh]  rows that this list has anew
- * @property {number[]} [hides]  rows that are not shown
- * @property {Record<number, string>} [instead]  the words of a row, in place of its own
- * @property {{ row: number, part: string }[]} [struck]  what is struck out, of the line of a row
- * @property {{ thread: number, row: number }[]} next  the threads, and the rows that they make next
- * @property {{ thread: number, row: number } | null} made  the row that was just made
- * @property {boolean} canStep
- * @property {number} active  the thread that runs to a line where none stands
+ * Shown are the lines of the calls `operations`, without the rows `hides`, with `instead` in place of a row's words; `fresh` rows are new in
+ * this list, of a row a part may be `struck` out. `next` has the rows that threads make next, `made` the one that was just made; `active`
+ * runs to a line where no thread stands.
+ * @typedef {{ thread: number, row: number }} At
+ * @typedef {{ list: string, operations: string[], plain?: boolean, fresh?: number[], hides?: number[], instead?: Record<number, string>,
+ *   struck?: { row: number, part: string }[], next: At[], made: At | null, canStep: boolean, active: number }} CodeSpec
  */
 
 /** @param {CodeSpec} spec */

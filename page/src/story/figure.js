@@ -11,10 +11,8 @@ const sleep = (time) => new Promise((done) => setTimeout(done, time));
 const drawn = { count: 0 };
 const tellBusy = (isBusy) => (document.body.dataset.busy = isBusy ? "yes" : "no");
 
-/**
- * @typedef {import("./live_run.js").RunSpec & { [name: string]: any }} FigureSpec  What a run needs; `calls`, of each thread those
- *   that it is to make; `shown`, the threads with a button; `dock`, `code`, `strip`, `scrub`: what is shown besides the list.
- */
+// A spec has what a run needs; `calls`, of each thread those that it is to make; `shown`, the threads with a button; `dock`, `code`, `strip`,
+// `scrub`: what is shown besides the list.
 export class Figure {
   id = `f${drawn.count++}`;
   past = []; // what stood there before each deed
@@ -34,7 +32,7 @@ export class Figure {
   onStep = null;
   onFork = null;
 
-  /** @param {any} box @param {FigureSpec} spec */
+  /** @param {any} box @param {import("./live_run.js").RunSpec & { [name: string]: any }} spec */
   constructor(box, spec) {
     this.box = box;
     this.spec = spec;

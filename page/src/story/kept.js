@@ -41,13 +41,12 @@ export function startAfresh(button) {
 // lessons whose answer was looked at.
 
 const LESSONS_KEPT = "listset-lessons-2";
-const LESSONS_KEPT_BEFORE = "listset-lessons-1"; // the book's alone, as the page kept them before
 const textsKept = (kept) => Object.entries(kept ?? {}).filter(([, text]) => isText(text));
 const namesKept = (kept) => (Array.isArray(kept) ? kept.filter(isText) : []);
 
 export class KeptLessons {
   constructor() {
-    const kept = keptUnder(LESSONS_KEPT) ?? { of: { [BOOK_NAME]: keptUnder(LESSONS_KEPT_BEFORE) } };
+    const kept = keptUnder(LESSONS_KEPT) ?? {};
     this.student = isText(kept.student) ? kept.student : "";
     this.course = isText(kept.course) ? kept.course : BOOK_NAME;
     this.courses = new Map(textsKept(kept.courses));

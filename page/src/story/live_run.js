@@ -46,16 +46,10 @@ export class ShownRun {
 }
 
 /**
- * @typedef {object} RunSpec
- * @property {string} list
- * @property {string | null} [lacks]  the check that the list lacks
- * @property {number} [threads]
- * @property {number} [quota]
- * @property {number[]} [opening]
- * @property {string[]} [lines]  the schedule's first lines, also those of a draft
- * @property {number} [version]  of the schedule's text
- * @property {boolean} [free]  the reader may begin any call, and stop before each look
- * @property {boolean} [plain]  the list's lock is ignored, and nothing is told of it
+ * `lines` are the schedule's first lines, also those of a draft. In a `free` run the reader may begin any call, and stop before each look; of
+ * a `plain` one the list's lock is ignored, and nothing is told of it.
+ * @typedef {{ list: string, lacks?: string | null, threads?: number, quota?: number, opening?: number[], lines?: string[], version?: number,
+ *   free?: boolean, plain?: boolean }} RunSpec
  */
 export class LiveRun extends ShownRun {
   /** @param {RunSpec} spec */

@@ -9,16 +9,12 @@ import { Figure } from "./figure.js";
 import { isNarrow } from "./figure_parts.js";
 
 /**
- * @typedef {object} View
- * @property {string} kind  the class of the place
- * @property {(place: import("../page/state.js").Place) => string} title
- * @property {(place: any) => string | null} [fault]  why there is no such place, or null
- * @property {(place: import("../page/state.js").Place) => string} html
- * @property {(place: import("../page/state.js").Place) => void} [begin]  once its parts are there: its figure, its first stage
- * @property {(scene: import("../page/state.js").Scene) => void} [draw]  what follows from how far one is
- * @property {() => void} [end]  before its parts go
- * @property {Record<string, (target: any) => any>} [deeds]
- * @property {(event: KeyboardEvent) => any} [press]  a key
+ * A view has the class of its place (`kind`) and its parts as text; `fault` says why there is no such place, `begin` makes the figure once the
+ * parts are there, `draw` shows how far one is, `end` comes before the parts go; `deeds` are done by buttons, `press` by a key.
+ * @typedef {import("../page/state.js").Place} Place
+ * @typedef {{ kind: string, title: (place: Place) => string, html: (place: Place) => string, fault?: (place: Place) => string | null,
+ *   begin?: (place: Place) => void, draw?: (scene: import("../page/state.js").Scene) => void, end?: () => void,
+ *   deeds?: Record<string, (target: any) => any>, press?: (event: KeyboardEvent) => any }} View
  */
 
 /** @type {Record<string, View>} of an activity, or of one without an id its map */
