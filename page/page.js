@@ -883,6 +883,7 @@ return { LONGEST_ADDRESS, isSeed, AddressFault, addressOf, shortLine, longLine, 
 
 // run/markup.js
 const $run_markup = (() => {
+const { LISTS } = $made_rows;
 const SIGNS = { "&": "&amp;", "<": "&lt;", ">": "&gt;", '"': "&quot;" };
 const escaped = (text) => String(text).replace(/[&<>"]/g, (sign) => SIGNS[sign]);
 
@@ -890,6 +891,9 @@ function tag(name, attributes, ...content) {
   const given = Object.entries(attributes).map(([attribute, value]) => ` ${attribute}="${escaped(value)}"`);
   return `<${name}${given.join("")}>${content.join("")}</${name}>`;
 }
+
+const listOptions = (chosen = "") =>
+  Object.entries(LISTS).map(([kind, { name }]) => tag("option", { value: kind, ...(kind === chosen ? { selected: "" } : {}) }, name)).join("");
 
 const label = (attributes, text) => tag("text", attributes, escaped(text));
 const title = (text) => tag("title", {}, escaped(text));
@@ -908,7 +912,7 @@ function inLetters(text) {
   const some = text.replace(/\b(?:the )?threads (\d+(?:, \d+)*(?:,? and \d+)?)/gi, (_, numbers) => letters(numbers));
   return some.replace(/\bthread (\d+)/gi, (_, number) => letterOf(Number(number))).replace(/\bt(\d+)\b/g, (_, number) => letterOf(Number(number)));
 }
-return { escaped, tag, label, title, colourOf, letterOf, chipOf, holderOf, keyText, said, counted, callText, openReply, inLetters };
+return { escaped, tag, listOptions, label, title, colourOf, letterOf, chipOf, holderOf, keyText, said, counted, callText, openReply, inLetters };
 })();
 
 // run/state.js
@@ -3269,14 +3273,8 @@ const isStage = ({ screen }) => screen === "stage";
 
 function factsOf(state, { hasEngine }) {
   const { place, run, task, exercise } = state;
-  return {
-    ...place,
-    hasEngine,
-    kind: task.kind,
-    isJudging: exercise !== null,
-    isClaim: exercise?.level === "claim",
-    isBroken: run.lacks !== null,
-  };
+  const [isJudging, isClaim, isBroken] = [exercise !== null, exercise?.level === "claim", run.lacks !== null];
+  return { ...place, hasEngine, kind: task.kind, isJudging, isClaim, isBroken };
 }
 
 const isFull = ({ view }) => view === null;
@@ -3300,20 +3298,15 @@ const SEEN = {
   ticks: ({ isJudging }) => !isJudging,
   judge: ({ isJudging }) => isJudging,
   "judge-moments": ({ isClaim }) => isClaim,
-  "judge-note": isFree,
   "judge-levels": ({ isBroken }) => !isBroken,
   "report-box": ({ isJudging, hasEngine }) => !isJudging && hasEngine,
   dock: (facts) => isStage(facts) && isFree(facts),
-  "run-figure": isFree,
-  "key-help-box": isFree,
-  "threads-box": isFree,
-  "table-box": isFree,
+  ...Object.fromEntries(["judge-note", "run-figure", "key-help-box", "threads-box", "table-box"].map((id) => [id, isFree])),
   "listing-box": (facts) => isFree(facts) && !facts.isBroken,
   told: isFull,
   order: isFull,
   "no-engine": ({ hasEngine }) => hasEngine === false,
 };
-
 
 function showParts(state) {
   const facts = factsOf(state, { hasEngine: services.hasEngine });
@@ -3757,14 +3750,7 @@ async function copyLink() {
   if (await copied(link)) tell(`The link is copied: ${shown}`);
 }
 
-async function copied(text) {
-  try {
-    await navigator.clipboard.writeText(text);
-    return true;
-  } catch {
-    return false;
-  }
-}
+const copied = async (text) => navigator.clipboard?.writeText(text).then(() => true, () => false) ?? false;
 
 
 const SCENES = ["assignment", "story", "ask", "code", "teachers"]; // run/address.js reads the others, with their schedules
@@ -3815,37 +3801,24 @@ const ADDRESSES = {
   assignment: addressOfAssignment,
 };
 
-const addressOfScene = ({ place, scene }, given) =>
-  `${(ADDRESSES[place.activity] ?? plainAddress)(place, scene, given)}${place.view === null ? "" : `&view=${place.view}`}`;
-
-
-function ofRun(state) {
-  const { task, run } = state;
-  if (task.kind === "own") return addressOf(run.text, run.count, run.lacks);
-  return `#${task.kind}=${task.id}&event=${run.count}`;
-}
-
 function addressIn(state, given) {
-  const { place, exercise } = state;
-  if (place.screen === "scene") return addressOfScene(state, given);
+  const { place, task, run, exercise } = state;
   const view = place.view === null ? "" : `&view=${place.view}`;
-  const address = ofRun(state);
+  if (place.screen === "scene") return (ADDRESSES[place.activity] ?? plainAddress)(place, state.scene, given) + view;
+  const address = task.kind === "own" ? addressOf(run.text, run.count, run.lacks) : `#${task.kind}=${task.id}&event=${run.count}`;
   return address === null ? null : `${address}${exercise === null ? "" : "&judge"}${view}`;
 }
 
-const WHOLE = "Why not just one lock?";
-
 function titleIn(state, titleOfScene) {
-  const { place, task, run } = state;
-  const list = run.trace === null ? "" : LISTS[run.trace.kind].name;
+  const { place, task, run, exercise } = state;
   if (place.screen === "scene") return titleOfScene(place);
-  const judged = state.exercise === null ? "" : "Judge: ";
+  const list = run.trace === null ? "" : LISTS[run.trace.kind].name;
   const ofTask = {
-    example: () => `${judged}${inLetters(CLASSICS[task.id].question)}`,
-    seed: () => `${judged}Run ${partsOfSeed(task.id).number} of ${list}`,
-    own: () => `${judged}${task.work}: ${list}`,
+    example: () => inLetters(CLASSICS[task.id].question),
+    seed: () => `Run ${partsOfSeed(task.id).number} of ${list}`,
+    own: () => `${task.work}: ${list}`,
   };
-  return `${ofTask[task.kind]()} · ${WHOLE}`;
+  return `${exercise === null ? "" : "Judge: "}${ofTask[task.kind]()} · Why not just one lock?`;
 }
 return { visit, keepSoon, keepNow, linkTo, copyLink, copied, sceneOfHash, START_OF_CODE, linesOfCode, SET_OF_CODE, addressOfCode, addressOfAssignment, addressIn, titleIn };
 })();
@@ -5669,6 +5642,14 @@ function saveText(name, text, type = "text/plain") {
   URL.revokeObjectURL(link.href);
 }
 
+function onFile(input, take) {
+  input.onchange = async () => {
+    const [file] = input.files;
+    await take(await file.text(), file.name);
+    input.value = "";
+  };
+}
+
 function kindOfFile(text) {
   if (text.startsWith("listset-trace")) return "trace";
   if (text.startsWith("listset-calls")) return "calls";
@@ -5689,8 +5670,7 @@ function comparedTrace(ask, trace) {
   return `a trace from a file; ${engines} gives another, from its event ${event} on`;
 }
 
-async function openFile(file) {
-  const text = new TextDecoder().decode(new Uint8Array(await file.arrayBuffer()));
+async function openFile(text, name) {
   const kind = kindOfFile(text);
   const isJudged = kind === "report" || kind === "calls";
   tellTrouble("");
@@ -5699,9 +5679,9 @@ async function openFile(file) {
   if (kind === "calls") return announce("recorded", text);
   if (kind === "report") {
     await openReportBox();
-    return showReport(text, `The report in ${file.name}:`);
+    return showReport(text, `The report in ${name}:`);
   }
-  const task = ownTask(`from ${file.name}`);
+  const task = ownTask(`from ${name}`);
   if (kind === "schedule") return openTask(task, text, 0);
   openTrace(text, task);
 }
@@ -5807,7 +5787,7 @@ function wholePicture() {
 }
 
 const savePicture = () => saveText("page.svg", wholePicture());
-return { saveText, comparedTrace, openFile, refreshReport, savePicture };
+return { saveText, onFile, comparedTrace, openFile, refreshReport, savePicture };
 })();
 
 // story/kept.js
@@ -7271,6 +7251,7 @@ const $story_scene = (() => {
 const { change, dispatch, now } = $page_now;
 const { byId, setHtml } = $page_dom;
 const { copied } = $page_visit;
+const { warningOf } = $run_address;
 const { tag } = $run_markup;
 const { Figure } = $story_figure;
 const { isNarrow } = $story_figure_parts;
@@ -7295,7 +7276,7 @@ const isScene = ({ place }) => place.screen === "scene";
 const setScene = (given) => dispatch("scene", given);
 
 async function copyText(text, words) {
-  part("#scene-told").textContent = (await copied(text)) ? words : `Copy this by hand: ${text}`;
+  part("#scene-told").textContent = ((await copied(text)) ? words : `Copy this by hand: ${text}`) + warningOf(text);
 }
 
 function talk(html) {
@@ -7659,7 +7640,7 @@ return { StillFigure };
 const $activities_bench = (() => {
 const { LISTS } = $made_rows;
 const { anotherSeed, partsOfSeed, scheduleOfSeed, seedOf } = $run_address;
-const { escaped, tag } = $run_markup;
+const { escaped, listOptions } = $run_markup;
 const { scheduleOfTrace } = $run_schedule_text;
 const { momentAt, sentenceOf } = $run_sentences;
 const { drawOrder } = $draw_contents;
@@ -7767,14 +7748,9 @@ function listenToBench() {
 const FIRST = { example: "marked-in-chain", event: 20 };
 
 function seedForm(id, verb) {
-  const options = Object.entries(LISTS).map(([kind, { name }]) => tag("option", { value: kind }, name));
-  const number = `<input id="${id}-number" type="number" min="1" max="999999999" placeholder="any">`;
-  const parts = [
-    tag("label", {}, "list ", tag("select", { id: `${id}-list` }, ...options)),
-    tag("label", {}, "number ", number),
-    tag("button", { id: `${id}-go`, class: "primary" }, verb),
-  ];
-  return tag("div", { class: "start-row" }, ...parts);
+  return `<div class="start-row"><label>list <select id="${id}-list">${listOptions()}</select></label>
+    <label>number <input id="${id}-number" type="number" min="1" max="999999999" placeholder="any"></label>
+    <button id="${id}-go" class="primary">${verb}</button></div>`;
 }
 
 function listenToSeedForm(id, more) {
@@ -8668,6 +8644,7 @@ return { ALL, itemOf, isEmbed, takeBranch, openBranch, goBack, seeAgain, whatIf,
 const $activities_recorded = (() => {
 const { drawRecorded } = $draw_judged;
 const { byId } = $page_dom;
+const { onFile } = $page_files;
 const { askLong, LONG_TEXT } = $page_long_run;
 const { askNow } = $page_now;
 const { tag } = $run_markup;
@@ -8725,11 +8702,7 @@ function listenToRecorded() {
   recordedPart("box").ontoggle = () => (recorded.isOpen = recordedPart("box").open);
   recordedPart("judge").onclick = judgeCalls;
   recordedPart("example").onclick = () => showRecorded(RECORDED_EXAMPLE);
-  recordedPart("file").onchange = async () => {
-    const text = await recordedPart("file").files[0].text();
-    recordedPart("file").value = "";
-    showRecorded(text);
-  };
+  onFile(recordedPart("file"), showRecorded);
 }
 return { drawRecordedBox, showRecorded, listenToRecorded };
 })();
@@ -8899,7 +8872,7 @@ const { courseAddress, courseOfAddress } = $course_course_text;
 const { handInText } = $course_hand_in;
 const { triedCourse } = $course_lesson;
 const { byId } = $page_dom;
-const { saveText } = $page_files;
+const { onFile, saveText } = $page_files;
 const { isText, keptUnder } = $page_kept;
 const { askNow, held } = $page_now;
 const { copied, linkTo } = $page_visit;
@@ -8965,12 +8938,7 @@ function listenToCourses() {
   lessonPart("write").ontoggle = () => {
     if (box.value === "") box.value = learning.panel.course.text;
   };
-  lessonPart("file").onchange = async () => {
-    box.value = await lessonPart("file").files[0].text();
-    lessonPart("file").value = "";
-    lessonPart("write").open = true;
-    takeCourseText(box.value);
-  };
+  onFile(lessonPart("file"), showCourseText);
   lessonPart("try").onclick = () => takeCourseText(box.value);
   lessonPart("link").onclick = () => takeCourseText(box.value) && copyCourseLink();
   lessonPart("save").onclick = () => saveText("lessons.course", box.value);
@@ -9101,13 +9069,13 @@ const { LISTS } = $made_rows;
 const { byId, redraw } = $page_dom;
 const { toggleLecture } = $page_play;
 const { askNow, now } = $page_now;
-const { copied, linkTo } = $page_visit;
-const { addressOf, readAddress, warningOf } = $run_address;
-const { chipOf, escaped, tag } = $run_markup;
+const { linkTo } = $page_visit;
+const { addressOf, readAddress } = $run_address;
+const { chipOf, escaped, listOptions, tag } = $run_markup;
 const { sentenceOf } = $run_sentences;
 const { ProgramFault, programText, readProgram, Sides } = $run_sides;
 const { ShownRun } = $story_live_run;
-const { head, setScene, threadOfKey } = $story_scene;
+const { copyText, head, part, setScene, threadOfKey } = $story_scene;
 const { StillFigure } = $story_still_figure;
 const PRESETS = [
   ["Who waits?", "#sides=coarse.lazy&quota=4&calls=0.add.5,1.contains.5&turns=0.0.0.0.1.1.1"],
@@ -9123,9 +9091,7 @@ const listsOf = ({ given }) => (given.sides ?? "coarse.lazy").split(".");
 
 function html(place) {
   const preset = ([name, href]) => tag("a", { class: "button", href }, escaped(name));
-  const listOf = (at) => Object.entries(LISTS).map(([kind, { name }]) =>
-    tag("option", { value: kind, ...(kind === listsOf(place)[at] ? { selected: "" } : {}) }, name));
-  const choice = (name, at) => tag("label", {}, ["left ", "right "][at], tag("select", { id: `sides-${name}` }, ...listOf(at)));
+  const choice = (name, at) => tag("label", {}, ["left ", "right "][at], tag("select", { id: `sides-${name}` }, listOptions(listsOf(place)[at])));
   const lead = `<p class="lead">The same calls on two lists. A turn of a thread executes its next step in both; a call that has ended waits for
     the other list. Who has to wait, and who is done? <a class="beside" href="tables.html#progress">Progress of each list: blocking, lock-free, wait-free</a></p>`;
   return `<section class="screen">${head("", "Two lists, one program", lead)}
@@ -9134,7 +9100,7 @@ function html(place) {
       <label>initial keys <input id="sides-opening" spellcheck="false" placeholder="no keys" size="8"></label>
       <label>calls <textarea id="sides-program" rows="2" cols="24" spellcheck="false"></textarea></label>
       <button data-do="begin">Run this program</button> <button data-do="copy">Copy link</button></div></details>
-    <p id="sides-told" role="status"></p><div id="sides-pictures"></div></section>
+    <p id="scene-told" role="status"></p><div id="sides-pictures"></div></section>
     <footer class="foot"><button class="quiet" data-do="back" aria-label="one turn back">◂</button>
       <input id="sides-slider" type="range" min="0" value="0" aria-label="turn"> <span id="sides-where" class="small"></span> <span id="sides-turns"></span>
       <button class="quiet" id="sides-lecture" data-do="lecture" title="show this as one slide for a lecture hall; Escape leads back">Lecture view</button></footer>`;
@@ -9163,11 +9129,11 @@ function beginSides(turns = []) {
     const kinds = SIDES.map((name) => sidesPart(name).value);
     Object.assign(shown, { sides: new Sides(askNow, kinds, { program, quota: shown.quota, opening }), opening });
     for (const thread of turns) if (!shown.sides.turn(thread)) break;
-    sidesPart("told").textContent = "";
+    part("#scene-told").textContent = "";
     takeTurns();
   } catch (fault) {
     if (!(fault instanceof ProgramFault)) throw fault;
-    sidesPart("told").textContent = fault.message;
+    part("#scene-told").textContent = fault.message;
   }
 }
 
@@ -9181,7 +9147,7 @@ function turnOf(thread) {
   if (at < sides.turns.length) beginSides(sides.turns.slice(0, at));
   const isMade = shown.sides.turn(thread);
   takeTurns();
-  if (!isMade) sidesPart("told").innerHTML = `${chipOf(thread)} has ended all its calls in both lists.`;
+  if (!isMade) part("#scene-told").innerHTML = `${chipOf(thread)} has ended all its calls in both lists.`;
 }
 
 function turnTo(at) {
@@ -9235,12 +9201,6 @@ function addressOfSides() {
   return `#${[...parts, `calls=${calls.join()}`, `turns=${sides.turns.join(".")}`].join("&")}`;
 }
 
-async function copySides() {
-  const link = linkTo(addressOfSides());
-  const isCopied = await copied(link);
-  sidesPart("told").innerHTML = `${isCopied ? "The link is copied" : "Copy this link"}: <code>${escaped(link)}</code>${warningOf(link)}`;
-}
-
 function press(event) {
   const { sides, at } = shown;
   const by = { ArrowRight: 1, PageDown: 1, ArrowLeft: -1, PageUp: -1, Home: -Infinity, End: Infinity }[event.key];
@@ -9261,7 +9221,7 @@ const compareView = {
   press,
   deeds: {
     begin: () => beginSides(),
-    copy: copySides,
+    copy: () => copyText(linkTo(addressOfSides()), "The link is copied."),
     back: () => turnTo(shown.at - 1),
     turn: ({ dataset }) => turnOf(Number(dataset.thread)),
     lecture: toggleLecture,
@@ -9276,7 +9236,7 @@ const { CLASSICS } = $made_classics;
 const { inLetters, tag } = $run_markup;
 const { eventsAsked } = $run_schedule_text;
 const { byId, redraw } = $page_dom;
-const { openFile, refreshReport, savePicture, saveText } = $page_files;
+const { onFile, openFile, refreshReport, savePicture, saveText } = $page_files;
 const { keepUnder, keptUnder, works } = $page_kept;
 const { cancelLong } = $page_long_run;
 const { change, dispatch, exampleShown, held, isJudging, now } = $page_now;
@@ -9312,9 +9272,8 @@ function listenToBar() {
 function listenToSettings() {
   const kept = keptUnder(SETTINGS) ?? {};
   change("prefs", { hides: kept.hides !== false, letters: kept.letters !== false });
-  byId("hides").checked = now.prefs.hides;
-  byId("single-keys").checked = now.prefs.letters;
   for (const [name, id] of [["hides", "hides"], ["letters", "single-keys"]]) {
+    byId(id).checked = now.prefs[name];
     byId(id).onchange = () => {
       dispatch("prefs", { [name]: byId(id).checked });
       keepUnder(SETTINGS, { hides: now.prefs.hides, letters: now.prefs.letters });
@@ -9343,7 +9302,7 @@ function listenToWork() {
 
 function listenToFiles() {
   byId("report-box").ontoggle = refreshReport;
-  byId("file").onchange = () => openFile(byId("file").files[0]).then(() => (byId("file").value = ""));
+  onFile(byId("file"), openFile);
   byId("save-schedule").onclick = () => saveText("page.schedule", byId("schedule").value);
   byId("save-trace").onclick = () => saveText("page.trace", now.run.trace.text);
   byId("save-picture").onclick = savePicture;
@@ -9443,15 +9402,11 @@ function openStory(place) {
   openScene(place);
 }
 
-const openLevel = (id, text, view) => openStory({ activity: "break", id, given: text === null ? {} : { text }, view });
-
 /** @param {string[]} place @param {any} wanted */
 function openPlace([activity, value], { text, event, view }) {
-  if (activity === "break") return openLevel(value, text, view);
-  if (activity === "watch" && value === "") return openStory({ activity: "ask", view });
-  if (activity === "learn") return openStory({ activity, id: value, given: text === null ? {} : { text }, view });
-  if (activity !== "watch") return openStory({ activity, view });
-  if (text === null) openRun({ seed: null, example: value, event });
+  if (value === "" || activity !== "watch") {
+    openStory({ activity: activity === "watch" ? "ask" : activity, id: value, given: text === null ? {} : { text }, view });
+  } else if (text === null) openRun({ seed: null, example: value, event });
   else openLink({ text, event, lacks: null });
 }
 
@@ -9461,16 +9416,12 @@ async function openCourse(wanted) {
   openPlace(wanted.place ?? ["learn", (panel.firstUnsolved() ?? panel.course.lessons[0]).name], wanted);
 }
 
-function needExample(name) {
-  if (!isExample(name)) throw new AddressFault(`the address names the example "${name}", which there is not`);
-}
-
 function openRun(wanted) {
   if (wanted.seed !== null) {
     needEngine("a run by its number");
     openSeed(wanted.seed, wanted.event);
   } else if (wanted.example !== null) {
-    needExample(wanted.example);
+    if (!isExample(wanted.example)) throw new AddressFault(`the address names the example "${wanted.example}", which there is not`);
     const isShown = exampleShown() === wanted.example && now.run.isRun;
     const isBeforehand = isShown && now.task.work === "" && held.engine !== null; // from its trace, and the reader may have gone on
     if (isBeforehand) pickExample(wanted.example, now.run.count);
@@ -9482,7 +9433,7 @@ function openRun(wanted) {
 
 function openLink({ text, event, lacks, view = null }) {
   needEngine("a schedule");
-  if (lacks !== null) return openLevel(String(numberOfLevel(lacks)), text, view);
+  if (lacks !== null) return openStory({ activity: "break", id: String(numberOfLevel(lacks)), given: { text }, view });
   if (text === now.run.text && now.run.isRun && now.place.screen === "stage") return goTo(event);
   const own = works.nameOf(text);
   if (own !== null) return openWork(own, event);
@@ -10695,7 +10646,7 @@ const $story_teach_view = (() => {
 const { LACKING } = $made_classics;
 const { LISTS } = $made_rows;
 const { BREAK_LEVELS } = $data_levels;
-const { escaped, tag } = $run_markup;
+const { escaped, listOptions, tag } = $run_markup;
 const { seedOf } = $run_address;
 const { linkTo } = $page_visit;
 const { QUESTIONS } = $story_ask;
@@ -10786,13 +10737,12 @@ const picks = (kind, title, items) => `<fieldset><legend>${title} <button class=
 function homeworkHtml() {
   const lessons = bookCourse().lessons.map(({ name, title, list }, at) => pick("learn", name, at + 1, title, LISTS[list].name));
   const levels = allLevels().map(({ name, number }) => pick("break", number, number, LISTS[LACKING[name]].name, BREAK_LEVELS[name].story));
-  const kinds = Object.entries(LISTS).map(([kind, { name }]) => tag("option", { value: kind, ...(kind === "lazy" ? { selected: "" } : {}) }, name));
   return `<section class="panel" id="homework"><h2>Homework, as one link</h2><p class="prose">Tick tasks. The link holds all of it: it needs no server, it
     can be bookmarked, forwarded and opened on another computer, and it stays the same for ever.</p>
     <label class="wide-label">Title <input id="hw-title" value="Concurrent lists, week 1" maxlength="60"></label>
     <div class="columns">${picks("learn", "Solve", lessons)}${picks("break", "Break", levels)}
     <fieldset><legend>Judge: runs by their number</legend><p class="small">All students get the same run, and say what each call answers and where it
-      takes effect.</p><div class="line"><select id="hw-kind" aria-label="list of the run">${kinds.join("")}</select>
+      takes effect.</p><div class="line"><select id="hw-kind" aria-label="list of the run">${listOptions("lazy")}</select>
       <input id="hw-number" type="number" min="1" max="9999" value="${FIRST_NUMBER}" aria-label="number of the run">
       <button data-do="add">Add this run</button></div><ul id="hw-seeds"></ul></fieldset></div>
     <div class="made-link"><p id="hw-count" class="small"></p><pre id="hw-link" class="snippet" tabindex="0"></pre>

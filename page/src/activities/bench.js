@@ -2,7 +2,7 @@
 // registers, the step table and the proved code.
 import { LISTS } from "../../made/rows.js";
 import { anotherSeed, partsOfSeed, scheduleOfSeed, seedOf } from "../run/address.js";
-import { escaped, tag } from "../run/markup.js";
+import { escaped, listOptions } from "../run/markup.js";
 import { scheduleOfTrace } from "../run/schedule_text.js";
 import { momentAt, sentenceOf } from "../run/sentences.js";
 import { drawOrder } from "../draw/contents.js";
@@ -115,14 +115,9 @@ export function listenToBench() {
 export const FIRST = { example: "marked-in-chain", event: 20 };
 
 export function seedForm(id, verb) {
-  const options = Object.entries(LISTS).map(([kind, { name }]) => tag("option", { value: kind }, name));
-  const number = `<input id="${id}-number" type="number" min="1" max="999999999" placeholder="any">`;
-  const parts = [
-    tag("label", {}, "list ", tag("select", { id: `${id}-list` }, ...options)),
-    tag("label", {}, "number ", number),
-    tag("button", { id: `${id}-go`, class: "primary" }, verb),
-  ];
-  return tag("div", { class: "start-row" }, ...parts);
+  return `<div class="start-row"><label>list <select id="${id}-list">${listOptions()}</select></label>
+    <label>number <input id="${id}-number" type="number" min="1" max="999999999" placeholder="any"></label>
+    <button id="${id}-go" class="primary">${verb}</button></div>`;
 }
 
 export function listenToSeedForm(id, more) {

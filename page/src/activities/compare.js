@@ -3,13 +3,13 @@ import { LISTS } from "../../made/rows.js";
 import { byId, redraw } from "../page/dom.js";
 import { toggleLecture } from "../page/play.js";
 import { askNow, now } from "../page/now.js";
-import { copied, linkTo } from "../page/visit.js";
-import { addressOf, readAddress, warningOf } from "../run/address.js";
-import { chipOf, escaped, tag } from "../run/markup.js";
+import { linkTo } from "../page/visit.js";
+import { addressOf, readAddress } from "../run/address.js";
+import { chipOf, escaped, listOptions, tag } from "../run/markup.js";
 import { sentenceOf } from "../run/sentences.js";
 import { ProgramFault, programText, readProgram, Sides } from "../run/sides.js";
 import { ShownRun } from "../story/live_run.js";
-import { head, setScene, threadOfKey } from "../story/scene.js";
+import { copyText, head, part, setScene, threadOfKey } from "../story/scene.js";
 import { StillFigure } from "../story/still_figure.js";
 
 const PRESETS = [
@@ -26,9 +26,7 @@ const listsOf = ({ given }) => (given.sides ?? "coarse.lazy").split(".");
 
 function html(place) {
   const preset = ([name, href]) => tag("a", { class: "button", href }, escaped(name));
-  const listOf = (at) => Object.entries(LISTS).map(([kind, { name }]) =>
-    tag("option", { value: kind, ...(kind === listsOf(place)[at] ? { selected: "" } : {}) }, name));
-  const choice = (name, at) => tag("label", {}, ["left ", "right "][at], tag("select", { id: `sides-${name}` }, ...listOf(at)));
+  const choice = (name, at) => tag("label", {}, ["left ", "right "][at], tag("select", { id: `sides-${name}` }, listOptions(listsOf(place)[at])));
   const lead = `<p class="lead">The same calls on two lists. A turn of a thread executes its next step in both; a call that has ended waits for
     the other list. Who has to wait, and who is done? <a class="beside" href="tables.html#progress">Progress of each list: blocking, lock-free, wait-free</a></p>`;
   return `<section class="screen">${head("", "Two lists, one program", lead)}
@@ -37,7 +35,7 @@ function html(place) {
       <label>initial keys <input id="sides-opening" spellcheck="false" placeholder="no keys" size="8"></label>
       <label>calls <textarea id="sides-program" rows="2" cols="24" spellcheck="false"></textarea></label>
       <button data-do="begin">Run this program</button> <button data-do="copy">Copy link</button></div></details>
-    <p id="sides-told" role="status"></p><div id="sides-pictures"></div></section>
+    <p id="scene-told" role="status"></p><div id="sides-pictures"></div></section>
     <footer class="foot"><button class="quiet" data-do="back" aria-label="one turn back">◂</button>
       <input id="sides-slider" type="range" min="0" value="0" aria-label="turn"> <span id="sides-where" class="small"></span> <span id="sides-turns"></span>
       <button class="quiet" id="sides-lecture" data-do="lecture" title="show this as one slide for a lecture hall; Escape leads back">Lecture view</button></footer>`;
@@ -66,11 +64,11 @@ function beginSides(turns = []) {
     const kinds = SIDES.map((name) => sidesPart(name).value);
     Object.assign(shown, { sides: new Sides(askNow, kinds, { program, quota: shown.quota, opening }), opening });
     for (const thread of turns) if (!shown.sides.turn(thread)) break;
-    sidesPart("told").textContent = "";
+    part("#scene-told").textContent = "";
     takeTurns();
   } catch (fault) {
     if (!(fault instanceof ProgramFault)) throw fault;
-    sidesPart("told").textContent = fault.message;
+    part("#scene-told").textContent = fault.message;
   }
 }
 
@@ -85,7 +83,7 @@ function turnOf(thread) {
   if (at < sides.turns.length) beginSides(sides.turns.slice(0, at));
   const isMade = shown.sides.turn(thread);
   takeTurns();
-  if (!isMade) sidesPart("told").innerHTML = `${chipOf(thread)} has ended all its calls in both lists.`;
+  if (!isMade) part("#scene-told").innerHTML = `${chipOf(thread)} has ended all its calls in both lists.`;
 }
 
 function turnTo(at) {
@@ -141,12 +139,6 @@ function addressOfSides() {
   return `#${[...parts, `calls=${calls.join()}`, `turns=${sides.turns.join(".")}`].join("&")}`;
 }
 
-async function copySides() {
-  const link = linkTo(addressOfSides());
-  const isCopied = await copied(link);
-  sidesPart("told").innerHTML = `${isCopied ? "The link is copied" : "Copy this link"}: <code>${escaped(link)}</code>${warningOf(link)}`;
-}
-
 // A turn by its letter; an arrow, and a presenter's key, goes on and back.
 function press(event) {
   const { sides, at } = shown;
@@ -168,7 +160,7 @@ export const compareView = {
   press,
   deeds: {
     begin: () => beginSides(),
-    copy: copySides,
+    copy: () => copyText(linkTo(addressOfSides()), "The link is copied."),
     back: () => turnTo(shown.at - 1),
     turn: ({ dataset }) => turnOf(Number(dataset.thread)),
     lecture: toggleLecture,

@@ -4,7 +4,7 @@ import { courseAddress, courseOfAddress } from "../course/course_text.js";
 import { handInText } from "../course/hand_in.js";
 import { triedCourse } from "../course/lesson.js";
 import { byId } from "../page/dom.js";
-import { saveText } from "../page/files.js";
+import { onFile, saveText } from "../page/files.js";
 import { isText, keptUnder } from "../page/kept.js";
 import { askNow, held } from "../page/now.js";
 import { copied, linkTo } from "../page/visit.js";
@@ -72,12 +72,7 @@ export function listenToCourses() {
   lessonPart("write").ontoggle = () => {
     if (box.value === "") box.value = learning.panel.course.text;
   };
-  lessonPart("file").onchange = async () => {
-    box.value = await lessonPart("file").files[0].text();
-    lessonPart("file").value = "";
-    lessonPart("write").open = true;
-    takeCourseText(box.value);
-  };
+  onFile(lessonPart("file"), showCourseText);
   lessonPart("try").onclick = () => takeCourseText(box.value);
   lessonPart("link").onclick = () => takeCourseText(box.value) && copyCourseLink();
   lessonPart("save").onclick = () => saveText("lessons.course", box.value);

@@ -36,15 +36,11 @@ function openStory(place) {
   openScene(place);
 }
 
-const openLevel = (id, text, view) => openStory({ activity: "break", id, given: text === null ? {} : { text }, view });
-
 /** @param {string[]} place @param {any} wanted */
 function openPlace([activity, value], { text, event, view }) {
-  if (activity === "break") return openLevel(value, text, view);
-  if (activity === "watch" && value === "") return openStory({ activity: "ask", view });
-  if (activity === "learn") return openStory({ activity, id: value, given: text === null ? {} : { text }, view });
-  if (activity !== "watch") return openStory({ activity, view });
-  if (text === null) openRun({ seed: null, example: value, event });
+  if (value === "" || activity !== "watch") {
+    openStory({ activity: activity === "watch" ? "ask" : activity, id: value, given: text === null ? {} : { text }, view });
+  } else if (text === null) openRun({ seed: null, example: value, event });
   else openLink({ text, event, lacks: null });
 }
 
@@ -54,16 +50,12 @@ async function openCourse(wanted) {
   openPlace(wanted.place ?? ["learn", (panel.firstUnsolved() ?? panel.course.lessons[0]).name], wanted);
 }
 
-function needExample(name) {
-  if (!isExample(name)) throw new AddressFault(`the address names the example "${name}", which there is not`);
-}
-
 function openRun(wanted) {
   if (wanted.seed !== null) {
     needEngine("a run by its number");
     openSeed(wanted.seed, wanted.event);
   } else if (wanted.example !== null) {
-    needExample(wanted.example);
+    if (!isExample(wanted.example)) throw new AddressFault(`the address names the example "${wanted.example}", which there is not`);
     const isShown = exampleShown() === wanted.example && now.run.isRun;
     const isBeforehand = isShown && now.task.work === "" && held.engine !== null; // from its trace, and the reader may have gone on
     if (isBeforehand) pickExample(wanted.example, now.run.count);
@@ -76,7 +68,7 @@ function openRun(wanted) {
 // A link opens under a name of its own: that of the reader's work with this very text, or a new one.
 function openLink({ text, event, lacks, view = null }) {
   needEngine("a schedule");
-  if (lacks !== null) return openLevel(String(numberOfLevel(lacks)), text, view);
+  if (lacks !== null) return openStory({ activity: "break", id: String(numberOfLevel(lacks)), given: { text }, view });
   if (text === now.run.text && now.run.isRun && now.place.screen === "stage") return goTo(event);
   const own = works.nameOf(text);
   if (own !== null) return openWork(own, event);

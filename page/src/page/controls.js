@@ -3,7 +3,7 @@ import { CLASSICS } from "../../made/classics.js";
 import { inLetters, tag } from "../run/markup.js";
 import { eventsAsked } from "../run/schedule_text.js";
 import { byId, redraw } from "./dom.js";
-import { openFile, refreshReport, savePicture, saveText } from "./files.js";
+import { onFile, openFile, refreshReport, savePicture, saveText } from "./files.js";
 import { keepUnder, keptUnder, works } from "./kept.js";
 import { cancelLong } from "./long_run.js";
 import { change, dispatch, exampleShown, held, isJudging, now } from "./now.js";
@@ -42,9 +42,8 @@ export function listenToBar() {
 export function listenToSettings() {
   const kept = keptUnder(SETTINGS) ?? {};
   change("prefs", { hides: kept.hides !== false, letters: kept.letters !== false });
-  byId("hides").checked = now.prefs.hides;
-  byId("single-keys").checked = now.prefs.letters;
   for (const [name, id] of [["hides", "hides"], ["letters", "single-keys"]]) {
+    byId(id).checked = now.prefs[name];
     byId(id).onchange = () => {
       dispatch("prefs", { [name]: byId(id).checked });
       keepUnder(SETTINGS, { hides: now.prefs.hides, letters: now.prefs.letters });
@@ -73,7 +72,7 @@ export function listenToWork() {
 
 export function listenToFiles() {
   byId("report-box").ontoggle = refreshReport;
-  byId("file").onchange = () => openFile(byId("file").files[0]).then(() => (byId("file").value = ""));
+  onFile(byId("file"), openFile);
   byId("save-schedule").onclick = () => saveText("page.schedule", byId("schedule").value);
   byId("save-trace").onclick = () => saveText("page.trace", now.run.trace.text);
   byId("save-picture").onclick = savePicture;

@@ -20,6 +20,14 @@ export function saveText(name, text, type = "text/plain") {
   URL.revokeObjectURL(link.href);
 }
 
+export function onFile(input, take) {
+  input.onchange = async () => {
+    const [file] = input.files;
+    await take(await file.text(), file.name);
+    input.value = "";
+  };
+}
+
 // What a file is, by its first line. A file without a known title is taken for a schedule, so that the engine names its fault.
 function kindOfFile(text) {
   if (text.startsWith("listset-trace")) return "trace";
@@ -42,8 +50,7 @@ export function comparedTrace(ask, trace) {
   return `a trace from a file; ${engines} gives another, from its event ${event} on`;
 }
 
-export async function openFile(file) {
-  const text = new TextDecoder().decode(new Uint8Array(await file.arrayBuffer()));
+export async function openFile(text, name) {
   const kind = kindOfFile(text);
   const isJudged = kind === "report" || kind === "calls";
   tellTrouble("");
@@ -52,9 +59,9 @@ export async function openFile(file) {
   if (kind === "calls") return announce("recorded", text);
   if (kind === "report") {
     await openReportBox();
-    return showReport(text, `The report in ${file.name}:`);
+    return showReport(text, `The report in ${name}:`);
   }
-  const task = ownTask(`from ${file.name}`);
+  const task = ownTask(`from ${name}`);
   if (kind === "schedule") return openTask(task, text, 0);
   openTrace(text, task);
 }

@@ -6,14 +6,8 @@ const isStage = ({ screen }) => screen === "stage";
 
 export function factsOf(state, { hasEngine }) {
   const { place, run, task, exercise } = state;
-  return {
-    ...place,
-    hasEngine,
-    kind: task.kind,
-    isJudging: exercise !== null,
-    isClaim: exercise?.level === "claim",
-    isBroken: run.lacks !== null,
-  };
+  const [isJudging, isClaim, isBroken] = [exercise !== null, exercise?.level === "claim", run.lacks !== null];
+  return { ...place, hasEngine, kind: task.kind, isJudging, isClaim, isBroken };
 }
 
 const isFull = ({ view }) => view === null;
@@ -37,21 +31,15 @@ export const SEEN = {
   ticks: ({ isJudging }) => !isJudging,
   judge: ({ isJudging }) => isJudging,
   "judge-moments": ({ isClaim }) => isClaim,
-  "judge-note": isFree,
   "judge-levels": ({ isBroken }) => !isBroken,
   "report-box": ({ isJudging, hasEngine }) => !isJudging && hasEngine,
   dock: (facts) => isStage(facts) && isFree(facts),
-  "run-figure": isFree,
-  "key-help-box": isFree,
-  "threads-box": isFree,
-  "table-box": isFree,
+  ...Object.fromEntries(["judge-note", "run-figure", "key-help-box", "threads-box", "table-box"].map((id) => [id, isFree])),
   "listing-box": (facts) => isFree(facts) && !facts.isBroken,
   told: isFull,
   order: isFull,
   "no-engine": ({ hasEngine }) => hasEngine === false,
 };
-
-// ---- Where the reader is: a scene, or the stage of the bench; and what is seen there.
 
 // What is seen in a state; and the activity is marked as the one that is open.
 export function showParts(state) {

@@ -59,14 +59,8 @@ export async function copyLink() {
   if (await copied(link)) tell(`The link is copied: ${shown}`);
 }
 
-export async function copied(text) {
-  try {
-    await navigator.clipboard.writeText(text);
-    return true;
-  } catch {
-    return false;
-  }
-}
+// Whether a text is copied, if the browser lets a page do that.
+export const copied = async (text) => navigator.clipboard?.writeText(text).then(() => true, () => false) ?? false;
 
 // ---- The addresses of the scenes, as #story=2, #ask=snip, #code=lazy&opening=3.7&s=b0.add.5,g0.4, #teachers, and of an assignment. Both ways.
 
@@ -123,39 +117,24 @@ const ADDRESSES = {
   assignment: addressOfAssignment,
 };
 
-// `given` has what is not of the state: the packed course, or null for the book's.
-const addressOfScene = ({ place, scene }, given) =>
-  `${(ADDRESSES[place.activity] ?? plainAddress)(place, scene, given)}${place.view === null ? "" : `&view=${place.view}`}`;
-
-// ---- The address and the title of what is shown: both follow from the state alone.
-
-function ofRun(state) {
-  const { task, run } = state;
-  if (task.kind === "own") return addressOf(run.text, run.count, run.lacks);
-  return `#${task.kind}=${task.id}&event=${run.count}`;
-}
-
 // The address of a state, from # on, or null where it has none. `given` has what is not of the state: the packed course, or null for
 // the book.
 export function addressIn(state, given) {
-  const { place, exercise } = state;
-  if (place.screen === "scene") return addressOfScene(state, given);
+  const { place, task, run, exercise } = state;
   const view = place.view === null ? "" : `&view=${place.view}`;
-  const address = ofRun(state);
+  if (place.screen === "scene") return (ADDRESSES[place.activity] ?? plainAddress)(place, state.scene, given) + view;
+  const address = task.kind === "own" ? addressOf(run.text, run.count, run.lacks) : `#${task.kind}=${task.id}&event=${run.count}`;
   return address === null ? null : `${address}${exercise === null ? "" : "&judge"}${view}`;
 }
 
-const WHOLE = "Why not just one lock?";
-
 export function titleIn(state, titleOfScene) {
-  const { place, task, run } = state;
-  const list = run.trace === null ? "" : LISTS[run.trace.kind].name;
+  const { place, task, run, exercise } = state;
   if (place.screen === "scene") return titleOfScene(place);
-  const judged = state.exercise === null ? "" : "Judge: ";
+  const list = run.trace === null ? "" : LISTS[run.trace.kind].name;
   const ofTask = {
-    example: () => `${judged}${inLetters(CLASSICS[task.id].question)}`,
-    seed: () => `${judged}Run ${partsOfSeed(task.id).number} of ${list}`,
-    own: () => `${judged}${task.work}: ${list}`,
+    example: () => inLetters(CLASSICS[task.id].question),
+    seed: () => `Run ${partsOfSeed(task.id).number} of ${list}`,
+    own: () => `${task.work}: ${list}`,
   };
-  return `${ofTask[task.kind]()} · ${WHOLE}`;
+  return `${exercise === null ? "" : "Judge: "}${ofTask[task.kind]()} · Why not just one lock?`;
 }

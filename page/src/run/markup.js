@@ -1,4 +1,5 @@
 // Elements as text, and the words that all drawings and sentences use.
+import { LISTS } from "../../made/rows.js";
 
 const SIGNS = { "&": "&amp;", "<": "&lt;", ">": "&gt;", '"': "&quot;" };
 export const escaped = (text) => String(text).replace(/[&<>"]/g, (sign) => SIGNS[sign]);
@@ -8,6 +9,9 @@ export function tag(name, attributes, ...content) {
   const given = Object.entries(attributes).map(([attribute, value]) => ` ${attribute}="${escaped(value)}"`);
   return `<${name}${given.join("")}>${content.join("")}</${name}>`;
 }
+
+export const listOptions = (chosen = "") =>
+  Object.entries(LISTS).map(([kind, { name }]) => tag("option", { value: kind, ...(kind === chosen ? { selected: "" } : {}) }, name)).join("");
 
 export const label = (attributes, text) => tag("text", attributes, escaped(text));
 export const title = (text) => tag("title", {}, escaped(text));

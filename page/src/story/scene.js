@@ -4,6 +4,7 @@
 import { change, dispatch, now } from "../page/now.js";
 import { byId, setHtml } from "../page/dom.js";
 import { copied } from "../page/visit.js";
+import { warningOf } from "../run/address.js";
 import { tag } from "../run/markup.js";
 import { Figure } from "./figure.js";
 import { isNarrow } from "./figure_parts.js";
@@ -30,7 +31,7 @@ export const setScene = (given) => dispatch("scene", given);
 
 // Copies a text and says so, or shows it, to be copied by hand.
 export async function copyText(text, words) {
-  part("#scene-told").textContent = (await copied(text)) ? words : `Copy this by hand: ${text}`;
+  part("#scene-told").textContent = ((await copied(text)) ? words : `Copy this by hand: ${text}`) + warningOf(text);
 }
 
 // What is said below the figure. What is new comes in sight, above the bar at the bottom.

@@ -2,7 +2,7 @@
 import { LACKING } from "../../made/classics.js";
 import { LISTS } from "../../made/rows.js";
 import { BREAK_LEVELS } from "../data/levels.js";
-import { escaped, tag } from "../run/markup.js";
+import { escaped, listOptions, tag } from "../run/markup.js";
 import { seedOf } from "../run/address.js";
 import { linkTo } from "../page/visit.js";
 import { QUESTIONS } from "./ask.js";
@@ -97,13 +97,12 @@ const picks = (kind, title, items) => `<fieldset><legend>${title} <button class=
 function homeworkHtml() {
   const lessons = bookCourse().lessons.map(({ name, title, list }, at) => pick("learn", name, at + 1, title, LISTS[list].name));
   const levels = allLevels().map(({ name, number }) => pick("break", number, number, LISTS[LACKING[name]].name, BREAK_LEVELS[name].story));
-  const kinds = Object.entries(LISTS).map(([kind, { name }]) => tag("option", { value: kind, ...(kind === "lazy" ? { selected: "" } : {}) }, name));
   return `<section class="panel" id="homework"><h2>Homework, as one link</h2><p class="prose">Tick tasks. The link holds all of it: it needs no server, it
     can be bookmarked, forwarded and opened on another computer, and it stays the same for ever.</p>
     <label class="wide-label">Title <input id="hw-title" value="Concurrent lists, week 1" maxlength="60"></label>
     <div class="columns">${picks("learn", "Solve", lessons)}${picks("break", "Break", levels)}
     <fieldset><legend>Judge: runs by their number</legend><p class="small">All students get the same run, and say what each call answers and where it
-      takes effect.</p><div class="line"><select id="hw-kind" aria-label="list of the run">${kinds.join("")}</select>
+      takes effect.</p><div class="line"><select id="hw-kind" aria-label="list of the run">${listOptions("lazy")}</select>
       <input id="hw-number" type="number" min="1" max="9999" value="${FIRST_NUMBER}" aria-label="number of the run">
       <button data-do="add">Add this run</button></div><ul id="hw-seeds"></ul></fieldset></div>
     <div class="made-link"><p id="hw-count" class="small"></p><pre id="hw-link" class="snippet" tabindex="0"></pre>
