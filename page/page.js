@@ -489,7 +489,6 @@ return { CLASSICS, LACKING };
 // run/trace.js
 const $run_trace = (() => {
 const HEADER_LINES = 4;
-const END = "end\n"; // the last line, if no event is refused
 const NODE_REGISTERS = ["pred", "curr", "succ", "node"];
 const KEY_REGISTERS = ["pkey", "ckey"];
 const CALL_WORDS = ["add", "remove", "contains", "ceiling"];
@@ -498,7 +497,7 @@ const MOST_NUMBER = 4294967295;
 const isTrace = (text) => text.startsWith("listset-trace");
 
 class Trace {
-  constructor(text, version = 1, before = null) {
+  constructor(text, version = 1) {
     const [, kind, lacks = null, threads, quota] =
       /^listset-trace 1\nlist (\S+)\n(?:lacks (\S+)\n)?threads (\d+)\nquota (\d+)\n/.exec(text);
     this.text = text;
@@ -514,9 +513,7 @@ class Trace {
     this.changes = []; // the events that change the set
     this.starred = []; // the numbers of those whose line tells of a mark
     this.refused = null;
-    this.before = before !== null && goesOn(this, before) ? before : null;
-    if (this.before === null) this.scan(0);
-    else this.takeOver();
+    this.scan();
     if (this.opening.length > 0) this.version = 2;
     this.order = orderOf(this.calls);
   }
@@ -525,16 +522,9 @@ class Trace {
     return this.starts.length;
   }
 
-  takeOver() {
-    const { opening, starts, calls, callsOf, changes, starred, text } = this.before;
-    const own = { opening, starts: [...starts], calls: [...calls], changes: [...changes], starred: [...starred] };
-    Object.assign(this, own, { callsOf: callsOf.map((some) => [...some]) });
-    this.scan(text.length - END.length);
-  }
-
-  scan(from) {
+  scan() {
     const { text } = this;
-    for (let at = from; at < text.length; ) {
+    for (let at = 0; at < text.length; ) {
       const end = text.indexOf("\n", at);
       const line = text.slice(at, end);
       if (line.startsWith("event ")) this.note(line, this.starts.push(at));
@@ -604,10 +594,6 @@ function tellIn(event, name, value) {
   else if (name === "put" || name === "took" || name === "at") event[name] = Number(value);
   else if (name === "pc" || name === "used") event.changes[name] = Number(value);
   else if (name !== "call") event.changes[name] = value;
-}
-
-function goesOn({ text, version }, before) {
-  return before.version === version && before.text.endsWith(`\n${END}`) && text.startsWith(before.text.slice(0, -END.length));
 }
 
 const firstOpeningNode = (trace) => 2 + trace.threads * trace.quota;
@@ -938,11 +924,6 @@ class State {
     this.nodes = openingNodes(trace);
     this.threads = Array.from({ length: trace.threads }, () => ({ ...AT_REST }));
     this.undo = [];
-  }
-
-  goOn(trace) {
-    this.trace = trace;
-    return this;
   }
 
   moveTo(count) {
@@ -1296,12 +1277,11 @@ function formOf(threads) {
   return { bar: BAR, below: BELOW, mostRows: threads > 3 ? 2 : 3 };
 }
 
-function layLabels(trace, calls, spanOf, edge, mostRows) {
+function layLabels(threads, calls, itemOf, room) {
   const places = new Map();
-  for (let thread = 0; thread < trace.threads; thread++) {
+  for (let thread = 0; thread < threads; thread++) {
     const own = calls.filter((call) => call.thread === thread);
-    const items = own.map((call) => ({ ...spanOf(call), wide: labelWidth(call) }));
-    placeLabels(items, { start: HISTORY_LEFT - 6, edge, mostRows }).forEach((place, at) => places.set(own[at].id, place));
+    placeLabels(own.map(itemOf), room).forEach((place, at) => places.set(own[at].id, place));
   }
   const found = [...places.values()].filter((place) => place !== null);
   return { places, rows: Math.max(1, ...found.map(({ row }) => row + 1)), areWhole: found.length === places.size };
@@ -1317,7 +1297,8 @@ function scaleOf(trace, count, width, hides = false) {
   const leftOf = ({ begun }) => (begun < first ? HISTORY_LEFT - 6 : x(begun));
   const rightOf = ({ ended }) => (ended === null || ended > last ? edge : x(ended));
   const spanOf = (call) => ({ left: leftOf(call), right: rightOf(call) });
-  const labels = layLabels(trace, shownIn(trace, first, last), spanOf, width, mostRows);
+  const itemOf = (call) => ({ ...spanOf(call), wide: widthOf(callText(call), call.reply ?? "") });
+  const labels = layLabels(trace.threads, shownIn(trace, first, last), itemOf, { start: HISTORY_LEFT - 6, edge: width, mostRows });
   const above = ROW_HEIGHT * (isWhole ? labels.rows : mostRows);
   const lane = above + bar + below;
   const now = hides ? count : Infinity; // the last event of which something is told
@@ -1329,8 +1310,8 @@ function scaleOf(trace, count, width, hides = false) {
 
 const isReached = (call, count) => call.at <= count && (call.changes || (call.ended !== null && call.ended <= count));
 
-function drawLane(scale, thread) {
-  const y = scale.y(thread);
+function drawLane(scale, thread, place = thread) {
+  const y = scale.y(place);
   const badge = tag("rect", { x: 2, y: y - 10, width: 38, height: 20, rx: 4 }) + label({ x: 21, y: y + 5 }, letterOf(thread));
   return (
     tag("line", { class: "lane", x1: HISTORY_LEFT - 6, x2: scale.edge, y1: y, y2: y }) +
@@ -1442,8 +1423,7 @@ const SIGNS = {
 };
 const SIGNS_IN_WORDS = "+5 add, \u22125 remove, 5? contains, \u23085\u2309 ceiling of 5; more by a click on a bar";
 const signOf = ({ operation, key }) => SIGNS[operation](key);
-const labelWidth = (call) => widthOf(callText(call), call.reply ?? "");
-return { HISTORY_LEFT, scaleOf, isReached, drawCursor, drawCalls, ROW_HEIGHT, widthOf, placeLabels, signOf };
+return { HISTORY_LEFT, layLabels, scaleOf, isReached, drawLane, drawCursor, drawCalls, ROW_HEIGHT, widthOf, signOf };
 })();
 
 // draw/contents.js
@@ -3129,9 +3109,7 @@ const told = { text: "", html: "" };
 
 function takeTrace(trace, at, source) {
   const { refused } = trace;
-  const state = trace.before !== null && trace.before === now.run.trace ? now.run.state.goOn(trace) : new State(trace);
-  trace.before = null; // its text is not kept any longer
-  change("trace", { trace, state, source, count: typeof at === "function" ? at(trace) : at });
+  change("trace", { trace, state: new State(trace), source, count: typeof at === "function" ? at(trace) : at });
   announce("taken", trace);
   tellFault(now.run.faultLine, refused?.cause ?? "", refused === null ? "" : `line ${refused.line}: ${refused.cause}`, false);
   tell("");
@@ -4786,7 +4764,7 @@ function runText(text, at, told = "") {
 
 function takeAnswer(answer, text, at, told) {
   const source = now.run.lacks === null ? "run by the proved replayer" : "a run of a broken list";
-  if (isTrace(answer.text)) takeTrace(new Trace(answer.text, versionOf(text), now.run.trace), at, source);
+  if (isTrace(answer.text)) takeTrace(new Trace(answer.text, versionOf(text)), at, source);
   else tellLine(answer.text.trim());
   tell(works.isKept ? told : `${told} This browser keeps nothing: save the schedule before you leave the page.`);
   announce("ran");
@@ -7132,12 +7110,6 @@ class Figure {
     return own.slice(this.run.trace.calls.filter((call) => call.thread === thread).length);
   }
 
-  reset() {
-    this.run.take(this.run.first);
-    Object.assign(this, { past: [], told: null, isLost: false });
-    this.draw();
-  }
-
   leaves() {
     this.onFork?.(this);
     this.past.push([...this.run.lines]);
@@ -7221,7 +7193,9 @@ class Figure {
 
   again() {
     if (this.isBusy) return;
-    this.reset();
+    this.run.take(this.run.first);
+    Object.assign(this, { past: [], told: null, isLost: false });
+    this.draw();
     this.onStep?.(this);
   }
 
@@ -7916,10 +7890,9 @@ return { learning };
 // draw/judged.js
 const $draw_judged = (() => {
 const { lastMoment, nameOfCall } = $run_judged;
-const { callText, chipOf, colourOf, escaped, label, letterOf, tag, title } = $run_markup;
+const { callText, chipOf, colourOf, escaped, label, tag, title } = $run_markup;
 const { recordedInWords } = $run_recorded;
-const { placeLabels, ROW_HEIGHT, signOf, widthOf } = $draw_history;
-const JUDGE_LEFT = 50;
+const { drawLane, HISTORY_LEFT, layLabels, ROW_HEIGHT, signOf, widthOf } = $draw_history;
 const JUDGE_RIGHT = 20;
 const JUDGE_BAR = 30;
 const JUDGE_BELOW = 8; // pixels between a bar and the labels of the next lane
@@ -7936,34 +7909,25 @@ function widthOfCall(call) {
 }
 
 function judgeScale({ last, threads, calls }, width) {
-  const step = (width - JUDGE_LEFT - JUDGE_RIGHT) / last;
-  const across = { step, last, x: (moment) => JUDGE_LEFT + (moment - 0.5) * step };
-  const labels = new Map();
-  for (let thread = 0; thread < threads; thread++) {
-    const own = calls.filter((call) => call.thread === thread).sort((one, other) => one.begun - other.begun);
-    const items = own.map((call) => ({ left: leftOf(call, across), right: rightOf(call, across), wide: widthOfCall(call) }));
-    placeLabels(items, { start: 2, edge: width, mostRows: MOST_ROWS }).forEach((place, at) => labels.set(own[at].id, place));
-  }
-  const above = ROW_HEIGHT * Math.max(1, ...[...labels.values()].map((place) => (place?.row ?? 0) + 1)) + 4;
+  const step = (width - HISTORY_LEFT - JUDGE_RIGHT) / last;
+  const across = { step, last, x: (moment) => HISTORY_LEFT + (moment - 0.5) * step };
+  const itemOf = (call) => ({ left: leftOf(call, across), right: rightOf(call, across), wide: widthOfCall(call) });
+  const inOrder = [...calls].sort((one, other) => one.begun - other.begun);
+  const { places: labels, rows } = layLabels(threads, inOrder, itemOf, { start: 2, edge: width, mostRows: MOST_ROWS });
+  const above = ROW_HEIGHT * rows + 4;
   const lane = above + JUDGE_BAR + JUDGE_BELOW;
   return {
     ...across,
     width,
+    edge: width - JUDGE_RIGHT,
     labels,
     height: 4 + threads * lane,
     y: (thread) => 2 + thread * lane + above + JUDGE_BAR / 2,
-    momentAt: (x) => (x - JUDGE_LEFT) / step + 0.5,
+    momentAt: (x) => (x - HISTORY_LEFT) / step + 0.5,
   };
 }
 
 const momentInWords = (at) => (Number.isInteger(at) ? `at ${at}` : `after ${Math.floor(at)}`);
-
-function drawJudgedLane(scale, place, thread = place) {
-  const y = scale.y(place);
-  const badge = tag("rect", { x: 2, y: y - 10, width: 38, height: 20, rx: 4 }) + label({ x: 21, y: y + 5 }, letterOf(thread));
-  const lane = { class: "lane", x1: JUDGE_LEFT - 6, x2: scale.width - JUDGE_RIGHT, y1: y, y2: y };
-  return tag("line", lane) + tag("g", { class: `badge ${colourOf(thread)}` }, badge);
-}
 
 const OPEN = "(pending)";
 const saidOf = (call, answer) => (call.ended === null ? OPEN : (answer.replyOf(call) ?? "?"));
@@ -8014,7 +7978,7 @@ function drawRecorded(calls, from, width) {
     const still = { class: `bar own still ${colourOf(threads[call.thread])}${call.ended === null ? " open" : ""}` };
     return tag("g", still, title(recordedInWords(calls[call.id])), bar);
   });
-  const lanes = threads.map((thread, at) => drawJudgedLane(scale, at, thread));
+  const lanes = threads.map((thread, at) => drawLane(scale, thread, at));
   const below = from === null ? 0 : ROW_HEIGHT;
   const frame = { ...frameOf({ ...scale, height: scale.height + below }), role: "img", "aria-label": calls.map(nameOfCall).join(", ") };
   return tag("svg", frame, ...lanes, from === null ? "" : drawFrom(from.says, scale, momentOf(from.moment)), ...bars);
@@ -8042,7 +8006,7 @@ function drawWhen(call, at, y, scale) {
 
 function drawJudged(judged) {
   const { exercise, scale, moment } = judged;
-  const lanes = Array.from({ length: exercise.threads }, (_, thread) => drawJudgedLane(scale, thread));
+  const lanes = Array.from({ length: exercise.threads }, (_, thread) => drawLane(scale, thread));
   const at = exercise.level === "claim" ? moment : judged.count;
   const line = { class: "cursor", x1: scale.x(at), x2: scale.x(at), y1: 0, y2: scale.height };
   const frame = { ...frameOf(scale), role: "group", "aria-label": "the calls, each with a point to place" };

@@ -1,5 +1,4 @@
-// The bench: the run in a figure at the event that is shown, the bar that moves it, and below, while they are unfolded, the threads'
-// registers, the step table and the proved code.
+// The bench: the run at the event that is shown, the bar that moves it, its question above it, and below it what is unfolded.
 import { LISTS } from "../../made/rows.js";
 import { anotherSeed, partsOfSeed, scheduleOfSeed, seedOf } from "../run/address.js";
 import { escaped, listOptions } from "../run/markup.js";

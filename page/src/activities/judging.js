@@ -1,5 +1,4 @@
-// The panel in which the reader judges the run that is shown: it stands in the place of the history and of the order. The bars on
-// which points are put, the replies, the verdict. Of a broken list the report alone is judged, as a claim.
+// The panel in which the reader judges the run that is shown. Of a broken list the report alone is judged, as a claim.
 import { CLASSICS } from "../../made/classics.js";
 import { drawJudged, drawOwnOrder, judgeScale, momentOfReport } from "../draw/judged.js";
 import { byId, redraw } from "../page/dom.js";

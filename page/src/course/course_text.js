@@ -1,5 +1,4 @@
-// Lessons as text, so that a teacher writes them without a script. A course is a title line, its name, and one lesson after
-// another; the head of book.course tells of each word. Each fault is told by its line.
+// Lessons as text; the head of book.course tells of each word. Each fault is told by its line.
 import { LACKING } from "../../made/classics.js";
 import { AddressFault, LONGEST_ADDRESS } from "../run/address.js";
 import { GoalFault, readGoal } from "./goal_words.js";

@@ -1,6 +1,5 @@
-// The goals of lessons, in words. A goal is a list of lines, each of which finds something in the run (a call, a step, a time in
-// which a thread rests) and gives it a name, or asks for a number of such things, or for more of one that has a name. A line
-// `say ..` is a condition as the student reads it: it is met where all lines above it can be met at once. book.course has a list.
+// The goals of lessons, in words: each line finds something in the run and may name it; a line `say ..` is met where all lines above it can
+// be met at once. book.course has a list.
 import { isFailed, isLock, ownerIn } from "../run/outcomes.js";
 import { State } from "../run/state.js";
 

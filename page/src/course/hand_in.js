@@ -22,8 +22,6 @@ import { judged, missingIn, MOST_EVENTS } from "./lesson.js";
 
 const HAND_IN_TITLE = "listset-lessons 2";
 
-// The text with these solutions, each with the name of its lesson and its schedule, and these lines about runs that were judged and
-// lists that were broken.
 export function handInText(course, student, solutions, otherLines) {
   const lines = solutions.map(({ name, schedule }) => `${name} ${addressOf(schedule, eventsAsked(schedule))}`);
   return [HAND_IN_TITLE, `course ${course}`, `student ${student}`, ...lines, ...otherLines, "end", ""].join("\n");

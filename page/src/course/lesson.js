@@ -1,5 +1,4 @@
-// What a lesson says of a schedule: whether it is a solution, which conditions of the goal its run meets, and why none is looked
-// at. A lesson is tried when it is read: its start does not reach its goal, and its answer does.
+// What a lesson says of a schedule. A lesson is tried when it is read: its start does not reach its goal, and its answer does.
 import { readFault, sentenceOn } from "../engine/answers.js";
 import { askList, TO_BREAK, verdictOnLacking } from "../run/broken.js";
 import { eventsAsked, scheduleOfDraft, scheduleText, versionOf } from "../run/schedule_text.js";

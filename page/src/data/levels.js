@@ -1,6 +1,5 @@
-// Break it: of each list that lacks a check a story, three hints, what it lacks, and two sentences that are not so, each with the reply
-// to it; the calls that A and B begin with; what is struck out of the code (of the line of a row); and the events and calls of the
-// schedule in examples/schedules/lacks. Who links to a level, or sets it as homework, names its number, the place here: none is given anew.
+// Break it: of each list that lacks a check its story, hints, what it lacks, what is not so and the reply to that, the first calls, the events
+// and calls of the shortest run known, and what is struck out of the code. A level is linked by its number, its place here: none is given anew.
 
 export const BREAK_LEVELS = {
   lock: {

@@ -1,5 +1,4 @@
-// Gentle changes of a drawing: what has a name (data-part) moves from where it stood, what is new comes in, and an arrow that leads
-// elsewhere draws itself. The drawing is complete at once: this only plays over it, and not for who asks for less motion.
+// Gentle changes of a drawing, which is complete at once: what has a name (data-part) glides over it from where it stood.
 
 const TIME = 260; // milliseconds
 const EASE = { duration: TIME, easing: "cubic-bezier(.2, .7, .2, 1)" };

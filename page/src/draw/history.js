@@ -27,12 +27,11 @@ function formOf(threads) {
 }
 
 // The labels of the calls that are drawn, by the numbers of the calls, and how many rows they take.
-function layLabels(trace, calls, spanOf, edge, mostRows) {
+export function layLabels(threads, calls, itemOf, room) {
   const places = new Map();
-  for (let thread = 0; thread < trace.threads; thread++) {
+  for (let thread = 0; thread < threads; thread++) {
     const own = calls.filter((call) => call.thread === thread);
-    const items = own.map((call) => ({ ...spanOf(call), wide: labelWidth(call) }));
-    placeLabels(items, { start: HISTORY_LEFT - 6, edge, mostRows }).forEach((place, at) => places.set(own[at].id, place));
+    placeLabels(own.map(itemOf), room).forEach((place, at) => places.set(own[at].id, place));
   }
   const found = [...places.values()].filter((place) => place !== null);
   return { places, rows: Math.max(1, ...found.map(({ row }) => row + 1)), areWhole: found.length === places.size };
@@ -49,7 +48,8 @@ export function scaleOf(trace, count, width, hides = false) {
   const leftOf = ({ begun }) => (begun < first ? HISTORY_LEFT - 6 : x(begun));
   const rightOf = ({ ended }) => (ended === null || ended > last ? edge : x(ended));
   const spanOf = (call) => ({ left: leftOf(call), right: rightOf(call) });
-  const labels = layLabels(trace, shownIn(trace, first, last), spanOf, width, mostRows);
+  const itemOf = (call) => ({ ...spanOf(call), wide: widthOf(callText(call), call.reply ?? "") });
+  const labels = layLabels(trace.threads, shownIn(trace, first, last), itemOf, { start: HISTORY_LEFT - 6, edge: width, mostRows });
   const above = ROW_HEIGHT * (isWhole ? labels.rows : mostRows);
   const lane = above + bar + below;
   const now = hides ? count : Infinity; // the last event of which something is told
@@ -62,8 +62,8 @@ export function scaleOf(trace, count, width, hides = false) {
 // A point is reached once the call that has it is known to stand there: at its change, or when it answers.
 export const isReached = (call, count) => call.at <= count && (call.changes || (call.ended !== null && call.ended <= count));
 
-function drawLane(scale, thread) {
-  const y = scale.y(thread);
+export function drawLane(scale, thread, place = thread) {
+  const y = scale.y(place);
   const badge = tag("rect", { x: 2, y: y - 10, width: 38, height: 20, rx: 4 }) + label({ x: 21, y: y + 5 }, letterOf(thread));
   return (
     tag("line", { class: "lane", x1: HISTORY_LEFT - 6, x2: scale.edge, y1: y, y2: y }) +
@@ -149,8 +149,7 @@ export function drawCalls(trace, scale) {
   return tag("svg", frame, ...lanes, drawCursor(scale, height, scale.y(0) - scale.bar / 2 - 2), ...stems, ...bars, ...points, signs);
 }
 
-// ---- Where the words of calls are written above their bars: whole, in as few rows as keep them apart. The places follow from the whole run,
-// and not from the event that is shown, so that nothing jumps.
+// ---- the words of calls above their bars: their places follow from the whole run, so that nothing jumps
 
 const LETTER = 7.1; // pixels of a letter of a label
 const BOLD = 8; // and of one of a reply
@@ -162,7 +161,7 @@ export const widthOf = (text, reply = "") => LETTER * text.length + (reply === "
 // Of each item, { left, right, wide } in the order of their left ends, its place { x, row }, where row 0 is next to the bar; null if
 // no row has space. A label begins at the left end of its bar, in the first row that is free there, or else ends at its right end; it
 // moves to the left if the drawing ends. `start` is the left edge of the drawing, `edge` the right one.
-export function placeLabels(items, { start, edge, mostRows }) {
+function placeLabels(items, { start, edge, mostRows }) {
   const taken = Array.from({ length: mostRows }, () => start);
   return items.map(({ left, right, wide }) => {
     for (const x of [Math.min(left, edge - wide), Math.min(right, edge) - wide]) {
@@ -184,4 +183,3 @@ const SIGNS = {
 };
 const SIGNS_IN_WORDS = "+5 add, \u22125 remove, 5? contains, \u23085\u2309 ceiling of 5; more by a click on a bar";
 export const signOf = ({ operation, key }) => SIGNS[operation](key);
-const labelWidth = (call) => widthOf(callText(call), call.reply ?? "");

@@ -1,5 +1,4 @@
-// Draws the listing: the proved code of the open calls, each thread at its line. A call that has no loop of its own is made by the
-// interpreter: of it the rows of the table.
+// Draws the proved code of the open calls, each thread at its line; of a call without a loop of its own the rows of the table.
 import { CODE, CODE_OF } from "../../made/code.js";
 import { LISTS } from "../../made/rows.js";
 import { callText, chipOf, escaped, tag } from "../run/markup.js";

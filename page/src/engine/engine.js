@@ -50,8 +50,7 @@ export class Engine {
   }
 }
 
-// The bytes of the module. A page that is opened as a file may fetch nothing, and takes them from engine.js; a page that is one file
-// has that script in it.
+// The bytes of the module: of a page that is opened as a file, or is one file, those of engine.js.
 async function engineBytes() {
   if (typeof ENGINE === "undefined" && location.protocol === "file:") await loadScript("engine.js");
   if (typeof ENGINE !== "undefined") return Uint8Array.from(atob(ENGINE), (letter) => letter.charCodeAt(0));
@@ -77,8 +76,7 @@ export function answerOf(engine, name, given) {
   return { status: answer.status, text: new TextDecoder().decode(answer.bytes), bytes: answer.bytes };
 }
 
-// Each text in memory, as its block and its length: as many as a function with so many parameters takes. The last three
-// parameters are the room's block and length, and the status.
+// Each text in memory, as its block and its length; the last three parameters are the room's block and length, and the status.
 export function textsOf(engine, parameters, given) {
   return Array.from({ length: (parameters - 3) / 2 }, (_, at) => {
     const text = given[at] ?? new Uint8Array(0);

@@ -88,8 +88,7 @@ export function placeParts() {
   place();
 }
 
-// ---- What can be opened by its name: the reader's works and the classic examples; and the question of the example that
-// is shown, with the events at which it turns.
+// ---- what can be opened by its name, and the question of the example that is shown
 
 const WORK = "work: ";
 

@@ -139,8 +139,7 @@ export function refreshReport() {
   if (byId("report-box").open && held.engine !== null) showOwnReport(now.run.text);
 }
 
-// ---- The list and the history as one picture in a file of its own: an SVG whose colours and letters are written out, for a slide or a
-// paper.
+// ---- the list and the history as one picture in a file of its own
 
 const DRAWN_BY = ["fill", "stroke", "stroke-width", "stroke-dasharray", "fill-opacity", "stroke-opacity", "opacity", "font-family",
   "font-size", "font-weight", "font-style", "text-anchor", "paint-order", "text-decoration-line"];

@@ -1,5 +1,4 @@
-// What is kept in this browser from one visit to the next: each schedule that the reader made, under a name and with the task it is for,
-// and where the reader was. Nothing takes the place of another work.
+// What is kept in this browser: each schedule that the reader made, under a name of its own and with its task, and where the reader was.
 import { BOOK_NAME } from "../../made/book.js";
 import { CLASSICS } from "../../made/classics.js";
 import { byId } from "./dom.js";

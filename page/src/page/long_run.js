@@ -1,5 +1,4 @@
-// Long runs: the engine works in a worker if the browser can start one, so that the run can be cancelled. If it cannot, the page says
-// that it runs, before it does.
+// Long runs: the engine works in a worker if the browser can start one, so that the run can be cancelled.
 import { answerInRoom, answerOf, blockOf, Engine, FIRST_ROOM, LARGE_MEMORY, textsOf } from "../engine/engine.js";
 import { eventsAsked } from "../run/schedule_text.js";
 import { byId } from "./dom.js";
@@ -59,8 +58,7 @@ export function cancelLong() {
 
 const EVENT_ROOM = 96; // bytes of a trace's line, so that the engine is asked once
 
-// The text of the worker's program: the functions of engine.js, with so much room for the answer. (A page that is opened as a file
-// may not start a worker from a file.)
+// The worker's program is a text, since a page that is opened as a file may not start a worker from a file.
 const workerText = (room) => `"use strict";
 const FIRST_ROOM = ${room};
 const LARGE_MEMORY = ${LARGE_MEMORY};

@@ -1,5 +1,4 @@
-// The state of the page as it is now, and what changes it. Each change is an action of state.js; then all is drawn anew by one render.
-// No other module of the page but dom.js and state.js is imported here, and so none has to be imported in a circle.
+// The state of the page as it is now, and what changes it: each change is an action of state.js; then all is drawn anew by one render.
 import { readFault, sentenceOn } from "../engine/answers.js";
 import { LEVELS } from "../run/judged.js";
 import { scheduleOfTrace } from "../run/schedule_text.js";
@@ -54,9 +53,7 @@ const told = { text: "", html: "" };
 // Shows a trace at an event, or where a function of it says.
 export function takeTrace(trace, at, source) {
   const { refused } = trace;
-  const state = trace.before !== null && trace.before === now.run.trace ? now.run.state.goOn(trace) : new State(trace);
-  trace.before = null; // its text is not kept any longer
-  change("trace", { trace, state, source, count: typeof at === "function" ? at(trace) : at });
+  change("trace", { trace, state: new State(trace), source, count: typeof at === "function" ? at(trace) : at });
   announce("taken", trace);
   tellFault(now.run.faultLine, refused?.cause ?? "", refused === null ? "" : `line ${refused.line}: ${refused.cause}`, false);
   tell("");

@@ -73,8 +73,7 @@ function goToTurn(step) {
   goByHand(count);
 }
 
-// ---- The keys of the page. Letters and digits can be switched off: whoever speaks to a computer, or types without looking, may not
-// want them.
+// ---- the keys; letters and digits can be switched off
 
 export const keysOf = { scene: (event) => event }; // what keys do in a scene
 

@@ -62,7 +62,7 @@ export async function copyLink() {
 // Whether a text is copied, if the browser lets a page do that.
 export const copied = async (text) => navigator.clipboard?.writeText(text).then(() => true, () => false) ?? false;
 
-// ---- The addresses of the scenes, as #story=2, #ask=snip, #code=lazy&opening=3.7&s=b0.add.5,g0.4, #teachers, and of an assignment. Both ways.
+// ---- the addresses of the scenes
 
 const SCENES = ["assignment", "story", "ask", "code", "teachers"]; // run/address.js reads the others, with their schedules
 const SCENE_VIEWS = ["lecture", "embed"];
@@ -117,8 +117,7 @@ const ADDRESSES = {
   assignment: addressOfAssignment,
 };
 
-// The address of a state, from # on, or null where it has none. `given` has what is not of the state: the packed course, or null for
-// the book.
+// The address of a state, or null where it has none. `given` has the packed course, or null for the book.
 export function addressIn(state, given) {
   const { place, task, run, exercise } = state;
   const view = place.view === null ? "" : `&view=${place.view}`;

@@ -10,8 +10,7 @@ import { MANY_EVENTS, runLong, stopLong } from "./long_run.js";
 import { announce, askNow, change, held, NO_ENGINE, now, takeScheduleOfTrace, takeTrace, tell, tellFault, tellLine } from "./now.js";
 import { stopPlay } from "./play.js";
 
-// What is made from now on is for this task: it is kept under its name, once it is another text than the one with which the task
-// began; it is run on the whole list, or on a broken one.
+// What is made from now on is kept for this task, once it is another text than the one with which the task began.
 export function beginTask(task, lacks = null) {
   keepWork();
   change("task", { task, lacks });
@@ -84,7 +83,7 @@ function runText(text, at, told = "") {
 
 function takeAnswer(answer, text, at, told) {
   const source = now.run.lacks === null ? "run by the proved replayer" : "a run of a broken list";
-  if (isTrace(answer.text)) takeTrace(new Trace(answer.text, versionOf(text), now.run.trace), at, source);
+  if (isTrace(answer.text)) takeTrace(new Trace(answer.text, versionOf(text)), at, source);
   else tellLine(answer.text.trim());
   tell(works.isKept ? told : `${told} This browser keeps nothing: save the schedule before you leave the page.`);
   announce("ran");

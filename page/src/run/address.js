@@ -63,8 +63,7 @@ function isAddressOf(address, text) {
   }
 }
 
-// What an address names: an example, a text, a course or two lists, each null where it names none; the event, the list that lacks a
-// check, and the view.
+// What an address names, each null where it names none; and the event.
 export function readAddress(hash) {
   const { view = null, course = null, lacks: which, seed = null, ...rest } = partsOf(hash);
   const { place, isJudged, parts } = placeOf(rest, seed);
@@ -139,8 +138,7 @@ export function partsOfSeed(seed) {
   return { kind, threads, calls, keys, number };
 }
 
-// The schedule of a seed: of those that the engine makes for it, one after the other, the first that is worth a look. Which one that
-// is follows from the engine's traces alone, and so it is the same for everyone.
+// The schedule of a seed: of those that the engine makes for it the first that is worth a look, the same for everyone.
 export function scheduleOfSeed(ask, seed) {
   const { kind, threads, calls, keys, number } = partsOfSeed(seed);
   const tries = calls > MOST_TRIED_CALLS ? 1 : TRIES;

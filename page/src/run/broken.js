@@ -26,8 +26,7 @@ export const askList = (ask, name, lacks, text) =>
 
 export const startOfLacking = (name) => scheduleText({ list: LACKING[name], threads: 2, quota: 2, opening: [3, 7] });
 
-// What is said of the run of a schedule on such a list: broken; points, if its own order alone is refused; explained; or refused if it
-// is no run.
+// What is said of the run of a schedule: it is broken; points, if its own order alone is refused; explained; or refused.
 export function verdictOnLacking(ask, lacks, schedule) {
   const { status, text } = askList(ask, "listset_replay", lacks, schedule);
   if (status !== 0) return { kind: "refused", says: `The schedule is refused: ${text.trim()}`, report: null };
@@ -41,8 +40,6 @@ export function verdictOnLacking(ask, lacks, schedule) {
   return { kind: "points", says: `${BY_POINTS} ${verdict.kind === "another" ? OTHER : UNKNOWN}`, report: text };
 }
 
-// Why no order explains a report, in words: the key, the event after which it is there or is not, and the few calls that have no order
-// from there.
 function whyNone(text, { key, moment, since, isThere, calls }) {
   if (key === null) return "no order leaves these keys, which do not increase";
   const isLeft = moment === null;

@@ -1,5 +1,4 @@
-// Whether a text from a file is a trace: the first line that is none by the grammar of docs/TEXTS.md is named, or the first event that
-// cannot come where it stands.
+// Whether a text from a file is a trace: the first line that is none (docs/TEXTS.md) is named, or the first event that cannot come there.
 import { LACKING } from "../../made/classics.js";
 import { LISTS } from "../../made/rows.js";
 import { State } from "./state.js";

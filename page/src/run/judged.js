@@ -108,8 +108,7 @@ export function verdictOn(ask, answer) {
   return { isRight: false, clash, report, says: faultInWords(answer, order) };
 }
 
-// A claim that there is no order is judged by what is proved, not by a search: each run of the replayer has an order, and of another
-// report the engine's record says what is known.
+// A claim that there is no order is judged by what is proved, not by a search.
 function verdictOnClaim(ask, { isWhole, reportText }) {
   const said = (isRight, says) => ({ isRight, clash: null, report: null, says });
   const there = "There is one: this is a run of a correct list, and each of those has an order (proved). Find it.";

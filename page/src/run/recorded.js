@@ -78,8 +78,7 @@ function troubleInWords(ask, { cause, says }) {
   return why === null ? says : `${says}: ${why}.`;
 }
 
-// The judge's record on the text (listset_judge_record): of which kind it is, a sentence, its reasons, and the calls to draw; those of a
-// refusal with the moment from which they have no order, and what the key is there.
+// What the judge says of a text, in words, and the calls to draw; those of a refusal with the moment from which they have no order.
 export function verdictOnCalls(ask, answer, text) {
   const judged = readVerdict(answer);
   if (judged.kind === "ok") return verdictOfOk(judged, text);

@@ -1,5 +1,4 @@
-// The texts of schedules: that of a trace's events, and its opening keys; and drafts, in which a line may say `go T out` or
-// `go T to ROW`, on whole lists and broken ones.
+// The texts of schedules; and drafts, in which a line may say `go T out` or `go T to ROW`, on whole lists and broken ones.
 import { HEADER_LINES, isTrace, Trace } from "./trace.js";
 
 // The text of a schedule, or of a draft, with these lines. Opening keys and ceilings want the second version.
@@ -53,8 +52,7 @@ export function eventsAsked(text) {
 const MOST_TRIED = 1000; // steps of a thread that does not come to where it is sent, to see for what it waits
 const DRAFT_LINE = /^go \d+ (?:out|to \d+)$/m;
 
-// The schedule of a text in which a line may say `go T out` or `go T to ROW`, as the engine writes it; or the engine's line about
-// the first fault. A text without such a line is its own schedule. The engine knows drafts of whole lists alone.
+// The schedule of a draft, or the engine's line about its first fault. The engine knows drafts of whole lists alone.
 export function scheduleOfDraft(ask, text, lacks = null) {
   if (!DRAFT_LINE.test(text)) return { text, fault: null };
   if (lacks !== null) return scheduleOfLackingDraft(ask, lacks, text);
@@ -62,8 +60,7 @@ export function scheduleOfDraft(ask, text, lacks = null) {
   return made.status === 0 ? { text: made.text, fault: null } : { text: null, fault: made.text.trim() };
 }
 
-// How many steps of a thread, after the lines of this schedule, end its call or lead to a row; or why none do, as the engine says
-// it of a draft. What such a list does says its trace.
+// How many steps of a thread, after these lines, end its call or lead to a row; or why none do.
 function stepsOfLacking(ask, lacks, lines, thread, row) {
   const fault = (cause) => ({ count: null, fault: `listset: line ${lines.length + 1}: ${cause}` });
   const { text } = ask("listset_lacking", lacks, `${[...lines, `go ${thread} ${MOST_TRIED}`].join("\n")}\n`, "trace");

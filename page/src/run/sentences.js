@@ -1,5 +1,4 @@
-// One sentence about an event: what it did, and what comes of it. Both follow from the line of the trace, from what the thread
-// held before and holds after, and from the column "Then" of the table's row (rows.js).
+// One sentence about an event: what it did, and what comes of it.
 import { LISTS } from "../../made/rows.js";
 import { callText, chipOf, holderOf, letterOf, said } from "./markup.js";
 import { hasInChain, isFailed, isLock, mono, OUTCOMES, ownerIn, setsMark } from "./outcomes.js";

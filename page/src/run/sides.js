@@ -1,5 +1,4 @@
-// Two lists side by side: one program of calls, and each list with a schedule of its own. A turn of a thread makes its next step in
-// both; one whose call has answered waits for the other, and then both begin the next call. Each is a run by the engine.
+// Two lists side by side: one program of calls. A turn of a thread makes its next step in both; who has answered waits for the other.
 import { scheduleText } from "./schedule_text.js";
 import { letterOf } from "./markup.js";
 import { State } from "./state.js";

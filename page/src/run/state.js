@@ -1,5 +1,4 @@
-// The words, the threads and the chain after so many events of a trace. No step is computed here: each event's line says
-// what was written and what its thread holds then.
+// The words, the threads and the chain after so many events of a trace, as each event's line tells.
 import { firstOpeningNode } from "./trace.js";
 
 // Where a thread's call stands: the row that it made last (0: none), and its registers.
@@ -23,12 +22,6 @@ export class State {
     this.nodes = openingNodes(trace);
     this.threads = Array.from({ length: trace.threads }, () => ({ ...AT_REST }));
     this.undo = [];
-  }
-
-  // The state of a trace that goes on where this one's ends: what was made is not made again.
-  goOn(trace) {
-    this.trace = trace;
-    return this;
   }
 
   moveTo(count) {

@@ -1,8 +1,6 @@
-// A trace (the text of `listset trace`) as the engine prints it. One pass finds its lines, its calls and what changes the set; an
-// event is read when it is asked for. A trace from a file is checked before (check_trace.js).
+// A trace (the text of `listset trace`) as the engine prints it. An event is read when it is asked for.
 
 export const HEADER_LINES = 4;
-const END = "end\n"; // the last line, if no event is refused
 export const NODE_REGISTERS = ["pred", "curr", "succ", "node"];
 export const KEY_REGISTERS = ["pkey", "ckey"];
 export const CALL_WORDS = ["add", "remove", "contains", "ceiling"];
@@ -12,8 +10,7 @@ export const isTrace = (text) => text.startsWith("listset-trace");
 
 export class Trace {
   // The version is that of the schedule's text: the one that is given, and the second where there are opening keys or a ceiling.
-  // If the trace goes on where another one ends, what was read of that is taken over, with its calls; that one is not used any more.
-  constructor(text, version = 1, before = null) {
+  constructor(text, version = 1) {
     const [, kind, lacks = null, threads, quota] =
       /^listset-trace 1\nlist (\S+)\n(?:lacks (\S+)\n)?threads (\d+)\nquota (\d+)\n/.exec(text);
     this.text = text;
@@ -29,9 +26,7 @@ export class Trace {
     this.changes = []; // the events that change the set
     this.starred = []; // the numbers of those whose line tells of a mark
     this.refused = null;
-    this.before = before !== null && goesOn(this, before) ? before : null;
-    if (this.before === null) this.scan(0);
-    else this.takeOver();
+    this.scan();
     if (this.opening.length > 0) this.version = 2;
     this.order = orderOf(this.calls);
   }
@@ -40,16 +35,9 @@ export class Trace {
     return this.starts.length;
   }
 
-  takeOver() {
-    const { opening, starts, calls, callsOf, changes, starred, text } = this.before;
-    const own = { opening, starts: [...starts], calls: [...calls], changes: [...changes], starred: [...starred] };
-    Object.assign(this, own, { callsOf: callsOf.map((some) => [...some]) });
-    this.scan(text.length - END.length);
-  }
-
-  scan(from) {
+  scan() {
     const { text } = this;
-    for (let at = from; at < text.length; ) {
+    for (let at = 0; at < text.length; ) {
       const end = text.indexOf("\n", at);
       const line = text.slice(at, end);
       if (line.startsWith("event ")) this.note(line, this.starts.push(at));
@@ -122,11 +110,6 @@ function tellIn(event, name, value) {
   else if (name === "put" || name === "took" || name === "at") event[name] = Number(value);
   else if (name === "pc" || name === "used") event.changes[name] = Number(value);
   else if (name !== "call") event.changes[name] = value;
-}
-
-// Whether a trace begins with all events of one that has ended.
-function goesOn({ text, version }, before) {
-  return before.version === version && before.text.endsWith(`\n${END}`) && text.startsWith(before.text.slice(0, -END.length));
 }
 
 // The nodes of the opening keys come after the slots of all threads.

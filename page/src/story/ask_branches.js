@@ -41,8 +41,7 @@ function freshBox() {
   return box;
 }
 
-// ---- What if: a run of a question may be changed from any moment on. The question stays above, each branch is kept, and one press leads
-// back. Beside them the same run, or another one, on a list that lacks the check.
+// ---- what if: a run of a question may be changed from any moment on, and each branch is kept
 
 function takeOwnBranch(branch) {
   const figure = takeBranch({ ...branch, isFree: true });

@@ -1,5 +1,4 @@
-// Ask, then show: a run stops at its question; the reader says what comes; the run plays on, and the reply says why. Then it may be
-// changed (ask_branches.js).
+// Ask, then show: a run stops at its question; the reader says what comes; the run plays on, and the reply says why.
 import { now } from "../page/now.js";
 import { QUESTIONS } from "./ask.js";
 import { ALL, drawBranches, goBack, isEmbed, itemOf, openBranch, seeAgain, takeBranch, talkOfBranch, whatIf, withoutCheck } from "./ask_branches.js";

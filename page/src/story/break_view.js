@@ -1,5 +1,4 @@
-// Break it: a list lacks one check. Let the threads step until no order of the calls explains their answers; then say which check is
-// missing. It is struck out of the code then, and the winning run is played once more.
+// Break it: the threads step until no order of the calls explains their answers; then the reader says which check is missing.
 import { LACKING } from "../../made/classics.js";
 import { LISTS } from "../../made/rows.js";
 import { BREAK_LEVELS, TEN, levelOfNumber, numberOfLevel, whyWrong } from "../data/levels.js";

@@ -1,5 +1,4 @@
-// The algorithm beside the picture, and the way to step: a thread stands at a line; that line makes it step, another line of it lets it
-// run there. `plain` leaves out the lines of the lock.
+// The algorithm beside the picture, and the way to step: each line is a button. `plain` leaves out the lines of the lock.
 import { chipOf, colourOf, escaped, letterOf, tag } from "../run/markup.js";
 
 const WORDS = /\b(while|if|else|return|start again|loop|until|unlock|lock|find|validate|CAS|mark|new)\b/g;
@@ -60,9 +59,8 @@ function drawOwnLine({ text, rows = [], isPlain = false }, { next, made, fresh =
 /** @param {CodeSpec} spec */
 export const drawOwnCode = (spec) => tag("ol", { class: "steps" }, ...linesShown(spec).map((line) => drawOwnLine(line, spec)));
 
-// ---- The algorithm of each list in ten to fifteen lines, as the book's listings have it: for show beside the picture. Each line has the
-// rows of the table (rows.js) that it stands for; each row of a list stands on one line. A line without rows is a heading. `of` are
-// the calls that make the line; all calls where it is left out.
+// ---- the algorithm of each list as the book's listings have it; `rows` are those of the table for which a line stands (each on one line),
+// `of` the calls that make it
 
 const CHANGES = ["add", "remove"];
 

@@ -80,12 +80,6 @@ export class Figure {
     return own.slice(this.run.trace.calls.filter((call) => call.thread === thread).length);
   }
 
-  reset() {
-    this.run.take(this.run.first);
-    Object.assign(this, { past: [], told: null, isLost: false });
-    this.draw();
-  }
-
   // What is shown now is left by a deed: it may be taken back.
   leaves() {
     this.onFork?.(this);
@@ -175,7 +169,9 @@ export class Figure {
 
   again() {
     if (this.isBusy) return;
-    this.reset();
+    this.run.take(this.run.first);
+    Object.assign(this, { past: [], told: null, isLost: false });
+    this.draw();
     this.onStep?.(this);
   }
 

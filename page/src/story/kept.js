@@ -37,8 +37,7 @@ export function startAfresh(button) {
   location.reload();
 }
 
-// ---- What this browser keeps of the lessons: the courses that were opened, and of each the schedules that solved a lesson, and the
-// lessons whose answer was looked at.
+// ---- the courses that were opened, the schedules that solved a lesson, and the lessons whose answer was looked at
 
 const LESSONS_KEPT = "listset-lessons-2";
 const textsKept = (kept) => Object.entries(kept ?? {}).filter(([, text]) => isText(text));

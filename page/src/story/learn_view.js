@@ -1,5 +1,4 @@
-// Solve it, a lesson: the reader chooses which thread makes the next step, until the run shows what is asked. After each deed what it
-// shows gets a tick. No answer is told unasked.
+// Solve it, a lesson: after each deed what the run shows gets a tick. No answer is told unasked.
 import { conditionTexts } from "../course/lesson.js";
 import { setHtml } from "../page/dom.js";
 import { now } from "../page/now.js";

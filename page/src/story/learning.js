@@ -1,5 +1,4 @@
-// Solve, what is open: the course, its lesson, the tries of that which are kept, and the verdict on a run. No part of the page is drawn
-// here.
+// Solve, what is open: the course, its lesson, the tries of that which are kept, and the verdict on a run.
 import { BOOK, BOOK_NAME } from "../../made/book.js";
 import { courseAddress } from "../course/course_text.js";
 import { judged, triedCourse } from "../course/lesson.js";
