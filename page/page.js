@@ -3029,7 +3029,7 @@ const MAKES = {
   view: (state, { view }) => ({ ...state, place: { ...state.place, view } }),
   task: (state, { task, lacks = null }) =>
     onStage({ ...state, task: { ...NO_TASK_YET, ...task }, run: { ...state.run, lacks }, exercise: null }),
-  text: (state, { text }) => ({ ...state, run: { ...state.run, text } }),
+  run: (state, { type, ...given }) => ({ ...state, run: { ...state.run, ...given } }),
   trace(state, { trace, state: ofTrace, source, count }) {
     const isGood = trace.refused === null;
     const faultLine = isGood ? null : trace.refused.line;
@@ -3037,8 +3037,6 @@ const MAKES = {
     return { ...state, run, exercise: null };
   },
   begun: (state, { begun }) => ({ ...state, task: { ...state.task, begun } }),
-  source: (state, { source }) => ({ ...state, run: { ...state.run, source } }),
-  fault: (state, { line, isOld }) => ({ ...state, run: { ...state.run, faultLine: line, isRun: !isOld } }),
   count: (state, { count }) => ({ ...state, run: { ...state.run, count: within(count, state.run.trace) } }),
   exercise: (state, { exercise }) => onStage({ ...state, exercise }),
   prefs: (state, { type, ...given }) => ({ ...state, prefs: { ...state.prefs, ...given } }),
@@ -3118,7 +3116,7 @@ function takeTrace(trace, at, source) {
 
 function takeScheduleOfTrace() {
   const text = scheduleOfTrace(now.run.trace);
-  change("text", { text });
+  change("run", { text });
   change("begun", { begun: text });
   byId("schedule").value = text;
   byId("opening").value = now.run.trace.opening.join(" ");
@@ -3134,7 +3132,7 @@ function askNow(name, ...texts) {
 }
 
 function tellFault(line, cause, said, isOld = true) {
-  change("fault", { line, isOld });
+  change("run", { faultLine: line, isRun: !isOld });
   byId("stage").classList.toggle("old", isOld);
   byId("old").hidden = !isOld;
   const why = sentenceOn(askNow, cause, "a schedule", "a draft");
@@ -4752,7 +4750,7 @@ function showHeader(trace) {
 
 function runText(text, at, told = "") {
   stopPlay();
-  change("text", { text });
+  change("run", { text });
   byId("schedule").value = text;
   byId("opening").value = openingIn(text).join(" ");
   if (held.engine === null) return tellFault(null, "", NO_ENGINE);
@@ -5670,7 +5668,7 @@ function openTrace(text, task) {
   beginTask(task);
   takeTrace(new Trace(text), 0, "a trace from a file");
   takeScheduleOfTrace();
-  dispatch("source", { source: comparedTrace(held.engine === null ? null : askNow, now.run.trace) });
+  dispatch("run", { source: comparedTrace(held.engine === null ? null : askNow, now.run.trace) });
 }
 
 async function openReportBox() {
@@ -5796,7 +5794,7 @@ function startAfresh(button) {
     button.textContent = "Press again: answers, solutions and names kept here go";
     return;
   }
-  change("text", { text: "" }); // and is not kept anew
+  change("run", { text: "" }); // and is not kept anew
   try {
     for (const name of Object.keys(localStorage)) if (name.startsWith("listset-")) localStorage.removeItem(name);
   } catch {
@@ -5813,7 +5811,6 @@ const namesKept = (kept) => (Array.isArray(kept) ? kept.filter(isText) : []);
 class KeptLessons {
   constructor() {
     const kept = keptUnder(LESSONS_KEPT) ?? {};
-    this.student = isText(kept.student) ? kept.student : "";
     this.course = isText(kept.course) ? kept.course : BOOK_NAME;
     this.courses = new Map(textsKept(kept.courses));
     this.of = new Map(Object.entries(kept.of ?? {}).map(([name, own]) => [name, ownOf(own)]));
@@ -5825,10 +5822,9 @@ class KeptLessons {
   }
 
   save() {
-    const { student, course } = this;
     const toObject = ({ solutions, looked }) => ({ solutions: Object.fromEntries(solutions), looked: [...looked] });
     const of = Object.fromEntries([...this.of].map(([name, own]) => [name, toObject(own)]));
-    return keepUnder(LESSONS_KEPT, { student, course, courses: Object.fromEntries(this.courses), of });
+    return keepUnder(LESSONS_KEPT, { course: this.course, courses: Object.fromEntries(this.courses), of });
   }
 }
 
@@ -7822,10 +7818,6 @@ class Learning {
     courseAddress(course.text).then(take, () => null);
   }
 
-  takeBook() {
-    this.takeCourse(bookCourse());
-  }
-
   lessonNamed(name) {
     const find = ({ lessons }) => lessons.find((lesson) => lesson.name === name);
     if (find(this.course) !== undefined) return find(this.course);
@@ -8681,6 +8673,7 @@ const { keptUnder } = $page_kept;
 const { examples } = $page_work;
 const { escaped, inLetters, tag } = $run_markup;
 const { QUESTIONS } = $story_ask;
+const { bookCourse } = $story_assignment;
 const { itemOf } = $story_ask_branches;
 const { APPENDIX } = $story_ask_more;
 const { isBrokenOnce, keptStory } = $story_kept;
@@ -8752,7 +8745,7 @@ function beginLearn() {
   part("#learn-folds").append(byId("lesson-folds"));
   byId("lesson-course").replaceChildren(...[BOOK_NAME, ...kept.courses.keys()].map((name) => new Option(name)));
   byId("lesson-course").value = course.name;
-  byId("lesson-student").value = kept.student;
+  byId("lesson-student").value = keptStory().student;
 }
 const endLearn = () => byId("courses").append(byId("lesson-folds"));
 
@@ -8764,7 +8757,7 @@ function drawLearnMap() {
 }
 
 function openBook() {
-  learning.panel.takeBook();
+  learning.panel.takeCourse(bookCourse());
   drawLearnMap();
 }
 
@@ -8842,7 +8835,7 @@ const { askNow, held } = $page_now;
 const { copied, linkTo } = $page_visit;
 const { AddressFault, warningOf } = $run_address;
 const { counted } = $run_markup;
-const { brokenLines } = $story_kept;
+const { brokenLines, keepStory } = $story_kept;
 const { learning } = $story_learning;
 const { JUDGED } = $activities_judging;
 const { drawLearnMap } = $activities_maps;
@@ -8927,9 +8920,7 @@ async function handIn() {
 function listenToHandIn() {
   lessonPart("hand-in").onclick = handIn;
   lessonPart("student").onchange = () => {
-    const { panel } = learning;
-    panel.kept.student = lessonPart("student").value.trim();
-    if (!panel.kept.save()) lessonPart("told").textContent = "This browser keeps nothing: hand in before you leave the page.";
+    if (!keepStory({ student: lessonPart("student").value.trim() })) lessonPart("told").textContent = "This browser keeps nothing: hand in before you leave the page.";
   };
 }
 return { takeCourseOfAddress, showCourseText, listenToCourses, listenToHandIn };
@@ -9386,7 +9377,7 @@ function openRun(wanted) {
     openSeed(wanted.seed, wanted.event);
   } else if (wanted.example !== null) {
     if (!isExample(wanted.example)) throw new AddressFault(`the address names the example "${wanted.example}", which there is not`);
-    const isShown = exampleShown() === wanted.example && now.run.isRun;
+    const isShown = exampleShown() === wanted.example && now.run.isRun && now.place.screen === "stage";
     const isBeforehand = isShown && now.task.work === "" && held.engine !== null; // from its trace, and the reader may have gone on
     if (isBeforehand) pickExample(wanted.example, now.run.count);
     else if (isShown) goTo(wanted.event);

@@ -10,7 +10,7 @@ import { askNow, held } from "../page/now.js";
 import { copied, linkTo } from "../page/visit.js";
 import { AddressFault, warningOf } from "../run/address.js";
 import { counted } from "../run/markup.js";
-import { brokenLines } from "../story/kept.js";
+import { brokenLines, keepStory } from "../story/kept.js";
 import { learning } from "../story/learning.js";
 import { JUDGED } from "./judging.js";
 import { drawLearnMap } from "./maps.js";
@@ -98,8 +98,6 @@ async function handIn() {
 export function listenToHandIn() {
   lessonPart("hand-in").onclick = handIn;
   lessonPart("student").onchange = () => {
-    const { panel } = learning;
-    panel.kept.student = lessonPart("student").value.trim();
-    if (!panel.kept.save()) lessonPart("told").textContent = "This browser keeps nothing: hand in before you leave the page.";
+    if (!keepStory({ student: lessonPart("student").value.trim() })) lessonPart("told").textContent = "This browser keeps nothing: hand in before you leave the page.";
   };
 }

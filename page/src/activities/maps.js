@@ -7,6 +7,7 @@ import { keptUnder } from "../page/kept.js";
 import { examples } from "../page/work.js";
 import { escaped, inLetters, tag } from "../run/markup.js";
 import { QUESTIONS } from "../story/ask.js";
+import { bookCourse } from "../story/assignment.js";
 import { itemOf } from "../story/ask_branches.js";
 import { APPENDIX } from "../story/ask_more.js";
 import { isBrokenOnce, keptStory } from "../story/kept.js";
@@ -82,7 +83,7 @@ function beginLearn() {
   part("#learn-folds").append(byId("lesson-folds"));
   byId("lesson-course").replaceChildren(...[BOOK_NAME, ...kept.courses.keys()].map((name) => new Option(name)));
   byId("lesson-course").value = course.name;
-  byId("lesson-student").value = kept.student;
+  byId("lesson-student").value = keptStory().student;
 }
 const endLearn = () => byId("courses").append(byId("lesson-folds"));
 
@@ -94,7 +95,7 @@ export function drawLearnMap() {
 }
 
 function openBook() {
-  learning.panel.takeBook();
+  learning.panel.takeCourse(bookCourse());
   drawLearnMap();
 }
 

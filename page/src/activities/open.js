@@ -56,7 +56,7 @@ function openRun(wanted) {
     openSeed(wanted.seed, wanted.event);
   } else if (wanted.example !== null) {
     if (!isExample(wanted.example)) throw new AddressFault(`the address names the example "${wanted.example}", which there is not`);
-    const isShown = exampleShown() === wanted.example && now.run.isRun;
+    const isShown = exampleShown() === wanted.example && now.run.isRun && now.place.screen === "stage";
     const isBeforehand = isShown && now.task.work === "" && held.engine !== null; // from its trace, and the reader may have gone on
     if (isBeforehand) pickExample(wanted.example, now.run.count);
     else if (isShown) goTo(wanted.event);

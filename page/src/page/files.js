@@ -72,7 +72,7 @@ function openTrace(text, task) {
   beginTask(task);
   takeTrace(new Trace(text), 0, "a trace from a file");
   takeScheduleOfTrace();
-  dispatch("source", { source: comparedTrace(held.engine === null ? null : askNow, now.run.trace) });
+  dispatch("run", { source: comparedTrace(held.engine === null ? null : askNow, now.run.trace) });
 }
 
 // Unfolds the box of the report, and waits until that is told: a box that is unfolded shows the schedule's own report first.

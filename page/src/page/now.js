@@ -63,7 +63,7 @@ export function takeTrace(trace, at, source) {
 // The schedule of the trace that is shown, in the box.
 export function takeScheduleOfTrace() {
   const text = scheduleOfTrace(now.run.trace);
-  change("text", { text });
+  change("run", { text });
   change("begun", { begun: text });
   byId("schedule").value = text;
   byId("opening").value = now.run.trace.opening.join(" ");
@@ -80,7 +80,7 @@ export function askNow(name, ...texts) {
 
 // Tells a fault of the text: the program's own line, and the cause in words. The run that is shown may be that of another text.
 export function tellFault(line, cause, said, isOld = true) {
-  change("fault", { line, isOld });
+  change("run", { faultLine: line, isRun: !isOld });
   byId("stage").classList.toggle("old", isOld);
   byId("old").hidden = !isOld;
   const why = sentenceOn(askNow, cause, "a schedule", "a draft");

@@ -53,7 +53,7 @@ const MAKES = {
   // Something is begun: what is run from now on is for this task.
   task: (state, { task, lacks = null }) =>
     onStage({ ...state, task: { ...NO_TASK_YET, ...task }, run: { ...state.run, lacks }, exercise: null }),
-  text: (state, { text }) => ({ ...state, run: { ...state.run, text } }),
+  run: (state, { type, ...given }) => ({ ...state, run: { ...state.run, ...given } }),
   // A trace is there: the exercise was about the one before.
   trace(state, { trace, state: ofTrace, source, count }) {
     const isGood = trace.refused === null;
@@ -62,8 +62,6 @@ const MAKES = {
     return { ...state, run, exercise: null };
   },
   begun: (state, { begun }) => ({ ...state, task: { ...state.task, begun } }),
-  source: (state, { source }) => ({ ...state, run: { ...state.run, source } }),
-  fault: (state, { line, isOld }) => ({ ...state, run: { ...state.run, faultLine: line, isRun: !isOld } }),
   count: (state, { count }) => ({ ...state, run: { ...state.run, count: within(count, state.run.trace) } }),
   exercise: (state, { exercise }) => onStage({ ...state, exercise }),
   prefs: (state, { type, ...given }) => ({ ...state, prefs: { ...state.prefs, ...given } }),

@@ -71,7 +71,7 @@ export function showHeader(trace) {
 // Runs a text by the engine, and then tells a line. The page computes no step of a list.
 function runText(text, at, told = "") {
   stopPlay();
-  change("text", { text });
+  change("run", { text });
   byId("schedule").value = text;
   byId("opening").value = openingIn(text).join(" ");
   if (held.engine === null) return tellFault(null, "", NO_ENGINE);

@@ -27,7 +27,7 @@ export function startAfresh(button) {
     button.textContent = "Press again: answers, solutions and names kept here go";
     return;
   }
-  change("text", { text: "" }); // and is not kept anew
+  change("run", { text: "" }); // and is not kept anew
   try {
     for (const name of Object.keys(localStorage)) if (name.startsWith("listset-")) localStorage.removeItem(name);
   } catch {
@@ -46,7 +46,6 @@ const namesKept = (kept) => (Array.isArray(kept) ? kept.filter(isText) : []);
 export class KeptLessons {
   constructor() {
     const kept = keptUnder(LESSONS_KEPT) ?? {};
-    this.student = isText(kept.student) ? kept.student : "";
     this.course = isText(kept.course) ? kept.course : BOOK_NAME;
     this.courses = new Map(textsKept(kept.courses));
     this.of = new Map(Object.entries(kept.of ?? {}).map(([name, own]) => [name, ownOf(own)]));
@@ -58,10 +57,9 @@ export class KeptLessons {
   }
 
   save() {
-    const { student, course } = this;
     const toObject = ({ solutions, looked }) => ({ solutions: Object.fromEntries(solutions), looked: [...looked] });
     const of = Object.fromEntries([...this.of].map(([name, own]) => [name, toObject(own)]));
-    return keepUnder(LESSONS_KEPT, { student, course, courses: Object.fromEntries(this.courses), of });
+    return keepUnder(LESSONS_KEPT, { course: this.course, courses: Object.fromEntries(this.courses), of });
   }
 }
 

@@ -31,10 +31,6 @@ class Learning {
     courseAddress(course.text).then(take, () => null);
   }
 
-  takeBook() {
-    this.takeCourse(bookCourse());
-  }
-
   // The lesson of this name: of the course that is open, else of the book, else of a course that is kept, which is opened.
   lessonNamed(name) {
     const find = ({ lessons }) => lessons.find((lesson) => lesson.name === name);
