@@ -815,7 +815,7 @@ const TRIES = 200;
 const MOST_TRIED_CALLS = 8; // of a run with more calls the first is taken
 const MOST_SEEN = 60; // events that are told apart by eye
 
-const seedOf = (kind, number, { threads = 2, calls = 5, keys = 2 } = {}) => `${kind}.${threads}.${calls}.${keys}.${number}`;
+const seedOf = (kind, number) => `${kind}.2.5.2.${number}`;
 
 function partsOfSeed(seed) {
   const [kind, ...values] = seed.split(".");
@@ -3309,11 +3309,10 @@ return { factsOf, SEEN, showParts, services, setView };
 const $page_play = (() => {
 const { CLASSICS } = $made_classics;
 const { byId } = $page_dom;
-const { change, exampleShown, goTo, now, show, tell } = $page_now;
+const { exampleShown, goTo, now, show } = $page_now;
 const { setView } = $page_seen;
 const SPEEDS = { slow: 1600, medium: 700, fast: 200 }; // milliseconds of one event
-const NO_STOP = { event: Infinity, before: "", there: "" };
-const play = { timer: null, stop: NO_STOP }; // the event at which it stops by itself, and what is said until there, and there
+const play = { timer: null };
 
 const wantsLessMotion = () => matchMedia("(prefers-reduced-motion: reduce)").matches;
 
@@ -3324,42 +3323,32 @@ function showPlay() {
   byId("play").setAttribute("aria-pressed", String(play.timer !== null));
 }
 
-function pausePlay() {
+function stopPlay() {
   clearInterval(play.timer);
   play.timer = null;
   showPlay();
 }
 
-function stopPlay() {
-  play.stop = NO_STOP;
-  pausePlay();
-}
-
-function startPlay(stop = NO_STOP) {
+function startPlay() {
   const { count, trace } = now.run;
   if (trace.total === 0) return;
-  play.stop = stop;
   if (count === trace.total) goTo(0);
   play.timer = setInterval(playOn, SPEEDS[byId("speed").value]);
   showPlay();
 }
 
 function playOn() {
-  const { stop } = play;
   const count = now.run.count + 1;
-  const isThere = count === stop.event || count >= now.run.trace.total;
-  if (isThere) stopPlay();
-  change("count", { count });
-  tell(count === stop.event ? stop.there : stop.before);
-  show();
+  if (count >= now.run.trace.total) stopPlay();
+  goTo(count);
 }
 
-const togglePlay = () => (play.timer === null ? startPlay(play.stop) : pausePlay());
+const togglePlay = () => (play.timer === null ? startPlay() : stopPlay());
 
 function changeSpeed() {
   if (play.timer === null) return;
-  pausePlay();
-  startPlay(play.stop);
+  stopPlay();
+  startPlay();
 }
 
 function goByHand(count) {
@@ -7039,8 +7028,11 @@ const sleep = (time) => new Promise((done) => setTimeout(done, time));
 const drawn = { count: 0 };
 const tellBusy = (isBusy) => (document.body.dataset.busy = isBusy ? "yes" : "no");
 
+const STILL = { dock: false, names: true, strip: true, short: true, again: false }; // of a run that is made elsewhere
+
 class Figure {
   id = `f${drawn.count++}`;
+  active = 0; // the thread that runs to a line of the code
   past = []; // what stood there before each deed
   isBusy = false; // steps are being shown
   isActing = false; // and more of them will be
@@ -7064,7 +7056,6 @@ class Figure {
     this.spec = spec;
     this.run = spec.run ?? new LiveRun(spec);
     this.shown = spec.shown ?? this.run.state.threads.map((_, thread) => thread);
-    this.active = spec.active ?? 0;
     this.chosen = spec.chosen ?? {}; // of an idle thread, the call that stands in its fields
     this.most = { width: 0, height: spec.tall && !isNarrow() ? 262 : 0 }; // room for a node that is sure to come
     frameOf(this);
@@ -7143,7 +7134,8 @@ class Figure {
     tellBusy(true);
     for (let count = Math.min(from + 1, total); count <= total; count++) {
       if (this.isEnded) return;
-      if (count < total && (this.isHurried || wantsStill() || this.isHidden(count))) continue;
+      const isOfLock = this.spec.plain === true && this.run.trace.event(count).word === "list.lock"; // which this list ignores
+      if (count < total && (this.isHurried || wantsStill() || isOfLock)) continue;
       this.run.moveTo(count);
       this.part("tale").setAttribute("aria-live", count < total ? "off" : "polite"); // of a play only the last sentence is read out
       this.isBusy = count < total;
@@ -7159,10 +7151,6 @@ class Figure {
     this.run.moveTo(from);
     this.draw();
     await this.show(from);
-  }
-
-  isHidden(count) {
-    return this.spec.plain === true && this.run.trace.event(count).word === "list.lock";
   }
 
   async act(deeds) {
@@ -7195,6 +7183,12 @@ class Figure {
     this.onStep?.(this);
   }
 
+  showRun(run, moment = momentAt(run.state, run.count), hides = true) {
+    const isNear = run.trace.kind === this.run.trace.kind && Math.abs(run.count - this.run.count) === 1;
+    Object.assign(this, { run, hides });
+    this.draw(isNear, moment);
+  }
+
   tell(text) {
     this.told = text;
     this.part("tale").innerHTML = text;
@@ -7213,7 +7207,7 @@ class Figure {
     this.draw(isNear);
   }
 }
-return { Figure };
+return { STILL, Figure };
 })();
 
 // story/scene.js
@@ -7588,24 +7582,6 @@ const assignmentView = {
 return { bookCourse, allLevels, addressOfTasks, homeworkOf, wayOn, tasksOf, taskOfJudged, titleOfAssignment, assignmentView };
 })();
 
-// story/still_figure.js
-const $story_still_figure = (() => {
-const { momentAt } = $run_sentences;
-const { Figure } = $story_figure;
-class StillFigure extends Figure {
-  constructor(box, spec) {
-    super(box, { dock: false, names: true, strip: true, short: true, again: false, ...spec });
-  }
-
-  take(run, moment = momentAt(run.state, run.count), hides = true) {
-    const isNear = run.trace.kind === this.run.trace.kind && Math.abs(run.count - this.run.count) === 1;
-    Object.assign(this, { run, hides });
-    this.draw(isNear, moment);
-  }
-}
-return { StillFigure };
-})();
-
 // activities/bench.js
 const $activities_bench = (() => {
 const { LISTS } = $made_rows;
@@ -7624,9 +7600,9 @@ const { goByHand, isPlaying } = $page_play;
 const { addressOfAssignment, addressOfCode, titleIn } = $page_visit;
 const { examples, openTask, scrollToLine } = $page_work;
 const { homeworkOf, titleOfAssignment } = $story_assignment;
+const { Figure, STILL } = $story_figure;
 const { linesOf, ShownRun } = $story_live_run;
 const { titleOfScene } = $story_scene;
-const { StillFigure } = $story_still_figure;
 const bench = { key: "", figure: null };
 const LACKING = "The code of the correct list. The list that runs here lacks one of its checks.";
 
@@ -7640,7 +7616,7 @@ function figureOfTask(run) {
   byId("run-figure").replaceChildren(box);
   const codeNote = lacks === null ? "" : LACKING;
   const sentence = (moment) => sentenceOf(moment, hiddenOutcomes());
-  bench.figure = new StillFigure(box, { list: kind, run, sentence, codeTitle: LISTS[kind].name, codeNote, roomFor: 560 });
+  bench.figure = new Figure(box, { ...STILL, list: kind, run, sentence, codeTitle: LISTS[kind].name, codeNote, roomFor: 560 });
   return bench.figure;
 }
 
@@ -7652,7 +7628,7 @@ function showRun() {
   figure.box.classList.toggle("judged", isJudging());
   figure.part("tale").setAttribute("aria-live", isPlaying() ? "off" : "polite");
   figure.spec.high = isJudging() ? 0.24 : now.place.view === "lecture" ? 0.3 : 0.36;
-  figure.take(run, moment, now.prefs.hides);
+  figure.showRun(run, moment, now.prefs.hides);
   setHtml(byId("order"), drawOrder(trace, count, now.prefs.hides));
   showThreads(moment.event);
   showTable(moment);
@@ -9029,9 +9005,9 @@ const { addressOf, readAddress } = $run_address;
 const { chipOf, escaped, listOptions, tag } = $run_markup;
 const { sentenceOf } = $run_sentences;
 const { ProgramFault, programText, readProgram, Sides } = $run_sides;
+const { Figure, STILL } = $story_figure;
 const { ShownRun } = $story_live_run;
 const { copyText, head, part, setScene, threadOfKey } = $story_scene;
-const { StillFigure } = $story_still_figure;
 const PRESETS = [
   ["Who waits?", "#sides=coarse.lazy&quota=4&calls=0.add.5,1.contains.5&turns=0.0.0.0.1.1.1"],
   ["Two removes of neighbours", "#sides=fine.optimistic&quota=4&opening=3.5.7&calls=0.remove.3,1.remove.7&turns=0.0.0.1.1.1"],
@@ -9129,8 +9105,8 @@ function figuresOf(sides) {
   end();
   sidesPart("pictures").innerHTML = sides.map(({ kind }) => tag("section", { "aria-label": LISTS[kind].name }, PICTURE)).join("");
   const boxes = sidesPart("pictures").querySelectorAll(".pair");
-  const specOf = ({ kind, trace, state }) => ({ list: kind, run: new ShownRun(trace, state), code: false, sentence: sentenceOf, roomFor: 560, high: 0.3 });
-  figures.push(...sides.map((side, at) => new StillFigure(boxes[at], specOf(side))));
+  const specOf = ({ kind, trace, state }) => ({ ...STILL, list: kind, run: new ShownRun(trace, state), code: false, sentence: sentenceOf, roomFor: 560, high: 0.3 });
+  figures.push(...sides.map((side, at) => new Figure(boxes[at], specOf(side))));
   return figures;
 }
 
@@ -9143,7 +9119,7 @@ function drawSide(side, figure) {
   box.querySelector("h2").innerHTML = `${LISTS[side.kind].name} <small>${count} events</small>`;
   box.querySelector("a").href = addressOf(side.schedule, count) ?? "#";
   side.state.moveTo(count);
-  figure.take(new ShownRun(side.trace, side.state, count), undefined, now.prefs.hides);
+  figure.showRun(new ShownRun(side.trace, side.state, count), undefined, now.prefs.hides);
   const hasWaited = at > 0 && count === side.counts[at - 1];
   if (hasWaited) figure.tell(`${chipOf(turns[at - 1])} has ended its call here, and waits for the other list.`);
 }
@@ -10897,5 +10873,5 @@ if (typeof document !== "undefined") startPage(); // in node there is none
 return {  };
 })();
 
-return Object.assign({}, $made_rows, $made_classics, $run_trace, $run_schedule_text, $run_address, $run_markup, $run_state, $run_outcomes, $run_sentences, $draw_history, $draw_contents, $made_code, $draw_listing, $draw_tables, $page_dom, $made_book, $engine_answers, $run_judged, $page_state, $page_now, $page_kept, $page_seen, $page_play, $data_levels, $run_broken, $page_visit, $made_traces, $engine_engine, $page_long_run, $page_work, $course_goal_words, $course_course_text, $course_lesson, $course_hand_in, $run_check_trace, $run_recorded, $page_files, $story_kept, $draw_glide, $draw_places, $draw_arrows, $draw_list, $story_code, $story_tale, $story_dock, $story_figure_parts, $story_live_run, $story_figure, $story_scene, $story_assignment, $story_still_figure, $activities_bench, $story_learning, $draw_judged, $activities_judging, $story_ask, $story_ask_more, $story_ask_branches, $activities_recorded, $activities_maps, $activities_courses, $run_sides, $activities_compare, $page_controls, $activities_open, $story_ask_view, $story_break_view, $story_code_view, $story_learn_view, $story_path, $story_path_parts, $story_path_view, $story_handins, $story_handins_view, $story_teach_view);
+return Object.assign({}, $made_rows, $made_classics, $run_trace, $run_schedule_text, $run_address, $run_markup, $run_state, $run_outcomes, $run_sentences, $draw_history, $draw_contents, $made_code, $draw_listing, $draw_tables, $page_dom, $made_book, $engine_answers, $run_judged, $page_state, $page_now, $page_kept, $page_seen, $page_play, $data_levels, $run_broken, $page_visit, $made_traces, $engine_engine, $page_long_run, $page_work, $course_goal_words, $course_course_text, $course_lesson, $course_hand_in, $run_check_trace, $run_recorded, $page_files, $story_kept, $draw_glide, $draw_places, $draw_arrows, $draw_list, $story_code, $story_tale, $story_dock, $story_figure_parts, $story_live_run, $story_figure, $story_scene, $story_assignment, $activities_bench, $story_learning, $draw_judged, $activities_judging, $story_ask, $story_ask_more, $story_ask_branches, $activities_recorded, $activities_maps, $activities_courses, $run_sides, $activities_compare, $page_controls, $activities_open, $story_ask_view, $story_break_view, $story_code_view, $story_learn_view, $story_path, $story_path_parts, $story_path_view, $story_handins, $story_handins_view, $story_teach_view);
 })();

@@ -15,9 +15,9 @@ import { goByHand, isPlaying } from "../page/play.js";
 import { addressOfAssignment, addressOfCode, titleIn } from "../page/visit.js";
 import { examples, openTask, scrollToLine } from "../page/work.js";
 import { homeworkOf, titleOfAssignment } from "../story/assignment.js";
+import { Figure, STILL } from "../story/figure.js";
 import { linesOf, ShownRun } from "../story/live_run.js";
 import { titleOfScene } from "../story/scene.js";
-import { StillFigure } from "../story/still_figure.js";
 
 const bench = { key: "", figure: null };
 const LACKING = "The code of the correct list. The list that runs here lacks one of its checks.";
@@ -33,7 +33,7 @@ function figureOfTask(run) {
   byId("run-figure").replaceChildren(box);
   const codeNote = lacks === null ? "" : LACKING;
   const sentence = (moment) => sentenceOf(moment, hiddenOutcomes());
-  bench.figure = new StillFigure(box, { list: kind, run, sentence, codeTitle: LISTS[kind].name, codeNote, roomFor: 560 });
+  bench.figure = new Figure(box, { ...STILL, list: kind, run, sentence, codeTitle: LISTS[kind].name, codeNote, roomFor: 560 });
   return bench.figure;
 }
 
@@ -45,7 +45,7 @@ export function showRun() {
   figure.box.classList.toggle("judged", isJudging());
   figure.part("tale").setAttribute("aria-live", isPlaying() ? "off" : "polite");
   figure.spec.high = isJudging() ? 0.24 : now.place.view === "lecture" ? 0.3 : 0.36;
-  figure.take(run, moment, now.prefs.hides);
+  figure.showRun(run, moment, now.prefs.hides);
   setHtml(byId("order"), drawOrder(trace, count, now.prefs.hides));
   showThreads(moment.event);
   showTable(moment);

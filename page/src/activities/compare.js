@@ -8,9 +8,9 @@ import { addressOf, readAddress } from "../run/address.js";
 import { chipOf, escaped, listOptions, tag } from "../run/markup.js";
 import { sentenceOf } from "../run/sentences.js";
 import { ProgramFault, programText, readProgram, Sides } from "../run/sides.js";
+import { Figure, STILL } from "../story/figure.js";
 import { ShownRun } from "../story/live_run.js";
 import { copyText, head, part, setScene, threadOfKey } from "../story/scene.js";
-import { StillFigure } from "../story/still_figure.js";
 
 const PRESETS = [
   ["Who waits?", "#sides=coarse.lazy&quota=4&calls=0.add.5,1.contains.5&turns=0.0.0.0.1.1.1"],
@@ -112,8 +112,8 @@ function figuresOf(sides) {
   end();
   sidesPart("pictures").innerHTML = sides.map(({ kind }) => tag("section", { "aria-label": LISTS[kind].name }, PICTURE)).join("");
   const boxes = sidesPart("pictures").querySelectorAll(".pair");
-  const specOf = ({ kind, trace, state }) => ({ list: kind, run: new ShownRun(trace, state), code: false, sentence: sentenceOf, roomFor: 560, high: 0.3 });
-  figures.push(...sides.map((side, at) => new StillFigure(boxes[at], specOf(side))));
+  const specOf = ({ kind, trace, state }) => ({ ...STILL, list: kind, run: new ShownRun(trace, state), code: false, sentence: sentenceOf, roomFor: 560, high: 0.3 });
+  figures.push(...sides.map((side, at) => new Figure(boxes[at], specOf(side))));
   return figures;
 }
 
@@ -126,7 +126,7 @@ function drawSide(side, figure) {
   box.querySelector("h2").innerHTML = `${LISTS[side.kind].name} <small>${count} events</small>`;
   box.querySelector("a").href = addressOf(side.schedule, count) ?? "#";
   side.state.moveTo(count);
-  figure.take(new ShownRun(side.trace, side.state, count), undefined, now.prefs.hides);
+  figure.showRun(new ShownRun(side.trace, side.state, count), undefined, now.prefs.hides);
   const hasWaited = at > 0 && count === side.counts[at - 1];
   if (hasWaited) figure.tell(`${chipOf(turns[at - 1])} has ended its call here, and waits for the other list.`);
 }

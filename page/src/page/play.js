@@ -1,12 +1,11 @@
 // Play: one event after the other, in three speeds, until the end or a pause. Who asks the system for less motion begins slow.
 import { CLASSICS } from "../../made/classics.js";
 import { byId } from "./dom.js";
-import { change, exampleShown, goTo, now, show, tell } from "./now.js";
+import { exampleShown, goTo, now, show } from "./now.js";
 import { setView } from "./seen.js";
 
 const SPEEDS = { slow: 1600, medium: 700, fast: 200 }; // milliseconds of one event
-const NO_STOP = { event: Infinity, before: "", there: "" };
-const play = { timer: null, stop: NO_STOP }; // the event at which it stops by itself, and what is said until there, and there
+const play = { timer: null };
 
 export const wantsLessMotion = () => matchMedia("(prefers-reduced-motion: reduce)").matches;
 
@@ -17,45 +16,34 @@ function showPlay() {
   byId("play").setAttribute("aria-pressed", String(play.timer !== null));
 }
 
-function pausePlay() {
+export function stopPlay() {
   clearInterval(play.timer);
   play.timer = null;
   showPlay();
 }
 
-// Ends the play, also that which was paused.
-export function stopPlay() {
-  play.stop = NO_STOP;
-  pausePlay();
-}
-
 // Plays on from here, and from the start where nothing is left.
-function startPlay(stop = NO_STOP) {
+function startPlay() {
   const { count, trace } = now.run;
   if (trace.total === 0) return;
-  play.stop = stop;
   if (count === trace.total) goTo(0);
   play.timer = setInterval(playOn, SPEEDS[byId("speed").value]);
   showPlay();
 }
 
 function playOn() {
-  const { stop } = play;
   const count = now.run.count + 1;
-  const isThere = count === stop.event || count >= now.run.trace.total;
-  if (isThere) stopPlay();
-  change("count", { count });
-  tell(count === stop.event ? stop.there : stop.before);
-  show();
+  if (count >= now.run.trace.total) stopPlay();
+  goTo(count);
 }
 
-export const togglePlay = () => (play.timer === null ? startPlay(play.stop) : pausePlay());
+export const togglePlay = () => (play.timer === null ? startPlay() : stopPlay());
 
-// Another speed holds at once, up to the same stop.
+// Another speed holds at once.
 export function changeSpeed() {
   if (play.timer === null) return;
-  pausePlay();
-  startPlay(play.stop);
+  stopPlay();
+  startPlay();
 }
 
 // The reader goes to an event: the play ends.

@@ -130,7 +130,7 @@ const MOST_TRIED_CALLS = 8; // of a run with more calls the first is taken
 const MOST_SEEN = 60; // events that are told apart by eye
 
 // A run of five calls of two threads over two keys is short enough to be judged by eye.
-export const seedOf = (kind, number, { threads = 2, calls = 5, keys = 2 } = {}) => `${kind}.${threads}.${calls}.${keys}.${number}`;
+export const seedOf = (kind, number) => `${kind}.2.5.2.${number}`;
 
 export function partsOfSeed(seed) {
   const [kind, ...values] = seed.split(".");

@@ -13,8 +13,11 @@ const tellBusy = (isBusy) => (document.body.dataset.busy = isBusy ? "yes" : "no"
 
 // A spec has what a run needs; `calls`, of each thread those that it is to make; `shown`, the threads with a button; `dock`, `code`, `strip`,
 // `scrub`: what is shown besides the list.
+export const STILL = { dock: false, names: true, strip: true, short: true, again: false }; // of a run that is made elsewhere
+
 export class Figure {
   id = `f${drawn.count++}`;
+  active = 0; // the thread that runs to a line of the code
   past = []; // what stood there before each deed
   isBusy = false; // steps are being shown
   isActing = false; // and more of them will be
@@ -38,7 +41,6 @@ export class Figure {
     this.spec = spec;
     this.run = spec.run ?? new LiveRun(spec);
     this.shown = spec.shown ?? this.run.state.threads.map((_, thread) => thread);
-    this.active = spec.active ?? 0;
     this.chosen = spec.chosen ?? {}; // of an idle thread, the call that stands in its fields
     this.most = { width: 0, height: spec.tall && !isNarrow() ? 262 : 0 }; // room for a node that is sure to come
     frameOf(this);
@@ -121,7 +123,8 @@ export class Figure {
     tellBusy(true);
     for (let count = Math.min(from + 1, total); count <= total; count++) {
       if (this.isEnded) return;
-      if (count < total && (this.isHurried || wantsStill() || this.isHidden(count))) continue;
+      const isOfLock = this.spec.plain === true && this.run.trace.event(count).word === "list.lock"; // which this list ignores
+      if (count < total && (this.isHurried || wantsStill() || isOfLock)) continue;
       this.run.moveTo(count);
       this.part("tale").setAttribute("aria-live", count < total ? "off" : "polite"); // of a play only the last sentence is read out
       this.isBusy = count < total;
@@ -137,11 +140,6 @@ export class Figure {
     this.run.moveTo(from);
     this.draw();
     await this.show(from);
-  }
-
-  // Whether an event is passed over in silence, since it is of the lock that this list ignores.
-  isHidden(count) {
-    return this.spec.plain === true && this.run.trace.event(count).word === "list.lock";
   }
 
   // Plays what a list of deeds makes: [thread] is its next bit, [thread, n] are n bits, [thread, "out"] is all of its call.
@@ -173,6 +171,13 @@ export class Figure {
     Object.assign(this, { past: [], told: null, isLost: false });
     this.draw();
     this.onStep?.(this);
+  }
+
+  // Shows a run that is made elsewhere; where it is the same run one event on or back, what moves glides.
+  showRun(run, moment = momentAt(run.state, run.count), hides = true) {
+    const isNear = run.trace.kind === this.run.trace.kind && Math.abs(run.count - this.run.count) === 1;
+    Object.assign(this, { run, hides });
+    this.draw(isNear, moment);
   }
 
   tell(text) {
