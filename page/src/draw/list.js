@@ -42,7 +42,7 @@ function drawNode(state, name, place, event) {
     drawKey(node, (x + side) / 2, y + 34, isRead),
     label({ class: "name", x: x + 2, y: y - 10 }, name),
     isMarked ? label({ class: "cross", x: side + LINK_WIDTH / 2, y: y + 34 }, "✗") : "",
-    node.lock === "free" ? "" : drawLock(node.lock, x + width - 38, y - 28),
+    node.lock === "free" ? "" : drawLock(node.lock, x + Math.max(width - 38, 44), y - 28),
   );
 }
 
