@@ -5207,7 +5207,8 @@ function judged(ask, lesson, schedule) {
   const conditions = withinBound(() => conditionsOfLesson(ask, lesson, schedule, run));
   if (conditions === null) return unjudged("This run is not judged: there are too many ways in which it could meet the goal.");
   const isSolved = conditions.every(({ isMet }) => isMet);
-  return { isSolved, reason: null, fault: null, conditions, deadEnd: isSolved ? null : withinBound(() => deadEndIn(lesson, run)) };
+  const deadEnd = withinBound(() => lesson.deadEnds.map((lines) => conditionsOf(lines, run)[0]).find(({ isMet }) => isMet));
+  return { isSolved, reason: null, fault: null, conditions, deadEnd: isSolved ? null : (deadEnd?.says ?? null) };
 }
 
 function withinBound(search) {
@@ -5232,11 +5233,6 @@ function conditionsOfLesson(ask, { goal, lacks }, schedule, run) {
   const conditions = conditionsOf(goal, run);
   if (lacks === null) return conditions;
   return [...conditions, { says: TO_BREAK, isMet: verdictOnLacking(ask, lacks, schedule).kind === "broken" }];
-}
-
-function deadEndIn(lesson, run) {
-  const met = lesson.deadEnds.map((lines) => conditionsOf(lines, run)[0]).find(({ isMet }) => isMet);
-  return met?.says ?? null;
 }
 
 function missingIn({ reason, conditions }) {
@@ -10354,11 +10350,9 @@ const { judgedPart, readHandIn, textsIn } = $course_hand_in;
 const { triedCourse } = $course_lesson;
 const { askNow } = $page_now;
 const { bookCourse, taskOfJudged } = $story_assignment;
-const stripped = (name) => name.replace(/^.*\//, "").replace(/\.[A-Za-z]+$/, "");
-
 function studentOf(text, file) {
   const [, name, number] = /^(.*?)\s*(?:[([#]\s*((?=\D*\d)\w[\w-]{0,20})\s*[)\]]?)?\s*$/.exec(text ?? "") ?? [];
-  return { name: name || stripped(file), number: number ?? "" };
+  return { name: name || file.replace(/^.*\//, "").replace(/\.[A-Za-z]+$/, ""), number: number ?? "" };
 }
 
 async function checkAll(files, tasks, tellProgress = (_at, _of) => {}) {
@@ -10383,7 +10377,8 @@ async function checkAll(files, tasks, tellProgress = (_at, _of) => {}) {
   const rows = [...students.values()].sort((one, other) => one.name.localeCompare(other.name));
   noteSame(rows);
   noteNumbers(rows);
-  const columns = tasks === null ? columnsOf(rows) : tasks.map(({ id, title }) => ({ id, title }));
+  const all = [...new Set(rows.flatMap(({ solved }) => [...solved.keys()]))].sort();
+  const columns = tasks === null ? all.map((id) => ({ id, title: id })) : tasks.map(({ id, title }) => ({ id, title }));
   return { rows, columns, empty };
 }
 
@@ -10400,11 +10395,6 @@ function judgePart(own, lessons, line, tasks) {
   if (verdict.ofExample) own.notes.push(`${task}: the very run of an example`);
 }
 
-function columnsOf(rows) {
-  const ids = new Set(rows.flatMap(({ solved }) => [...solved.keys()]));
-  return [...ids].sort().map((id) => ({ id, title: id }));
-}
-
 const markOf = ({ solved, wrong }, { id }) => (solved.has(id) ? "solved" : wrong.has(id) ? "wrong" : "none");
 
 function noteNumbers(rows) {
@@ -10416,19 +10406,14 @@ function noteNumbers(rows) {
 
 function noteSame(rows) {
   const byText = new Map();
+  const note = (row, { name }, task) => row.same.set(name, [...(row.same.get(name) ?? []), task]);
   for (const row of rows) {
+    row.same = new Map();
     for (const [task, schedule] of row.solved) {
-      if (schedule === null) continue;
       const key = `${task}\n${schedule}`;
-      byText.set(key, [...(byText.get(key) ?? []), row]);
-    }
-  }
-  for (const row of rows) row.same = new Map();
-  for (const [key, some] of byText) {
-    if (some.length < 2) continue;
-    const [task] = key.split("\n");
-    for (const row of some) {
-      for (const { name } of some.filter((other) => other !== row)) row.same.set(name, [...(row.same.get(name) ?? []), task]);
+      const others = schedule === null ? [] : (byText.get(key) ?? []);
+      byText.set(key, [...others, row]);
+      for (const other of others) note(row, other, task), note(other, row, task);
     }
   }
 }

@@ -90,7 +90,6 @@ function showListing(moment) {
   if (y < box.scrollTop + 40 || y > box.scrollTop + box.clientHeight - 80) box.scrollTop = y - box.clientHeight / 2;
 }
 
-// A press on a part of the picture tells what its tooltip says; one on the history leads to the event there.
 function pressPicture({ target, clientX }) {
   const calls = target.closest(".calls svg");
   const said = target.closest("g, svg")?.querySelector(":scope > title")?.textContent ?? "";
@@ -156,7 +155,6 @@ function drawSeedBox(seed, more) {
 
 // ---- What stands above the stage: the links to what is before and after the task, and the title of the window.
 
-// A task of the assignment that was opened last leads back to it.
 function showHome() {
   const homework = now.place.view === null ? homeworkOf(now.place, now.task) : null;
   byId("home").hidden = homework === null;

@@ -105,7 +105,6 @@ function draw() {
   figuresOf(sides.sides).forEach((figure, place) => drawSide(sides.sides[place], figure));
 }
 
-// The figure of each list, while the same two lists are shown.
 function figuresOf(sides) {
   const { figures } = shown;
   if (figures.length > 0 && sides.every((side, at) => figures[at].spec.list === side.kind)) return figures;
@@ -139,7 +138,6 @@ function addressOfSides() {
   return `#${[...parts, `calls=${calls.join()}`, `turns=${sides.turns.join(".")}`].join("&")}`;
 }
 
-// A turn by its letter; an arrow, and a presenter's key, goes on and back.
 function press(event) {
   const { sides, at } = shown;
   const by = { ArrowRight: 1, PageDown: 1, ArrowLeft: -1, PageUp: -1, Home: -Infinity, End: Infinity }[event.key];

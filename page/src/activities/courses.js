@@ -17,7 +17,6 @@ import { drawLearnMap } from "./maps.js";
 
 const lessonPart = (name) => byId(`lesson-${name}`);
 
-// Takes the text of a course: its lessons are shown, or its faults by their lines. Whether it is one.
 function takeCourseText(text) {
   const course = triedCourse(askNow, text);
   const { faults, name, lessons } = course;

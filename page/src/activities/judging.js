@@ -76,7 +76,6 @@ class Judging {
     event.preventDefault();
   }
 
-  // An answer that was changed is judged when the reader asks for it.
   changed() {
     this.verdict = null;
     this.draw();

@@ -83,7 +83,6 @@ class CourseReader {
     parts[word] = part;
   }
 
-  // The lesson as the panel has it, or null where something of it is missing.
   lessonOf(parts) {
     const isDue = (word) => !LESSON_WORDS[word].isOptional && !(word === "goal" && "lacks" in parts);
     const missing = WORDS.filter((word) => !(word in parts) && isDue(word));
@@ -134,7 +133,6 @@ class CourseReader {
   }
 }
 
-// The name and the lessons of a text, and its faults, each with the number of its line.
 export function readCourse(text) {
   const reader = new CourseReader(text.slice(0, MOST_COURSE));
   if (text.length > MOST_COURSE) reader.fault(1, `a course has at most ${MOST_COURSE} letters`);

@@ -134,7 +134,6 @@ function canMeet(lines, run) {
   return from(0, new Map());
 }
 
-// The conditions of a goal in a run, each { says, isMet }.
 export function conditionsOf(goal, run) {
   const ends = goal.map(({ says }, index) => ({ says, index })).filter(({ says }) => says !== undefined);
   return ends.map(({ says, index }) => ({ says, isMet: canMeet(goal.slice(0, index), run) }));
@@ -171,7 +170,6 @@ export class Run {
     return call.changes ? nodeOf(this.moments[call.at - 1].event) : null;
   }
 
-  // Whether a node is in the chain just before this moment, and no more just after it.
   isTakenOut(node, { event, chain }) {
     return this.moments[event.number - 2]?.chain.includes(node) === true && !chain.includes(node);
   }

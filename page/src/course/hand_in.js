@@ -69,7 +69,6 @@ const lacksWords = (line) =>
   /^judge /.test(line) ? line.split(" ").length < 4 : !/^(student|course) /.test(line) && !line.includes("#");
 const isPiece = (line) => !line.includes(" ") || /^\S*[.,=&]\S* /.test(line);
 
-// What was handed in: the course and the student, or null, the parts with the numbers of their lines, and the faults.
 export function readHandIn({ lines, isEnded, number }) {
   const parts = [];
   const faults = [];
@@ -97,7 +96,6 @@ function readSchedule(link) {
   }
 }
 
-// What is said of a part: the task, whether it is solved, and why not.
 export function judgedPart(ask, lessons, line) {
   const [word, ...words] = line.split(/ +/);
   if (word === "judge") return judgedOrder(ask, words);

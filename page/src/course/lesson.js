@@ -33,7 +33,8 @@ export function judged(ask, lesson, schedule) {
   const conditions = withinBound(() => conditionsOfLesson(ask, lesson, schedule, run));
   if (conditions === null) return unjudged("This run is not judged: there are too many ways in which it could meet the goal.");
   const isSolved = conditions.every(({ isMet }) => isMet);
-  return { isSolved, reason: null, fault: null, conditions, deadEnd: isSolved ? null : withinBound(() => deadEndIn(lesson, run)) };
+  const deadEnd = withinBound(() => lesson.deadEnds.map((lines) => conditionsOf(lines, run)[0]).find(({ isMet }) => isMet));
+  return { isSolved, reason: null, fault: null, conditions, deadEnd: isSolved ? null : (deadEnd?.says ?? null) };
 }
 
 // What a search of a goal finds, or null where it has too many ways to look at.
@@ -63,13 +64,6 @@ function conditionsOfLesson(ask, { goal, lacks }, schedule, run) {
   return [...conditions, { says: TO_BREAK, isMet: verdictOnLacking(ask, lacks, schedule).kind === "broken" }];
 }
 
-// What the lesson's text says of a run that leads nowhere, or null.
-function deadEndIn(lesson, run) {
-  const met = lesson.deadEnds.map((lines) => conditionsOf(lines, run)[0]).find(({ isMet }) => isMet);
-  return met?.says ?? null;
-}
-
-// Why a schedule that was judged is no solution: why it was not looked at, or the first condition that it does not meet.
 export function missingIn({ reason, conditions }) {
   const missing = conditions.find(({ isMet }) => !isMet);
   return reason ?? (missing === undefined ? null : `missing: ${missing.says}`);
@@ -97,7 +91,6 @@ function troubleOf(ask, lesson) {
   return { line: lesson.line, says: `its answer does not solve it: ${missingIn(verdict)}` };
 }
 
-// A fault of the schedule of a start or an answer, told by the line of the course and in words.
 function refusedLine(ask, lesson, part, { line, cause, says }) {
   const given = lesson.events[line - HEADER_LINES - lesson.opening.length - 1];
   const why = sentenceOn(ask, cause, "a schedule", "a draft");
@@ -105,7 +98,6 @@ function refusedLine(ask, lesson, part, { line, cause, says }) {
   return { line: given.number, says: `its ${part} is refused at "${given.line}": ${why}` };
 }
 
-// A course that is read and, where its text has no fault, tried: its name, its lessons, and all faults by their lines.
 export function triedCourse(ask, text) {
   const { name, lessons, faults } = readCourse(text);
   for (const lesson of faults.length === 0 ? lessons : []) {

@@ -42,7 +42,6 @@ function bent(start, ...turns) {
   return `M${start[0]} ${start[1]}${corners.join("")}`;
 }
 
-// From a node to itself: around its corner, and into its top.
 const pathAround = (from, x1, y1) => bent([x1, y1], from.x + from.width + 10, from.y - 12, from.x + from.width - 12, from.y - 3);
 
 // From a node below the chain to one in it: along under the registers, and up through the gap left of the node into its side. No

@@ -24,7 +24,6 @@ function drawContent(part, scale) {
   );
 }
 
-// Which events are drawn, where they are not all; on the side where the number of the event is not.
 function drawWindow(scale, total, x) {
   if (scale.first === 1 && scale.last >= total) return "";
   const place = x > scale.width / 2 ? { x: 4, "text-anchor": "start" } : { x: scale.edge, "text-anchor": "end" };
@@ -39,7 +38,6 @@ function nameOfContents({ lacks }) {
 }
 const BY_POINTS = "the set by the linearization points of the calls";
 
-// The contents of the set, and below them the number of the event.
 export function drawContents(trace, scale) {
   const told = contentsIn(trace, scale.first, scale.last).filter((part) => part.from <= Math.max(scale.now, scale.first));
   const parts = told.map((part) => drawContent(part, scale));
@@ -52,7 +50,6 @@ export function drawContents(trace, scale) {
   return tag("svg", frame, nameOfContents(trace), ...parts, drawCursor(scale, 24), number, drawWindow(scale, trace.total, x));
 }
 
-// The order of the calls: those that are reached and, where nothing is hidden, pale those that come later.
 export function drawOrder(trace, count, hides = false) {
   const reached = trace.order.filter((call) => isReached(call, count));
   const order = hides ? reached : trace.order;

@@ -5,7 +5,6 @@ const EASE = { duration: TIME, easing: "cubic-bezier(.2, .7, .2, 1)" };
 
 const wantsStill = () => matchMedia("(prefers-reduced-motion: reduce)").matches;
 
-// Of each named part of a drawing where it stands, in its own coordinates, and where its arrow leads.
 function placesIn(box) {
   const places = new Map();
   for (const part of box.querySelectorAll("[data-part]")) {

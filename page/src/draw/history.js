@@ -19,14 +19,12 @@ function windowOf(total, count, room) {
 
 const shownIn = ({ calls }, first, last) => calls.filter(({ begun, ended }) => begun <= last && (ended === null || ended >= first));
 
-// How high the bars are, and how many rows of labels a lane may have, by the number of threads.
 function formOf(threads) {
   if (threads > 12) return { bar: 9, below: 1, mostRows: 1 };
   if (threads > 6) return { bar: 13, below: 4, mostRows: 1 };
   return { bar: BAR, below: BELOW, mostRows: threads > 3 ? 2 : 3 };
 }
 
-// The labels of the calls that are drawn, by the numbers of the calls, and how many rows they take.
 export function layLabels(threads, calls, itemOf, room) {
   const places = new Map();
   for (let thread = 0; thread < threads; thread++) {
@@ -37,7 +35,6 @@ export function layLabels(threads, calls, itemOf, room) {
   return { places, rows: Math.max(1, ...found.map(({ row }) => row + 1)), areWhole: found.length === places.size };
 }
 
-// Where an event stands, a thread's lane, and the labels of the calls. What comes after the event that is shown may be hidden.
 export function scaleOf(trace, count, width, hides = false) {
   const { first, last } = windowOf(trace.total, count, width - HISTORY_LEFT - HISTORY_RIGHT);
   const isWhole = first === 1 && last >= trace.total;
@@ -93,7 +90,6 @@ function drawBar(call, scale) {
   );
 }
 
-// The call and its reply above its bar, whole if there is space.
 function drawLabel(call, scale, left, top) {
   const place = scale.labels.get(call.id);
   if (place === null) return label({ class: "call", x: left, y: top - 4 }, signOf(call));
@@ -133,7 +129,6 @@ export function drawCursor(scale, bottom, top = 0) {
   return tag("line", { class: "cursor", x1: x, x2: x, y1: top, y2: bottom });
 }
 
-// The bars and points: the part that scrolls where there are many threads.
 export function drawCalls(trace, scale) {
   const { first, last, width, height } = scale;
   const shown = shownIn(trace, first, Math.min(last, scale.now));

@@ -65,7 +65,6 @@ function drawJudgedCall(call, { answer, exercise, verdict, scale }) {
   return tag("g", slider, bar, point === undefined ? "" : drawOwnPoint(call, point.at, y, scale));
 }
 
-// A bar with its call and reply above it, whole if there is space.
 function drawJudgedBar(call, reply, scale, y) {
   const [left, right] = [leftOf(call, scale), rightOf(call, scale)];
   const rect = { x: left, y: y - JUDGE_BAR / 2, width: Math.max(right - left, 12), height: JUDGE_BAR, rx: 4 };

@@ -3,7 +3,6 @@ import { CODE, CODE_OF } from "../../made/code.js";
 import { LISTS } from "../../made/rows.js";
 import { callText, chipOf, escaped, tag } from "../run/markup.js";
 
-// The steps of these functions that make a row, each with its function.
 function stepsAt(functions, row) {
   return functions.flatMap((code) => code.steps.filter(({ rows }) => rows.includes(row)).map((step) => ({ code, ...step })));
 }
@@ -30,7 +29,6 @@ export function stepOf(functions, held) {
   return found[0];
 }
 
-// The lines that have called the function of a step, from call to call.
 function callersOf(functions, name) {
   const calls = functions.flatMap((code) => code.calls.map(([line, called]) => ({ line, called, name: code.name })));
   const direct = calls.filter(({ called }) => called === name);
@@ -42,7 +40,6 @@ const rowText = (kind, number) => {
   return `row ${number}: ${escaped(step)} <span class="then">→ ${escaped(then)}</span> <small>${escaped(book)}</small>`;
 };
 
-// What is said at a line of the threads that stand there, by their rows.
 function standingText(kind, threads) {
   const rows = [...new Set(threads.map(({ held }) => held.pc))];
   const chips = (row) => threads.filter(({ held }) => held.pc === row).map(({ thread }) => chipOf(thread)).join(" ");
@@ -58,7 +55,6 @@ function lineItem(number, text, isSaid, kind, threads) {
   return tag("li", inside.length > 0 ? { class: "inside" } : {}, ...shown);
 }
 
-// A function, and the threads that stand in it or in what it calls. What is said of it ends where its body begins.
 function functionOf(code, kind, threads) {
   const lines = code.text.trimStart().split("\n");
   const body = lines.indexOf("{");

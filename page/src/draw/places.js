@@ -45,7 +45,6 @@ function importantNodes(state, event, pointers) {
   return important;
 }
 
-// The chain with its long stretches that nobody looks at folded.
 function foldedChain(chain, important) {
   if (chain.length <= MOST_UNFOLDED) return chain.map((name) => ({ name }));
   const isNear = (index) => chain.slice(Math.max(index - 1, 0), index + 2).some((name) => important.has(name));
@@ -59,7 +58,6 @@ function foldedChain(chain, important) {
   return items.flatMap((item) => (item.folded?.length === 1 ? [{ name: item.folded[0] }] : [item]));
 }
 
-// The places of the chain's nodes; the nodes of a fold have the fold's place.
 function placesOfChain(items, shape) {
   const places = {};
   let x = 16;
@@ -110,7 +108,6 @@ function roomsUnder(state, items, shown, shape) {
   return rooms;
 }
 
-// The registers of a thread at one node as labels, as many in one as there is room for.
 function labelTexts(thread, registers, room) {
   const texts = [];
   for (const register of registers) {

@@ -4,7 +4,6 @@ import { callText, chipOf, escaped, keyText, tag } from "../run/markup.js";
 
 export const MOST_ROWS = 8; // of more threads only those with an open call are shown at first
 
-// The threads that the table shows: all of a few, else those with an open call and that of the event.
 function threadsShown(state, event, all) {
   const every = state.threads.map((_, thread) => thread);
   if (all || every.length <= MOST_ROWS) return every;

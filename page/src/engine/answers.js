@@ -17,7 +17,6 @@ function callOfRecording(line) {
   return { thread: Number(thread), operation, key: Number(key), ...moments, reply: isOpen ? null : reply };
 }
 
-// A report: its header, its calls, its order as places { call, reply }, and its keys.
 export function readReport(text) {
   const lines = linesIn(text);
   const linesOf = (word) => lines.filter((line) => line.startsWith(`${word} `));
@@ -34,7 +33,6 @@ export function readReport(text) {
   };
 }
 
-// A recording: its first calls, at most so many, and whether it leaves a key.
 export function callsOfRecording(text, most) {
   const calls = [];
   for (const [line] of text.matchAll(/^call .*$/gm)) {
@@ -52,7 +50,6 @@ export const readExamples = (text) =>
     return { name, kind };
   });
 
-// An error of a text: its line and cause, each null where the answer names none, and the engine's own words.
 export function readFault(text) {
   const says = text.trim();
   const [, line = null, cause = null] = /^listset: line (\d+): (\w+)$/.exec(says) ?? [];

@@ -38,7 +38,6 @@ export function listenToBar() {
   byId("long-cancel").onclick = cancelLong;
 }
 
-// What the reader has set is kept: whether what is to come is hidden, and whether single letters are keys.
 export function listenToSettings() {
   const kept = keptUnder(SETTINGS) ?? {};
   change("prefs", { hides: kept.hides !== false, letters: kept.letters !== false });

@@ -122,7 +122,6 @@ function scrollToClash() {
   box.scrollLeft = clash === null ? 0 : clash.getBoundingClientRect().right + REPLY_WIDTH - left - box.clientWidth;
 }
 
-// The report of the schedule that is shown, or the line about its first fault.
 async function showOwnReport(schedule) {
   const { lacks } = now.run;
   const answer = lacks === null ? await askLong("listset_replay", schedule) : askList(askNow, "listset_replay", lacks, schedule);

@@ -63,12 +63,10 @@ export const works = {
     this.isKept = keepUnder(KEPT, [...this.byName]);
   },
 
-  // The name of the last work of which this is so, or null.
   last(isWanted) {
     return [...this.byName].findLast(([, work]) => isWanted(work))?.[0] ?? null;
   },
 
-  // The name of the work with this text, run on the same list, or null.
   nameOf(text, lacks = null) {
     return this.last((work) => work.text === text && (work.lacks ?? null) === lacks);
   },

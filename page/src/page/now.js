@@ -60,7 +60,6 @@ export function takeTrace(trace, at, source) {
   show();
 }
 
-// The schedule of the trace that is shown, in the box.
 export function takeScheduleOfTrace() {
   const text = scheduleOfTrace(now.run.trace);
   change("run", { text });
@@ -78,7 +77,6 @@ export function askNow(name, ...texts) {
   }
 }
 
-// Tells a fault of the text: the program's own line, and the cause in words. The run that is shown may be that of another text.
 export function tellFault(line, cause, said, isOld = true) {
   change("run", { faultLine: line, isRun: !isOld });
   byId("stage").classList.toggle("old", isOld);

@@ -39,14 +39,12 @@ function playOn() {
 
 export const togglePlay = () => (play.timer === null ? startPlay() : stopPlay());
 
-// Another speed holds at once.
 export function changeSpeed() {
   if (play.timer === null) return;
   stopPlay();
   startPlay();
 }
 
-// The reader goes to an event: the play ends.
 export function goByHand(count) {
   stopPlay();
   goTo(count);

@@ -41,7 +41,6 @@ export const SEEN = {
   "no-engine": ({ hasEngine }) => hasEngine === false,
 };
 
-// What is seen in a state; and the activity is marked as the one that is open.
 export function showParts(state) {
   const facts = factsOf(state, { hasEngine: services.hasEngine });
   for (const [id, isSeen] of Object.entries(SEEN)) setHidden(byId(id), !isSeen(facts), byId("skip"));

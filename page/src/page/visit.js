@@ -49,7 +49,6 @@ function setAddress() {
 
 export const linkTo = (address) => location.href.replace(/#.*$/, "") + address;
 
-// A link to what is shown: it is told, and copied if the browser lets a page do that.
 export async function copyLink() {
   const address = now.run.isRun ? addressHere() : null;
   if (address === null) return tell("This schedule has no link: it is refused, or too long for an address. Save it as a file.");
@@ -89,7 +88,6 @@ export function addressOfCode(list, opening, lines, set = SET_OF_CODE) {
   return `#code=${list}${ofSet}${ofOpening}${lines.length > 0 ? `&s=${lines.map(shortLine).join()}` : ""}`;
 }
 
-// A level with the run in it, where that is another one than at its start.
 function addressOfLevel({ id }, { text }) {
   const name = levelOfNumber(id);
   if (id === "" || text === "" || text === startOfLacking(name)) return id === "" ? "#break" : `#break=${id}`;

@@ -68,7 +68,6 @@ export function showHeader(trace) {
   byId("new-quota").value = trace.quota;
 }
 
-// Runs a text by the engine, and then tells a line. The page computes no step of a list.
 function runText(text, at, told = "") {
   stopPlay();
   change("run", { text });
@@ -139,7 +138,6 @@ export function scrollToLine(event) {
   if (y < box.scrollTop || y > box.scrollTop + box.clientHeight - 2 * LINE_HEIGHT) box.scrollTop = y - box.clientHeight / 2;
 }
 
-// Marks the line of the event and the line with a fault, while the box has the text that was run.
 export function showMarks() {
   const box = byId("schedule");
   const isStale = box.value !== now.run.text;

@@ -79,7 +79,6 @@ export function readAddress(hash) {
   return named;
 }
 
-// The name of the broken list that an address names by its number or its name: it is one of the list that the address names.
 function lackingNamed(which, { list, example }) {
   const names = Object.keys(LACKING);
   const lacks = names.includes(which) ? which : names[which - 1];
@@ -91,7 +90,6 @@ function lackingNamed(which, { list, example }) {
   throw new AddressFault(`lacks=${which} is a broken ${LISTS[LACKING[lacks]].name}, and the address has ${named}`);
 }
 
-// The activity that an address names, with its value; whether its run is to be judged; and the parts of the run.
 function placeOf(parts, seed) {
   const isRun = seed !== null || parts.example !== undefined || parts.list !== undefined;
   const name = ["watch", "learn", "judge", "break", "compare", "read"].find((one) => parts[one] !== undefined);

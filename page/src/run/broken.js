@@ -51,7 +51,6 @@ function whyNone(text, { key, moment, since, isThere, calls }) {
   return `${key} is ${isThere ? "there" : "not there"} ${since === "0" ? "at first" : `after event ${since}`}, and then ${then}`;
 }
 
-// Whether a key was put in once, and neither taken out nor there at first, and is not left.
 function isLost({ calls, opening, keys }, key) {
   const count = (operation) => calls.filter((call) => call.operation === operation && call.reply === "true" && call.key === key).length;
   const isThere = opening.includes(key) || keys.includes(key);

@@ -48,7 +48,6 @@ function wrongLine(lines) {
   return lines.length === at + 2 && lines[at + 1] === "" ? -1 : at + 1;
 }
 
-// The first event that is of no call, or null.
 function wrongEvent(text) {
   let count = 0;
   try {

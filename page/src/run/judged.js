@@ -52,7 +52,6 @@ export class OwnAnswer {
     this.isNone = false;
   }
 
-  // Puts a call at a moment of its bar, to the nearest half.
   place(call, at) {
     const within = Math.min(Math.max(Math.round(2 * at) / 2, call.begun), lastMoment(this.exercise, call));
     if (this.points.get(call.id)?.at !== within) this.points.set(call.id, { at: within, turn: this.turn++ });
@@ -80,7 +79,6 @@ export class OwnAnswer {
     return placed.map(({ call, at }) => ({ call, at, reply: this.replyOf(call) }));
   }
 
-  // What is still to be said, in words: of each call its point, its reply, or both.
   unsaid() {
     const lackOf = (call) => [this.points.has(call.id) ? "" : "point", this.replyOf(call) === null ? "reply" : ""].filter((it) => it !== "");
     const lacking = this.exercise.calls.filter((call) => call.ended !== null && lackOf(call).length > 0);
@@ -94,7 +92,6 @@ export function reportOfAnswer(answer) {
   return [...head, ...callLines, ...places, ...keyLines, "end", ""].join("\n");
 }
 
-// What is said of an answer: whether it is right, the sentence, the call that clashes, and the report that was judged, if one was.
 export function verdictOn(ask, answer) {
   const unsaid = answer.unsaid();
   if (answer.isNone) return verdictOnClaim(ask, answer.exercise);

@@ -23,7 +23,6 @@ function marksOf(trace) {
   return trace.marks;
 }
 
-// A node with the thread whose slot it is, and the thread that marked it.
 function wholeName({ trace, event }, name) {
   const whose = isOpeningNode(trace, name) ? "the node of an opening key" : `${chipOf(ownerOf(trace, name))}'s node`;
   const mark = marksOf(trace).get(name);
@@ -56,7 +55,6 @@ export const OUTCOMES = {
     return state.chain().includes(owner) ? `${owner} is still in the chain.` : `${owner} is not in the chain any more.`;
   },
 
-  // A link that went to a node goes past it.
   unlink(moment) {
     const { state, event, before, wasInChain } = moment;
     const gone = before.curr;
@@ -65,7 +63,6 @@ export const OUTCOMES = {
     return `<b>This unlinks ${wholeName(moment, gone)}.`;
   },
 
-  // The last exchange of a remove, which answers whatever it sees.
   leftInChain({ state, event, before }) {
     if (!isFailed(event) || event.answer === undefined) return "";
     if (!state.chain().includes(before.curr)) return `${before.curr} is not in the chain any more.`;

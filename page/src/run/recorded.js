@@ -2,7 +2,6 @@
 import { callsOfRecording, leavesKey, readVerdict, sentenceOn } from "../engine/answers.js";
 import { nameOfCall } from "./judged.js";
 
-// Two threads looked for a key, did not find it, and put it in.
 export const RECORDED_EXAMPLE = `listset-calls 1
 opening 8
 call 0 add 5 1 4 true
@@ -22,7 +21,6 @@ export const recordedInWords = (call) =>
     ? `${nameOfCall(call)}, begun at ${call.begun}, is pending`
     : `${nameOfCall(call)} answers ${call.reply}, from ${call.begun} to ${call.ended}`;
 
-// Which keys were left is not known of a recording that was cut off.
 function okInWords({ count, isCutOff }) {
   const calls = count === 1 ? "this one call" : `these ${count.toLocaleString("en")} calls`;
   const keys = isCutOff ? ", whatever keys it leaves" : " and leaves the keys";
@@ -72,7 +70,6 @@ function verdictOfRefusal(why, text) {
   };
 }
 
-// The program's own line about an error, and in words what it is that the text has wrong.
 function troubleInWords(ask, { cause, says }) {
   const why = sentenceOn(ask, cause, "recorded calls");
   return why === null ? says : `${says}: ${why}.`;

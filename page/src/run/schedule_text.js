@@ -11,7 +11,6 @@ export function scheduleText({ list, threads, quota, opening = [], version = nul
 const TITLE_OF_SECOND = "listset-schedule 2";
 export const versionOf = (schedule) => (schedule.startsWith(`${TITLE_OF_SECOND}\n`) ? 2 : 1);
 
-// The schedule of the first `count` events, as the lines of the trace have them.
 export function scheduleOfTrace(trace, count = trace.total) {
   const lines = [];
   let [steps, before] = [0, null];
@@ -33,7 +32,6 @@ export function openingIn(schedule) {
   return lines.slice(0, count === -1 ? lines.length : count).map((line) => line.slice("opening ".length));
 }
 
-// The schedule with these opening keys in place of its own. Opening keys want the second version.
 export function withOpening(schedule, keys) {
   const lines = schedule.split("\n");
   lines.splice(HEADER_LINES, openingIn(schedule).length, ...keys.map((key) => `opening ${key}`));
@@ -72,7 +70,6 @@ function stepsOfLacking(ask, lacks, lines, thread, row) {
   return fault(end !== -1 || steps.length === 0 ? "Idle" : "Waits");
 }
 
-// The schedule of a text in which a line may say `go T out` or `go T to ROW`, of steps on such a list.
 function scheduleOfLackingDraft(ask, lacks, text) {
   const lines = [];
   for (const line of text.split("\n").slice(0, -1)) {

@@ -29,7 +29,6 @@ export function programText(program) {
   return lines.join("");
 }
 
-// One of the lists: the lines of its schedule, its run, and how many of its events there were after each turn.
 class Side {
   constructor(ask, kind, { program, quota, opening }) {
     this.ask = ask;

@@ -9,7 +9,6 @@ export const MOST_NUMBER = 4294967295;
 export const isTrace = (text) => text.startsWith("listset-trace");
 
 export class Trace {
-  // The version is that of the schedule's text: the one that is given, and the second where there are opening keys or a ceiling.
   constructor(text, version = 1) {
     const [, kind, lacks = null, threads, quota] =
       /^listset-trace 1\nlist (\S+)\n(?:lacks (\S+)\n)?threads (\d+)\nquota (\d+)\n/.exec(text);
@@ -47,7 +46,6 @@ export class Trace {
     }
   }
 
-  // Notes what the line of an event says of its call and of the set.
   note(line, number) {
     if (line.includes("*")) this.starred.push(number);
     if (line.includes(" begin ")) this.noteCall(line.split(" "), number);
@@ -104,7 +102,6 @@ export class Trace {
   }
 }
 
-// What the end of an event's line tells: the row and the registers of its thread, a change of the set, an answer and its moment.
 function tellIn(event, name, value) {
   if (name === "answer") event.answer = value;
   else if (name === "put" || name === "took" || name === "at") event[name] = Number(value);

@@ -71,7 +71,6 @@ export function wayOn({ activity, id }, own) {
   return next === undefined ? { href: addressOfAssignment(homework), words: "All tasks →" } : { href: next.href, words: "Next task →" };
 }
 
-// The tasks of an assignment, in order, and what its address names that there is not.
 export function tasksOf(given) {
   const unknown = [];
   const taken = (words, taskOf, what) =>
@@ -104,7 +103,6 @@ export function taskOfJudged(line, tasks) {
   return tasks.find(({ seed }) => seed !== undefined && text === scheduleOfSeed(askNow, seed)) ?? null;
 }
 
-// Of each task the line that is handed in for it, or nothing.
 function linesDone(tasks) {
   const lessons = keptUnder("listset-lessons-2")?.of?.[BOOK_NAME]?.solutions ?? {};
   const broken = Object.fromEntries(brokenLines());

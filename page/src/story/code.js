@@ -30,7 +30,6 @@ function wordsOf(text, rows, struck) {
   return `${inBold(text.slice(0, at))}${missing}${inBold(text.slice(at + part.length))}`;
 }
 
-// The threads at a line: two of them, or the first and how many more.
 const drawHere = (threads) => (threads.length < 3 ? threads.map(chipOf).join("") : `${chipOf(threads[0])}<small>+${threads.length - 1}</small>`);
 
 /** @param {any} line @param {CodeSpec} spec */

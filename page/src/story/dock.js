@@ -36,14 +36,12 @@ function threadRow(thread, inside) {
   return tag("div", given, chipOf(thread), " ", inside);
 }
 
-// A thread that has nothing left to do, with its last answer.
 function restOf(run, thread, last) {
   if (last === undefined) return threadRow(thread, "");
   const reply = last.ended !== null && run.count >= last.ended ? `<b class="reply ${last.reply}">${answerText(last.reply)}</b>` : "";
   return threadRow(thread, `<code>${callText(last)}</code> <span class="does">${reply}</span>`);
 }
 
-// An idle thread may begin any call; its last answer stands beside that.
 function chooser(figure, thread, own) {
   const last = own.at(-1);
   const [operation, key] = figure.chosen[thread] ?? [last?.operation ?? "add", last?.key ?? 5];
@@ -56,7 +54,6 @@ function chooser(figure, thread, own) {
   return threadRow(thread, `<span class="choose">${fields}<button data-begin="${thread}">begin</button></span> ${reply}`);
 }
 
-// The calls as bars, and what is in the set at each time.
 export function showStrip(figure) {
   const { run } = figure;
   const wide = Math.max(280, figure.stripWide);

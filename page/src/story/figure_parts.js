@@ -92,7 +92,6 @@ function placeTheList(figure, { state, event }, isNear) {
   glide(box, draw, isNear);
 }
 
-// The drawing in the middle of the stage, as large as it has room.
 function fitList({ spec, most: { width } }, svg, room, own) {
   const [, top, , high] = svg.getAttribute("viewBox").split(" ").map(Number);
   const tall = Math.max(innerHeight * (spec.high ?? MOST_HEIGHT), spec.least ?? 180);
@@ -123,7 +122,6 @@ function plainSign(spec, sign) {
   else sign.textContent = `${letter} ${names.join(", ")}`;
 }
 
-// The nodes of the keys that were promised and are not in the list.
 export function markLostNodes({ run, box }) {
   const has = run.has();
   const isLost = ({ key }) => run.promised().some((one) => String(one) === key && !has.includes(one));

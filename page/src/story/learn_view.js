@@ -44,7 +44,6 @@ function begin({ id, given }) {
   looked();
 }
 
-// Whether a text is a try of this lesson, and not one of another list.
 const fits = (text) => text.split("\n")[1] === learning.panel.lesson.begun.split("\n")[1];
 
 function takeTry(figure, lines) {

@@ -12,7 +12,6 @@ const MOST_STEPS = 80; // of one call, in the short lists of the story
 
 export const linesOf = (schedule) => schedule.split("\n").filter((line) => /^(begin|go) /.test(line));
 
-// A schedule's text as what a figure begins with.
 export function runOfText(text) {
   const valueOf = (word) => new RegExp(`^${word} (.*)$`, "m").exec(text)?.[1];
   return {
@@ -149,7 +148,6 @@ export class LiveRun extends ShownRun {
     this.take([...this.lines, `go ${thread} ${steps}`]);
   }
 
-  // What the proved judge says of the run: whether some order of the calls explains their answers and what is left.
   verdict() {
     return verdictOnLacking(askNow, this.spec.lacks, this.schedule);
   }

@@ -103,7 +103,6 @@ async function guessed(index) {
   markContents(figure);
 }
 
-// The stretches of the row of contents, to be pressed.
 function markContents(figure) {
   figure.part("strip").querySelectorAll(".content").forEach((stretch, index) => {
     const contents = stretch.querySelector("title").textContent;

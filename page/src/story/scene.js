@@ -29,7 +29,6 @@ export const faultOfScene = (place) => viewOf(place).fault?.(place) ?? null;
 export const isScene = ({ place }) => place.screen === "scene";
 export const setScene = (given) => dispatch("scene", given);
 
-// Copies a text and says so, or shows it, to be copied by hand.
 export async function copyText(text, words) {
   part("#scene-told").textContent = ((await copied(text)) ? words : `Copy this by hand: ${text}`) + warningOf(text);
 }
@@ -157,7 +156,6 @@ export function replyTo(options, chosen, isToCome) {
   return `<p class="you ${right ? "right" : "wrong"}"><b>${said}</b> ${say || (right && isToCome ? "Let us see." : "")}</p>`;
 }
 
-// What the answers promise against what the list has: the whole contradiction in two rows.
 export function drawLedger(run) {
   const [promised, has] = [run.promised(), run.has()];
   const all = [...new Set([...promised, ...has])].sort((one, other) => one - other);
