@@ -1426,11 +1426,80 @@ const signOf = ({ operation, key }) => SIGNS[operation](key);
 return { HISTORY_LEFT, layLabels, scaleOf, isReached, drawLane, drawCursor, drawCalls, ROW_HEIGHT, widthOf, signOf };
 })();
 
-// draw/contents.js
-const $draw_contents = (() => {
-const { callText, chipOf, label, openReply, tag, title } = $run_markup;
+// draw/tables.js
+const $draw_tables = (() => {
+const { LISTS } = $made_rows;
+const { callText, chipOf, escaped, keyText, label, openReply, tag, title } = $run_markup;
 const { contentsIn } = $run_state;
 const { drawCursor, HISTORY_LEFT, isReached } = $draw_history;
+const MOST_ROWS = 8; // of more threads only those with an open call are shown at first
+
+function threadsShown(state, event, all) {
+  const every = state.threads.map((_, thread) => thread);
+  if (all || every.length <= MOST_ROWS) return every;
+  return every.filter((thread) => state.threads[thread].pc !== 0 || thread === event?.thread);
+}
+
+function callCell(held, moved, event, hidesReplies) {
+  if (held.pc !== 0) return callText(held.call);
+  if (moved && event.answer !== undefined) return `${callText(held.call)} <b>${hidesReplies ? "…" : event.answer}</b>`;
+  return '<span class="pale">idle</span>';
+}
+
+function rowCell(held, kind) {
+  if (held.pc === 0) return "";
+  const row = LISTS[kind].rows[held.pc];
+  return `<b>${held.pc}</b> ${row ? `${row.step} <small>${row.book}</small>` : ""}`;
+}
+
+const hasRegister = (kind, call, name) => LISTS[kind].calls[call.operation].registers.includes(name);
+
+function registerCell(held, name, moved, event, kind) {
+  if (held.pc === 0 || !hasRegister(kind, held.call, name)) return "";
+  const value = keyText(held[name]);
+  if (moved && event.changes[name] !== undefined) return `<b class="new">${value}</b>`;
+  return held[name] === "head" || held[name] === "-inf" ? `<span class="pale">${value}</span>` : value;
+}
+
+function threadRow(state, thread, event, hidesReplies) {
+  const { kind, quota } = state.trace;
+  const held = state.threads[thread];
+  const moved = event?.thread === thread;
+  const cells = [
+    tag("td", {}, callCell(held, moved, event, hidesReplies)),
+    tag("td", { class: "next" }, rowCell(held, kind)),
+    ...LISTS[kind].registers.map((name) => tag("td", {}, registerCell(held, name, moved, event, kind))),
+    tag("td", {}, held.pc !== 0 && held.reply !== "none" && !hidesReplies ? held.reply : ""),
+    tag("td", {}, `${held.used} of ${quota}`),
+  ];
+  return tag("tr", moved ? { class: "moved" } : {}, tag("th", { scope: "row" }, chipOf(thread)), ...cells);
+}
+
+function drawThreads(state, event, all, hidesReplies = false) {
+  const { registers } = LISTS[state.trace.kind];
+  const heads = ["thread", "call", "next row of the step table", ...registers, "reply", "slots used"];
+  const rows = threadsShown(state, event, all).map((thread) => threadRow(state, thread, event, hidesReplies));
+  if (rows.length === 0) rows.push(`<tr><td colspan="${heads.length}" class="pale">every thread is idle</td></tr>`);
+  const head = tag("tr", {}, ...heads.map((text) => tag("th", { scope: "col" }, text)));
+  return tag("table", {}, tag("thead", {}, head), tag("tbody", {}, ...rows));
+}
+
+
+function drawTable({ trace, state, event, before }) {
+  const made = event === null || event.deed === "begin" ? null : before.pc;
+  const at = new Map();
+  state.threads.forEach((held, thread) => at.set(held.pc, [...(at.get(held.pc) ?? []), thread]));
+  const lines = Object.entries(LISTS[trace.kind].rows).map(([number, row]) => {
+    const here = (at.get(Number(number)) ?? []).map(chipOf).join(" ");
+    const by = made === Number(number) ? ` <small>made by</small> ${chipOf(event.thread)}` : "";
+    const cells = [here, `<b>${number}</b>${by}`, escaped(row.step), escaped(row.then), `<small>${escaped(row.book)}</small>`];
+    return tag("tr", by === "" ? {} : { class: "moved" }, ...cells.map((text) => tag("td", {}, text)));
+  });
+  const heads = ["next", "row", "step", "then", "in the book"].map((text) => tag("th", { scope: "col" }, text));
+  return tag("table", {}, tag("thead", {}, tag("tr", {}, ...heads)), tag("tbody", {}, ...lines));
+}
+
+
 const KEY_WIDTH = 8; // pixels, of each character of the contents
 
 function drawContent(part, scale) {
@@ -1494,7 +1563,7 @@ function drawOrder(trace, count, hides = false) {
   const after = last < total ? `<li class="later">… ${total - last} more</li>` : "";
   return `<ol>${before}${items.join("")}${after}</ol>`;
 }
-return { drawContents, drawOrder };
+return { MOST_ROWS, drawThreads, drawTable, drawContents, drawOrder };
 })();
 
 // made/code.js
@@ -2122,79 +2191,6 @@ function drawListing({ trace, state, event }) {
   return tag("div", { class: "listings" }, ...parts, ...byRows);
 }
 return { codeOf, stepOf, drawListing };
-})();
-
-// draw/tables.js
-const $draw_tables = (() => {
-const { LISTS } = $made_rows;
-const { callText, chipOf, escaped, keyText, tag } = $run_markup;
-const MOST_ROWS = 8; // of more threads only those with an open call are shown at first
-
-function threadsShown(state, event, all) {
-  const every = state.threads.map((_, thread) => thread);
-  if (all || every.length <= MOST_ROWS) return every;
-  return every.filter((thread) => state.threads[thread].pc !== 0 || thread === event?.thread);
-}
-
-function callCell(held, moved, event, hidesReplies) {
-  if (held.pc !== 0) return callText(held.call);
-  if (moved && event.answer !== undefined) return `${callText(held.call)} <b>${hidesReplies ? "…" : event.answer}</b>`;
-  return '<span class="pale">idle</span>';
-}
-
-function rowCell(held, kind) {
-  if (held.pc === 0) return "";
-  const row = LISTS[kind].rows[held.pc];
-  return `<b>${held.pc}</b> ${row ? `${row.step} <small>${row.book}</small>` : ""}`;
-}
-
-const hasRegister = (kind, call, name) => LISTS[kind].calls[call.operation].registers.includes(name);
-
-function registerCell(held, name, moved, event, kind) {
-  if (held.pc === 0 || !hasRegister(kind, held.call, name)) return "";
-  const value = keyText(held[name]);
-  if (moved && event.changes[name] !== undefined) return `<b class="new">${value}</b>`;
-  return held[name] === "head" || held[name] === "-inf" ? `<span class="pale">${value}</span>` : value;
-}
-
-function threadRow(state, thread, event, hidesReplies) {
-  const { kind, quota } = state.trace;
-  const held = state.threads[thread];
-  const moved = event?.thread === thread;
-  const cells = [
-    tag("td", {}, callCell(held, moved, event, hidesReplies)),
-    tag("td", { class: "next" }, rowCell(held, kind)),
-    ...LISTS[kind].registers.map((name) => tag("td", {}, registerCell(held, name, moved, event, kind))),
-    tag("td", {}, held.pc !== 0 && held.reply !== "none" && !hidesReplies ? held.reply : ""),
-    tag("td", {}, `${held.used} of ${quota}`),
-  ];
-  return tag("tr", moved ? { class: "moved" } : {}, tag("th", { scope: "row" }, chipOf(thread)), ...cells);
-}
-
-function drawThreads(state, event, all, hidesReplies = false) {
-  const { registers } = LISTS[state.trace.kind];
-  const heads = ["thread", "call", "next row of the step table", ...registers, "reply", "slots used"];
-  const rows = threadsShown(state, event, all).map((thread) => threadRow(state, thread, event, hidesReplies));
-  if (rows.length === 0) rows.push(`<tr><td colspan="${heads.length}" class="pale">every thread is idle</td></tr>`);
-  const head = tag("tr", {}, ...heads.map((text) => tag("th", { scope: "col" }, text)));
-  return tag("table", {}, tag("thead", {}, head), tag("tbody", {}, ...rows));
-}
-
-
-function drawTable({ trace, state, event, before }) {
-  const made = event === null || event.deed === "begin" ? null : before.pc;
-  const at = new Map();
-  state.threads.forEach((held, thread) => at.set(held.pc, [...(at.get(held.pc) ?? []), thread]));
-  const lines = Object.entries(LISTS[trace.kind].rows).map(([number, row]) => {
-    const here = (at.get(Number(number)) ?? []).map(chipOf).join(" ");
-    const by = made === Number(number) ? ` <small>made by</small> ${chipOf(event.thread)}` : "";
-    const cells = [here, `<b>${number}</b>${by}`, escaped(row.step), escaped(row.then), `<small>${escaped(row.book)}</small>`];
-    return tag("tr", by === "" ? {} : { class: "moved" }, ...cells.map((text) => tag("td", {}, text)));
-  });
-  const heads = ["next", "row", "step", "then", "in the book"].map((text) => tag("th", { scope: "col" }, text));
-  return tag("table", {}, tag("thead", {}, tag("tr", {}, ...heads)), tag("tbody", {}, ...lines));
-}
-return { MOST_ROWS, drawThreads, drawTable };
 })();
 
 // page/dom.js
@@ -6552,7 +6548,7 @@ return { phaseAt, joinedRows, phaseText, answerText, taleOf };
 // story/dock.js
 const $story_dock = (() => {
 const { callText, chipOf, colourOf, letterOf, tag } = $run_markup;
-const { drawContents } = $draw_contents;
+const { drawContents } = $draw_tables;
 const { drawCalls, scaleOf } = $draw_history;
 const { redraw, setHtml } = $page_dom;
 const { answerText, phaseText } = $story_tale;
@@ -7585,10 +7581,9 @@ const { anotherSeed, partsOfSeed, scheduleOfSeed, seedOf } = $run_address;
 const { escaped, listOptions } = $run_markup;
 const { scheduleOfTrace } = $run_schedule_text;
 const { momentAt, sentenceOf } = $run_sentences;
-const { drawOrder } = $draw_contents;
+const { drawOrder, drawTable, drawThreads, MOST_ROWS } = $draw_tables;
 const { HISTORY_LEFT } = $draw_history;
 const { drawListing } = $draw_listing;
-const { drawTable, drawThreads, MOST_ROWS } = $draw_tables;
 const { byId, setAble, setHtml } = $page_dom;
 const { works } = $page_kept;
 const { askNow, hiddenOutcomes, isJudging, now, show, tell } = $page_now;
@@ -9930,24 +9925,18 @@ const b = (text) => `<b>${text}</b>`;
 
 const SCREENS = [
   {
-    id: "alone",
-    nav: "One thread",
-    question: "How does a thread put 5 into a sorted list?",
+    id: "alone", nav: "One thread", question: "How does a thread put 5 into a sorted list?",
     prose: "A set of numbers is kept as a chain of nodes, in order. To add 5, a thread walks along it with two fingers: <b>curr</b> is on the node that it looks at, <b>pred</b> on the one before. Where the next number is too big, it makes a node and hangs it in between.",
     figure: { list: "coarse", lacks: "lock", plain: true, opening: [3, 7], calls: { 0: [["add", 5]] }, shown: [0], codeTitle: "The algorithm", tale: "Head and tail stand at the ends: smaller and bigger than every number.", roomFor: 694, tall: true, high: 0.26 },
-    task: "Press the blue button until A has its answer.",
-    help: [[0]],
+    task: "Press the blue button until A has its answer.", help: [[0]],
     goal: (fig) => (fig.run.trace.calls[0]?.reply ? { done: "" } : null),
     reveal: () => `${b("5 is in, and A was told true.")} Walk, make a node, change one arrow: that is all of it. For one thread it is right. Now let a second one in.`,
   },
   {
-    id: "lost",
-    nav: "Lost",
-    question: "Two threads take the same steps. Can a number get lost?",
+    id: "lost", nav: "Lost", question: "Two threads take the same steps. Can a number get lost?",
     prose: "A adds 5, B adds 6. A computer may stop a thread between any two of its steps, and let another one run. Here, you decide.",
     figure: { list: "coarse", lacks: "lock", plain: true, opening: [3, 7], calls: { 0: [["add", 5]], 1: [["add", 6]] }, codeTitle: "The same algorithm", tale: "Nobody has begun yet.", roomFor: 836, tall: true },
-    task: "Press A and B in an order that loses a number.",
-    help: [[0], [1], [1], [1], [0], [0]],
+    task: "Press A and B in an order that loses a number.", help: [[0], [1], [1], [1], [0], [0]],
     goal: (fig) => {
       if (fig.run.trace.calls.filter(({ reply }) => reply !== null).length < 2) return null;
       if (fig.run.isBroken()) return { done: "" };
@@ -9961,9 +9950,7 @@ const SCREENS = [
     },
   },
   {
-    id: "one-lock",
-    nav: "One lock",
-    question: "One lock for the whole list: what does it cost?",
+    id: "one-lock", nav: "One lock", question: "One lock for the whole list: what does it cost?",
     prose: "The cure is simple. A thread takes the lock before its first step, and gives it back after its last. A thread that finds it taken has to wait. Now no number can get lost.",
     figure: { list: "coarse", opening: [3, 7, 9], calls: { 0: [["add", 5]], 1: [["contains", 9]] }, lines: ["begin 0 add 5", "go 0 5"], codeTitle: "One lock", fresh: [1, 10], roomFor: 836, tall: true, tale: "" },
     ask: "A has the lock, and the computer stops A for a while. B only wants to know whether 9 is in the list. How far does B get?",
@@ -9972,14 +9959,11 @@ const SCREENS = [
       { text: "As far as A", say: "There is no “as far as”: the lock is not on a node, it is on the whole list." },
       { text: "Not one step", right: true, say: "" },
     ],
-    play: [[1], [1]],
-    after: "Go on as you like: let A finish, then B.",
+    play: [[1], [1]], after: "Go on as you like: let A finish, then B.",
     reveal: () => `${b("Not one step.")} One lock is always right. But while one thread works, all others wait: even those that only read, even at the other end of the list.`,
   },
   {
-    id: "hand-over-hand",
-    nav: "Hand over hand",
-    question: "Can each node have a lock of its own?",
+    id: "hand-over-hand", nav: "Hand over hand", question: "Can each node have a lock of its own?",
     prose: "Now a thread locks only where it stands: pred and curr. Like hands on a rope, it lets go of one node only when it holds the next. Others may be elsewhere in the list.",
     figure: { list: "fine", opening: [3, 7, 9], calls: { 0: [["add", 8]], 1: [["contains", 9]] }, lines: ["begin 0 add 8", "go 0 8"], codeTitle: "Hand over hand", fresh: [1, 3, 5], roomFor: 836, tall: true },
     ask: "The same question. A has locked 3 and 7, and is stopped there. B wants to know whether 9 is in the list. How far does B get?",
@@ -9988,14 +9972,11 @@ const SCREENS = [
       { text: "As far as A", right: true, say: "" },
       { text: "Not one step", say: "The head is free: A let go of it when it held the next two. So B can get in." },
     ],
-    play: [[1], [1], [0], [1]],
-    after: "Go on as you like: B follows A, hand over hand.",
+    play: [[1], [1], [0], [1]], after: "Go on as you like: B follows A, hand over hand.",
     reveal: () => `${b("Up to A, and no further.")} When A moved on, B followed: both work in the list at the same time. But nobody overtakes: one slow thread near the front holds up everyone behind it. And each step of a walk takes one lock and gives one back.`,
   },
   {
-    id: "no-look",
-    nav: "Free walk",
-    question: "Most steps only look. Can a walk do without locks?",
+    id: "no-look", nav: "Free walk", question: "Most steps only look. Can a walk do without locks?",
     prose: "So let threads walk freely, and lock only at the end: pred and curr. Then check that pred still points to curr, and only then write. Nothing holds up a walk any more. Is it still right?",
     figure: { list: "optimistic", lacks: "second-walk", opening: [3, 7], calls: { 0: [["add", 5]], 1: [["remove", 3]] }, codeTitle: "Walk, then lock", tale: "Nobody has begun yet.", hides: [6, 7], instead: { 8: "valid: pred.next is curr" }, words: { again: "see if pred points to curr" }, roomFor: 694, tall: true },
     task: "A adds 5, B removes 3. Find an order in which 5 gets lost, although both lock what they change.",
@@ -10009,9 +9990,7 @@ const SCREENS = [
     reveal: () => `${b("5 hangs on a node that is out of the list.")} A did lock 3. But between A’s walk and its lock, B had taken 3 out. A lock keeps others out from now on. It does not tell you what happened before you had it.`,
   },
   {
-    id: "look-again",
-    nav: "Look again",
-    question: "What must A look at, once it has its locks?",
+    id: "look-again", nav: "Look again", question: "What must A look at, once it has its locks?",
     prose: "The same moment again. B has taken 3 out; A has locked 3, its pred, and 7, its curr. Before A writes, it should notice.",
     figure: { list: "optimistic", opening: [3, 7], calls: { 0: [["add", 5]] }, lines: ["begin 0 add 5", "go 0 4", "begin 1 remove 3", "go 1 out", "go 0 2"], shown: [0], codeTitle: "Walk, lock, look again", fresh: [6, 7], hidden: { hides: [6, 7] }, roomFor: 694, tall: true },
     ask: "Which check tells A that its pred is out of the list?",
@@ -10020,14 +9999,11 @@ const SCREENS = [
       { text: "Does pred still point to curr?", say: "It does, and A has looked at that before, in vain: B changed the arrow <i>before</i> 3, not that of 3. A needs this check too, but it is not enough." },
       { text: "Does a new walk from the head meet pred?", right: true, say: "" },
     ],
-    play: [[0]],
-    after: "Let A go on: it lets go, starts again, and 5 is in.",
+    play: [[0]], after: "Let A go on: it lets go, starts again, and 5 is in.",
     reveal: () => `${b("A walks once more.")} The new walk gets past the place of 3 without meeting A’s pred: not valid, A starts again. Hope first, check at the end: that is called <i>optimistic</i>. Its price: each call walks twice, and even readers have to lock.`,
   },
   {
-    id: "mark",
-    nav: "A mark",
-    question: "Could a node itself say that it is gone?",
+    id: "mark", nav: "A mark", question: "Could a node itself say that it is gone?",
     prose: "Walking twice, only to learn whether one node is still in? Give each node a <b>mark</b> instead. To remove 5, a thread first marks it, and then takes it out of the chain.",
     figure: { list: "lazy", opening: [3, 5, 8], calls: { 0: [["contains", 5]] }, lines: ["begin 1 remove 5", "go 1 to 12"], shown: [0, 1], codeTitle: "Mark, then take out", fresh: [6, 7, 11, 22], hidden: { operations: ["contains"] }, roomFor: 694 },
     ask: "B has marked 5, and is stopped before it takes the node out. A asks contains(5), and walks onto that node. What may A answer?",
@@ -10036,14 +10012,11 @@ const SCREENS = [
       { text: "false", right: true, say: "" },
       { text: "It has to wait for B", say: "B holds two locks. But A takes none, so it has nothing to wait for." },
     ],
-    play: [[0, "out"]],
-    after: "Let B finish, if you like: taking the node out does not change the set.",
+    play: [[0, "out"]], after: "Let B finish, if you like: taking the node out does not change the set.",
     reveal: () => `${b("false.")} With the mark, 5 has left the set; taking the node out is only tidying up. A looks at the mark alone, takes no lock, and waits for nobody. This list is called <i>lazy</i>.`,
   },
   {
-    id: "when",
-    nav: "When?",
-    question: "At which moment has an answer to be right?",
+    id: "when", nav: "When?", question: "At which moment has an answer to be right?",
     prose: "A asks contains(5), comes to the node of 5, and is stopped. B removes 5, and adds it again in a new node. Then A looks at the mark of its old node. Below the list, each call is a bar in time.",
     figure: { list: "lazy", opening: [5], calls: { 0: [["contains", 5]] }, lines: ["begin 0 contains 5", "go 0 2", "begin 1 remove 5", "go 1 out", "begin 1 add 5", "go 1 out"], strip: true, code: false, dock: false, high: .27, hidesPoints: true, roomFor: 552 },
     ask: "At each of A’s own steps 5 was in the set. A is going to answer false. Is that a bug?",
@@ -10056,9 +10029,7 @@ const SCREENS = [
     reveal: () => `${b("There: between B’s remove and B’s add, 5 was not in the set.")} A’s call was under way, so it may count as made at that moment, in a step of <i>B</i>. An answer need not be true when it is given. It has to be true at one moment while its call runs. This is called <b>linearizable</b>, and all five lists keep to it.`,
   },
   {
-    id: "no-lock",
-    nav: "No lock at all",
-    question: "And with no lock at all?",
+    id: "no-lock", nav: "No lock at all", question: "And with no lock at all?",
     prose: "A processor can do this in one step: <b>change the arrow, but only if it is still what I saw.</b> It is called compare-and-set, CAS. If someone was faster, it changes nothing, and the thread looks again. A node’s mark is kept in its arrow now, so that one CAS sees both.",
     figure: { list: "lock-free", opening: [3, 5, 8], calls: { 0: [["remove", 5]], 1: [["remove", 5]] }, lines: ["begin 0 remove 5", "go 0 to 9", "begin 1 remove 5", "go 1 to 9"], codeTitle: "Lock-free", fresh: [7, 9, 10, 3], roomFor: 694 },
     ask: "A and B both want to remove 5. Both have found it, without a mark. How many of them are told true?",
@@ -10067,8 +10038,7 @@ const SCREENS = [
       { text: "One", right: true, say: "Try it: you decide which." },
       { text: "None", say: "One CAS comes first, and finds what it expects. Try it." },
     ],
-    playTask: "Press A or B. Who comes first? Go on until both have their answer.",
-    help: [[0], [0], [1], [1], [1], [1]],
+    playTask: "Press A or B. Who comes first? Go on until both have their answer.", help: [[0], [0], [1], [1], [1], [1]],
     goal: (fig) => (fig.run.trace.calls.filter(({ reply }) => reply !== null).length < 2 ? null : { done: "" }),
     reveal: (fig) => {
       const won = fig.run.trace.calls.find(({ reply }) => reply === "true").thread === 0 ? ["A", "B"] : ["B", "A"];
@@ -10858,5 +10828,5 @@ if (typeof document !== "undefined") startPage(); // in node there is none
 return {  };
 })();
 
-return Object.assign({}, $made_rows, $made_classics, $run_trace, $run_schedule_text, $run_address, $run_markup, $run_state, $run_outcomes, $run_sentences, $draw_history, $draw_contents, $made_code, $draw_listing, $draw_tables, $page_dom, $made_book, $engine_answers, $run_judged, $page_state, $page_now, $page_kept, $page_seen, $page_play, $data_levels, $run_broken, $page_visit, $made_traces, $engine_engine, $page_long_run, $page_work, $course_goal_words, $course_course_text, $course_lesson, $course_hand_in, $run_check_trace, $run_recorded, $page_files, $story_kept, $draw_glide, $draw_places, $draw_arrows, $draw_list, $story_code, $story_tale, $story_dock, $story_figure_parts, $story_live_run, $story_figure, $story_scene, $story_assignment, $activities_bench, $story_learning, $draw_judged, $activities_judging, $story_ask, $story_ask_more, $story_ask_branches, $activities_recorded, $activities_maps, $activities_courses, $run_sides, $activities_compare, $page_controls, $activities_open, $story_ask_view, $story_break_view, $story_code_view, $story_learn_view, $story_path, $story_path_parts, $story_path_view, $story_handins, $story_handins_view, $story_teach_view);
+return Object.assign({}, $made_rows, $made_classics, $run_trace, $run_schedule_text, $run_address, $run_markup, $run_state, $run_outcomes, $run_sentences, $draw_history, $draw_tables, $made_code, $draw_listing, $page_dom, $made_book, $engine_answers, $run_judged, $page_state, $page_now, $page_kept, $page_seen, $page_play, $data_levels, $run_broken, $page_visit, $made_traces, $engine_engine, $page_long_run, $page_work, $course_goal_words, $course_course_text, $course_lesson, $course_hand_in, $run_check_trace, $run_recorded, $page_files, $story_kept, $draw_glide, $draw_places, $draw_arrows, $draw_list, $story_code, $story_tale, $story_dock, $story_figure_parts, $story_live_run, $story_figure, $story_scene, $story_assignment, $activities_bench, $story_learning, $draw_judged, $activities_judging, $story_ask, $story_ask_more, $story_ask_branches, $activities_recorded, $activities_maps, $activities_courses, $run_sides, $activities_compare, $page_controls, $activities_open, $story_ask_view, $story_break_view, $story_code_view, $story_learn_view, $story_path, $story_path_parts, $story_path_view, $story_handins, $story_handins_view, $story_teach_view);
 })();

@@ -4,10 +4,9 @@ import { anotherSeed, partsOfSeed, scheduleOfSeed, seedOf } from "../run/address
 import { escaped, listOptions } from "../run/markup.js";
 import { scheduleOfTrace } from "../run/schedule_text.js";
 import { momentAt, sentenceOf } from "../run/sentences.js";
-import { drawOrder } from "../draw/contents.js";
+import { drawOrder, drawTable, drawThreads, MOST_ROWS } from "../draw/tables.js";
 import { HISTORY_LEFT } from "../draw/history.js";
 import { drawListing } from "../draw/listing.js";
-import { drawTable, drawThreads, MOST_ROWS } from "../draw/tables.js";
 import { byId, setAble, setHtml } from "../page/dom.js";
 import { works } from "../page/kept.js";
 import { askNow, hiddenOutcomes, isJudging, now, show, tell } from "../page/now.js";

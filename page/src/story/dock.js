@@ -1,6 +1,6 @@
 // Below the list of a figure: of each thread what it wants and what it does next, the history, and the slider of the moments.
 import { callText, chipOf, colourOf, letterOf, tag } from "../run/markup.js";
-import { drawContents } from "../draw/contents.js";
+import { drawContents } from "../draw/tables.js";
 import { drawCalls, scaleOf } from "../draw/history.js";
 import { redraw, setHtml } from "../page/dom.js";
 import { answerText, phaseText } from "./tale.js";
