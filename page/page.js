@@ -493,7 +493,6 @@ const NODE_REGISTERS = ["pred", "curr", "succ", "node"];
 const KEY_REGISTERS = ["pkey", "ckey"];
 const CALL_WORDS = ["add", "remove", "contains", "ceiling"];
 const MOST_NUMBER = 4294967295;
-
 const isTrace = (text) => text.startsWith("listset-trace");
 
 class Trace {
@@ -661,7 +660,6 @@ function eventsAsked(text) {
   return count;
 }
 
-
 const MOST_TRIED = 1000; // steps of a thread that does not come to where it is sent, to see for what it waits
 const DRAFT_LINE = /^go \d+ (?:out|to \d+)$/m;
 
@@ -810,7 +808,6 @@ function textOfParts(parts) {
 const warningOf = (link) =>
   link.startsWith("file:") ? " Others cannot open it, since it leads to a file on this computer: copy it from a page on a web server." : "";
 
-
 const TRIES = 200;
 const MOST_TRIED_CALLS = 8; // of a run with more calls the first is taken
 const MOST_SEEN = 60; // events that are told apart by eye
@@ -908,7 +905,6 @@ const BEGUN = { came: 0, pred: "head", curr: "head", succ: "head", node: "head",
 const AT_REST = { pc: 0, used: 0, call: null, ...BEGUN };
 const linkTarget = (link) => link.replace("*", "");
 const keyNumber = (key) => (key === "-inf" ? -1 : key === "+inf" ? Infinity : Number(key));
-
 const MOST_UNDONE = 20000; // events that can be gone back; what lies further back is made again from the start
 
 class State {
@@ -1394,12 +1390,10 @@ function drawCalls(trace, scale) {
   return tag("svg", frame, ...lanes, drawCursor(scale, height, scale.y(0) - scale.bar / 2 - 2), ...stems, ...bars, ...points, signs);
 }
 
-
 const LETTER = 7.1; // pixels of a letter of a label
 const BOLD = 8; // and of one of a reply
 const BETWEEN = 8; // two labels of a row
 const ROW_HEIGHT = 15;
-
 const widthOf = (text, reply = "") => LETTER * text.length + (reply === "" ? 0 : LETTER + BOLD * reply.length);
 
 function placeLabels(items, { start, edge, mostRows }) {
@@ -1484,7 +1478,6 @@ function drawThreads(state, event, all, hidesReplies = false) {
   return tag("table", {}, tag("thead", {}, head), tag("tbody", {}, ...rows));
 }
 
-
 function drawTable({ trace, state, event, before }) {
   const made = event === null || event.deed === "begin" ? null : before.pc;
   const at = new Map();
@@ -1498,7 +1491,6 @@ function drawTable({ trace, state, event, before }) {
   const heads = ["next", "row", "step", "then", "in the book"].map((text) => tag("th", { scope: "col" }, text));
   return tag("table", {}, tag("thead", {}, tag("tr", {}, ...heads)), tag("tbody", {}, ...lines));
 }
-
 
 const KEY_WIDTH = 8; // pixels, of each character of the contents
 
@@ -2812,7 +2804,6 @@ function orderIn([fault, ...values], keys) {
   return { fault, set: `{${keys.join(", ")}}`, ...Object.fromEntries((FAULT_VALUES[fault] ?? ["call"]).map((name, at) => [name, values[at]])) };
 }
 
-
 function sentenceOn(ask, cause, ...kinds) {
   if (!cause) return null;
   const told = ask("listset_faults").text;
@@ -3014,7 +3005,6 @@ const exampleIn = ({ task }) => (task.kind === "example" ? task.id : "");
 
 /** A run has the stage of its activity. @param {State} state @returns {State} */
 const onStage = (state) => ({ ...state, place: { ...state.place, activity: activityOfRun(state), screen: "stage", id: "", given: {} } });
-
 const within = (count, { total }) => Math.max(0, Math.min(total, count));
 
 /** @type {Record<string, (state: State, action: Action) => State>} */
@@ -3062,7 +3052,6 @@ const { State } = $run_state;
 const { byId } = $page_dom;
 const { exampleIn, reduce, stateAtFirst } = $page_state;
 const NO_ENGINE = "The replayer does not run in this browser: no schedule can be run, no report checked. A file of listset trace can be opened.";
-
 const now = stateAtFirst();
 /** @type {{ engine: any, render: () => void }} */
 const held = { engine: null, render: () => {} };
@@ -3309,9 +3298,7 @@ const { exampleShown, goTo, now, show } = $page_now;
 const { setView } = $page_seen;
 const SPEEDS = { slow: 1600, medium: 700, fast: 200 }; // milliseconds of one event
 const play = { timer: null };
-
 const wantsLessMotion = () => matchMedia("(prefers-reduced-motion: reduce)").matches;
-
 const isPlaying = () => play.timer !== null; // the sentence is said where the play ends, and not before
 
 function showPlay() {
@@ -3359,7 +3346,6 @@ function goToTurn(step) {
   while (count > 0 && count < now.run.trace.total && !changes(now.run.trace.event(count)) && !turns.includes(count)) count += step;
   goByHand(count);
 }
-
 
 const keysOf = { scene: (event) => event }; // what keys do in a scene
 
@@ -3580,11 +3566,9 @@ const BREAK_LEVELS = {
 const TEN = ["lock", "second-lock", "hand-over-hand", "second-walk", "same-node", "marks-in-validation", "mark-in-remove", "mark",
   "mark-in-add", "mark-at-key"];
 const THREE_MORE = ["new-slot", "mark-in-ceiling", "mark-in-contains"];
-
 const NUMBERED = Object.keys(BREAK_LEVELS);
 const numberOfLevel = (name) => NUMBERED.indexOf(name) + 1;
 const levelOfNumber = (number) => NUMBERED[Number(number) - 1];
-
 const whyWrong = (name, sentence) => `No: ${BREAK_LEVELS[name].others[sentence]}. Look for the line that this list makes differently.`;
 return { BREAK_LEVELS, TEN, THREE_MORE, numberOfLevel, levelOfNumber, whyWrong };
 })();
@@ -3668,7 +3652,6 @@ const { now, tell } = $page_now;
 const { entryOf } = $page_state;
 const MOMENT = 400; // milliseconds: the bar follows once nothing has moved for so long, since browsers refuse quick changes of it
 const visit = { timer: 0, entry: null, isRead: false, course: null };
-
 const addressHere = () => addressIn(now, visit);
 
 function keepSoon() {
@@ -3713,7 +3696,6 @@ async function copyLink() {
 
 const copied = async (text) => navigator.clipboard?.writeText(text).then(() => true, () => false) ?? false;
 
-
 const SCENES = ["assignment", "story", "ask", "code", "teachers"]; // run/address.js reads the others, with their schedules
 const SCENE_VIEWS = ["lecture", "embed"];
 
@@ -3728,7 +3710,6 @@ function sceneOfHash(hash) {
 
 const START_OF_CODE = [3, 7];
 const linesOfCode = (s) => s.split(",").filter((line) => /^(b\d+\.[a-z]+\.\d+|g\d+\.\d+)$/.test(line)).map(longLine);
-
 const SET_OF_CODE = { threads: 2, quota: 9 };
 
 function addressOfCode(list, opening, lines, set = SET_OF_CODE) {
@@ -3751,7 +3732,6 @@ function addressOfLesson({ id }, { text }, { course }) {
 }
 
 const addressOfAssignment = ({ id, given }) => `#${new URLSearchParams({ assignment: id, ...given })}`.replaceAll("%2C", ",");
-
 const plainAddress = ({ activity, id }) => `#${activity}${id === "" ? "" : `=${id}`}`;
 
 const ADDRESSES = {
@@ -4635,7 +4615,6 @@ function cancelLong() {
   tellFault(null, "", "The run was cancelled. Run begins it again.");
 }
 
-
 const EVENT_ROOM = 96; // bytes of a trace's line, so that the engine is asked once
 
 const workerText = (room) => `"use strict";
@@ -4753,7 +4732,6 @@ function takeAnswer(answer, text, at, told) {
   announce("ran");
 }
 
-
 const KEPT_BESIDE = "a trace that is kept beside the page";
 const known = { examples: null };
 
@@ -4777,7 +4755,6 @@ function openKept(name, count) {
   takeScheduleOfTrace();
   showMarks();
 }
-
 
 const LINE_HEIGHT = 21;
 const editor = { isSeen: false };
@@ -4952,7 +4929,6 @@ function conditionsOf(goal, run) {
   const ends = goal.map(({ says }, index) => ({ says, index })).filter(({ says }) => says !== undefined);
   return ends.map(({ says, index }) => ({ says, isMet: canMeet(goal.slice(0, index), run) }));
 }
-
 
 class Run {
   constructor(trace) {
@@ -5145,7 +5121,6 @@ function readCourse(text) {
   return { name: reader.name, lessons, faults: reader.faults };
 }
 
-
 async function passed(bytes, stream) {
   return new Uint8Array(await new Response(new Blob([bytes]).stream().pipeThrough(stream)).arrayBuffer());
 }
@@ -5179,7 +5154,6 @@ const { HEADER_LINES, isTrace, Trace } = $run_trace;
 const { readCourse } = $course_course_text;
 const MOST_EVENTS = 1000; // of a solution
 const OTHER_SET = "The list, the number of threads, the quota and the opening keys are to be those of the lesson.";
-
 const setOf = (schedule) => schedule.split("\n").slice(1).filter((line) => !/^(begin|go) /.test(line)).join("\n");
 
 function runOfSchedule(ask, schedule, lacks) {
@@ -5506,7 +5480,6 @@ end
 `;
 
 const MOST_DRAWN = 40; // calls
-
 const withNewline = (text) => (text === "" || text.endsWith("\n") ? text : `${text}\n`);
 
 const recordedInWords = (call) =>
@@ -5713,7 +5686,6 @@ function refreshReport() {
   if (byId("report-box").open && held.engine !== null) showOwnReport(now.run.text);
 }
 
-
 const DRAWN_BY = ["fill", "stroke", "stroke-width", "stroke-dasharray", "fill-opacity", "stroke-opacity", "opacity", "font-family",
   "font-size", "font-weight", "font-style", "text-anchor", "paint-order", "text-decoration-line"];
 
@@ -5761,7 +5733,6 @@ const NOTHING = { at: 1, done: {}, asks: {}, student: "", number: "", homework: 
 /** @returns {{ at: number, done: Record<string, boolean>, asks: Record<string, string>, student: string, number: string, homework: any }} */
 const keptStory = () => ({ ...NOTHING, ...keptUnder(STORY) });
 const keepStory = (change) => keepUnder(STORY, { ...keptStory(), ...change });
-
 const isBrokenLine = ([name, line]) => Object.hasOwn(LACKING, name) && isText(line);
 const brokenLines = () => Object.entries(keptUnder(BROKEN) ?? {}).filter(isBrokenLine);
 const isBrokenOnce = (name) => brokenLines().some(([one]) => one === name);
@@ -5783,7 +5754,6 @@ function startAfresh(button) {
   location.hash = "#story=1&gone=yes"; // the first screen says so
   location.reload();
 }
-
 
 const LESSONS_KEPT = "listset-lessons-2";
 const textsKept = (kept) => Object.entries(kept ?? {}).filter(([, text]) => isText(text));
@@ -5822,7 +5792,6 @@ return { keptStory, keepStory, brokenLines, isBrokenOnce, keepBrokenLine, isName
 const $draw_glide = (() => {
 const TIME = 260; // milliseconds
 const EASE = { duration: TIME, easing: "cubic-bezier(.2, .7, .2, 1)" };
-
 const wantsStill = () => matchMedia("(prefers-reduced-motion: reduce)").matches;
 
 function placesIn(box) {
@@ -5875,7 +5844,6 @@ const WIDE = { node: 94, gap: 48, share: 1 };
 const COMPACT = { node: 76, gap: 32, share: 0.76 }; // share: of the room that a wide one needs
 const NARROW = 480; // pixels
 const shapeFor = (room) => (room < NARROW ? COMPACT : WIDE);
-
 const NODE_HEIGHT = 54;
 const LEAST_GAP = 12; // between nodes that are not in the chain
 const FOLD_WIDTH = 84;
@@ -6437,7 +6405,6 @@ const WORDS = {
 
 const phaseText = (phase, call) => WORDS[phase](call);
 
-
 const bold = (text) => `<b>${text}</b>`;
 
 const nodeName = (state, name) => {
@@ -6446,7 +6413,6 @@ const nodeName = (state, name) => {
   return name in state.nodes ? keyText(state.nodes[name].key) : "";
 };
 const bare = (link) => link.replace("*", "");
-
 const answerText = (answer) => answer.replace(/^at-/, "");
 
 function taleOf(moment, { plain = false } = {}) {
@@ -6638,7 +6604,6 @@ function showScrub(figure) {
   box.hidden = !figure.isOpen;
 }
 
-
 const MOST_KEY = 999;
 
 function pressed(figure, event) {
@@ -6704,7 +6669,6 @@ const MOST_HEIGHT = 0.4; // of the window, for the list
 const NARROW = "(max-width: 760px)";
 const isNarrow = () => matchMedia(NARROW).matches;
 
-
 const codeBox = ({ codeTitle, codeNote = "" }) => `<details class="codebox" ${isNarrow() ? "" : "open"}><summary><b>${codeTitle}</b></summary>
     <p class="small code-note" ${codeNote === "" ? "hidden" : ""}>${codeNote}</p><span class="runs"></span><div class="lines"></div>
     <p class="small hint">A letter stands at its thread’s next line. Press the line to step, another one to run there.</p></details>`;
@@ -6755,7 +6719,6 @@ function taleHere({ run, spec }, moment) {
   run.state.moveTo(run.count);
   return `${before} <b>${callText(call)} answers ${answer}.</b>`;
 }
-
 
 function placeTheList(figure, { state, event }, isNear) {
   const box = figure.part("list");
@@ -6813,7 +6776,6 @@ function markLostNodes({ run, box }) {
   }
 }
 
-
 function operationsOf({ spec, run, isGuess }) {
   const planned = Object.values(spec.calls ?? {}).flat().map(([operation]) => operation);
   const begun = run.trace.calls.map(({ operation }) => operation);
@@ -6860,7 +6822,6 @@ const { keysInChain, promisedKeys, State } = $run_state;
 const { isTrace, Trace } = $run_trace;
 const { joinedRows, phaseAt } = $story_tale;
 const MOST_STEPS = 80; // of one call, in the short lists of the story
-
 const linesOf = (schedule) => schedule.split("\n").filter((line) => /^(begin|go) /.test(line));
 
 function runOfText(text) {
@@ -7223,7 +7184,6 @@ const { isNarrow } = $story_figure_parts;
 /** @type {Record<string, View>} of an activity, or of one without an id its map */
 const VIEWS = {};
 const scene = { key: "", view: null, figure: null, isFirst: true, isNew: false };
-
 const part = (selector) => byId("scene").querySelector(selector);
 const viewOf = ({ activity, id }) => (id === "" ? VIEWS[`${activity} map`] : undefined) ?? VIEWS[activity];
 const titleOfScene = (place) => viewOf(place).title(place);
@@ -7305,7 +7265,6 @@ function listenToScene() {
 
 const pressInScene = (event) => scene.view?.press?.(event);
 
-
 const head = (kicker, title, more = "", kind = "") =>
   `<div class="head">${kicker === "" ? "" : `<p class="kicker">${kicker}</p>`}<h1 class="${kind}" tabindex="-1">${title}</h1>${more}</div>`;
 
@@ -7332,7 +7291,6 @@ function takeFreeFigure(list, spec) {
   return takeFigure(new Figure(part("#figure"), { list, ...free, ...spec }));
 }
 const LACKS_ONE = "One check of this code is not made here.";
-
 const foot = (left, right) => tag("footer", { class: "foot" }, left, tag("span", { class: "spread" }), right);
 
 const optionButtons = (texts, wrong = []) => {
@@ -7377,7 +7335,6 @@ function pressThread(event) {
 }
 
 const numberOfKey = ({ key }) => (now.prefs.letters && /^[1-9]$/.test(key) ? Number(key) - 1 : -1);
-
 const LIST_WORDS = { coarse: "One lock", fine: "Hand over hand", optimistic: "Optimistic", lazy: "Lazy", "lock-free": "Lock-free" };
 return { VIEWS, scene, part, titleOfScene, faultOfScene, isScene, setScene, copyText, talk, takeFigure, leaveScene, renderScene, openScene, listenToScene, pressInScene, head, FIGURE_AND_TALK, hintAndOn, drawHintAndOn, drawOn, takeFreeFigure, LACKS_ONE, foot, optionButtons, replyTo, drawLedger, isOddRun, threadOfKey, pressThread, numberOfKey, LIST_WORDS };
 })();
@@ -7401,11 +7358,8 @@ const { addressOfAssignment } = $page_visit;
 const { brokenLines, keepStory, keptStory, startAfresh } = $story_kept;
 const { copyText, foot, head, part } = $story_scene;
 const known = { course: null };
-
 const bookCourse = () => (known.course ??= triedCourse(askNow, BOOK));
-
 const allLevels = () => Object.keys(BREAK_LEVELS).filter((name) => name !== NO_TASK).map((name) => ({ name, number: numberOfLevel(name) }));
-
 const wordsIn = (text, sign = ".") => (text ?? "").split(sign).filter((word) => word !== "");
 
 function addressOfTasks(title, { learn, levels, seeds }) {
@@ -7465,7 +7419,6 @@ function tasksOf(given) {
   return { tasks: [...learn, ...levels, ...taken(wordsIn(given.judge, ","), seedTask, "run")], unknown };
 }
 
-
 function textOfRun(run) {
   try {
     return run.includes("#") ? readAddress(run.slice(run.indexOf("#"))).text : null;
@@ -7493,7 +7446,6 @@ function linesDone(tasks) {
   };
   return Object.fromEntries(tasks.map((task) => [task.id, lineOf[task.kind](task)]));
 }
-
 
 const titleOfAssignment = ({ id }) => id || "Assignment";
 
@@ -7681,7 +7633,6 @@ function listenToBench() {
   for (const name of ["table-box", "listing-box", "threads-box", "turns-box"]) byId(name).ontoggle = show;
 }
 
-
 const FIRST = { example: "marked-in-chain", event: 20 };
 
 function seedForm(id, verb) {
@@ -7724,7 +7675,6 @@ function drawSeedBox(seed, more) {
     if (wanted > 0) location.hash = `#seed=${seedOf(kind, wanted)}${more}`;
   };
 }
-
 
 function showHome() {
   const homework = now.place.view === null ? homeworkOf(now.place, now.task) : null;
@@ -7805,7 +7755,6 @@ class Learning {
     return this.course.lessons.find(({ name }) => !this.isSolved(name));
   }
 
-
   get workName() {
     return `lesson ${this.lesson.name}${this.course.name === BOOK_NAME ? "" : ` of ${this.course.name}`}`;
   }
@@ -7857,7 +7806,6 @@ const JUDGE_BAR = 30;
 const JUDGE_BELOW = 8; // pixels between a bar and the labels of the next lane
 const MOST_ROWS = 3; // of labels
 const SLOT_WIDTH = 60; // of the words of a point
-
 const leftOf = ({ begun }, { x, step }) => x(begun) - step / 2;
 const rightOf = (call, { x, step, last }) => x(call.ended ?? last) + step / 2;
 
@@ -7887,7 +7835,6 @@ function judgeScale({ last, threads, calls }, width) {
 }
 
 const momentInWords = (at) => (Number.isInteger(at) ? `at ${at}` : `after ${Math.floor(at)}`);
-
 const OPEN = "(pending)";
 const saidOf = (call, answer) => (call.ended === null ? OPEN : (answer.replyOf(call) ?? "?"));
 
@@ -8009,7 +7956,6 @@ const { askList } = $run_broken;
 const { exerciseOf, LEVELS, MOST_JUDGED, OwnAnswer, repliesOf, verdictOn, wordOfAnswer } = $run_judged;
 const { callText, chipOf, escaped } = $run_markup;
 const JUDGED = "listset-judged"; // in the browser's storage: of each run and level the order that was right
-
 const HALF_STEPS = { ArrowLeft: -0.5, ArrowDown: -0.5, ArrowRight: 0.5, ArrowUp: 0.5 };
 const SLIDER_KEYS = { ...HALF_STEPS, PageDown: -5, PageUp: 5, Home: -Infinity, End: Infinity };
 const judgePart = (name) => byId(`judge-${name}`);
@@ -8459,7 +8405,6 @@ function freshBox() {
   return box;
 }
 
-
 function takeOwnBranch(branch) {
   const figure = takeBranch({ ...branch, isFree: true });
   Object.assign(figure, { onFork: fork, onStep: grow });
@@ -8527,7 +8472,6 @@ function sameLines({ list, opening, lines, rest, lacks }) {
   broken.take(whole.lines);
   return [...broken.linesHere(), ...[0, 1].filter((thread) => !broken.isIdle(thread)).map((thread) => `go ${thread} out`)];
 }
-
 
 const ownWords = ({ from, lacks = null }, isBroken) => {
   const proved = "Whatever you choose, some order of the calls explains their answers: that is proved of each run of this list.";
@@ -8661,7 +8605,6 @@ const cards = (all) => tag("div", { class: "cards" }, ...all.map(drawCard));
 const lead = (words, score = "") => `<p class="lead">${words}</p>${score === "" ? "" : `<p class="score">${score}</p>`}`;
 const goOn = (href, count, all) => tag("a", { class: "button primary", href }, `${count === 0 ? "Begin" : count < all ? "Go on" : "Once more"} →`);
 
-
 function askHtml() {
   const { asks } = keptStory();
   const seen = QUESTIONS.filter(({ name }) => asks[name] !== undefined);
@@ -8675,7 +8618,6 @@ function askHtml() {
     that is asked for, or more. And each thread may add only so many numbers.</p>${cards(APPENDIX.map(cardOf))}
     ${foot('<a class="button quiet" href="#story=1">The path of twenty minutes</a>', goOn(`#ask=${next.name}`, seen.length, QUESTIONS.length))}`;
 }
-
 
 function breakHtml() {
   const cardOf = (name) => {
@@ -8691,7 +8633,6 @@ function breakHtml() {
   return `${head("", "Break it", top, "title")}${cards(TEN.map(cardOf))}
     <h2>Three more</h2>${cards(THREE_MORE.map(cardOf))}${foot("", goOn(`#break=${numberOfLevel(next)}`, count, Infinity))}`;
 }
-
 
 function learnHtml() {
   const { panel } = learning;
@@ -8728,7 +8669,6 @@ function openBook() {
   drawLearnMap();
 }
 
-
 function judgeHtml() {
   const judged = Object.keys(keptUnder(JUDGED) ?? {});
   const cardOf = ({ name, kind }) => {
@@ -8746,7 +8686,6 @@ function beginJudge() {
   listenToSeedForm("judge-seed", "&judge");
   listenToRecorded();
 }
-
 
 const PAGES = [
   ["how-it-works.html", "How it works", "The five lists, from one lock to none, each with the runs that show why."],
@@ -8867,7 +8806,6 @@ function listenToCourses() {
   lessonPart("link").onclick = () => takeCourseText(box.value) && copyCourseLink();
   lessonPart("save").onclick = () => saveText("lessons.course", box.value);
 }
-
 
 async function handIn() {
   const { panel } = learning;
@@ -9008,7 +8946,6 @@ const PICTURE = '<h2></h2><div class="pair"></div><p class="note"><a class="butt
 const SIDES = ["one", "other"];
 const shown = { sides: null, at: 0, quota: 4, opening: [], figures: [] }; // at: how many turns are shown
 const sidesPart = (name) => byId(`sides-${name}`);
-
 const listsOf = ({ given }) => (given.sides ?? "coarse.lazy").split(".");
 
 function html(place) {
@@ -9076,7 +9013,6 @@ function turnTo(at) {
   shown.at = Math.min(Math.max(at, 0), shown.sides.turns.length);
   draw();
 }
-
 
 function draw() {
   const { sides, at } = shown;
@@ -9238,7 +9174,6 @@ function placeParts() {
   narrow.addEventListener("change", place);
   place();
 }
-
 
 const WORK = "work: ";
 
@@ -9494,7 +9429,6 @@ async function guessed(index) {
   openBranch(0);
 }
 
-
 function talkOf({ stage, chosen, at, branches }) {
   const item = here();
   const reply = replyTo(item.options, chosen, stage === "playing");
@@ -9592,7 +9526,6 @@ function begin(place) {
   if (place.given.text !== undefined) looked();
 }
 
-
 const isShown = (run) => now.place.given.text !== undefined && run.lines.join() === run.first.join() && !isBrokenOnce(nameNow());
 
 function looked() {
@@ -9619,7 +9552,6 @@ const whyOf = ({ why }, wasShown) => {
   const ofList = why.replace(/the set (has|does not have) it/, "the list $1 it"); // no set is this
   return `${ofList}. No order of the calls explains that; it is proved.${wasShown ? " This run was shown to you: find one of your own." : ""}`;
 };
-
 
 const NOBODY_KNOWS = "Nobody knows a run that breaks this list. Try it, and say why.";
 
@@ -9845,7 +9777,6 @@ function looked() {
   if (isBegun) panel.keepTry(run.schedule);
   setScene({ text: isBegun ? run.schedule : "", stage: verdict.isSolved && !verdict.isShown ? "done" : "task" });
 }
-
 
 function conditionsHtml() {
   const met = new Set(shown.verdict.conditions.filter(({ isMet }) => isMet).map(({ says }) => says));
@@ -10087,7 +10018,6 @@ function welcome(done) {
   return `<p class="welcome">${words} <a href="#story=1">From the start</a></p>`;
 }
 
-
 const LAST = SCREENS.length + 1; // the number of the last screen
 
 const WAYS = [
@@ -10138,7 +10068,6 @@ const numberOf = ({ id }) => Math.max(1, Math.min(LAST, Number(id) || 1));
 const screenOf = (place) => SCREENS[numberOf(place) - 1] ?? null;
 const here = () => screenOf(now.place);
 const shown = { count: 0 }; // how many deeds of the way were shown
-
 const hashOf = (number) => `#story=${number}${now.place.view === "lecture" ? "&view=lecture" : ""}`;
 const goTo = (number) => (location.hash = hashOf(number));
 
@@ -10198,7 +10127,6 @@ function drawBar(stage, number) {
   show.textContent = isNarrow() && stage !== "again" ? "Show me" : SHOW[stage];
   drawOn(isDone, number === SCREENS.length ? "And now? →" : "Continue →");
 }
-
 
 function looked() {
   const screen = here();
@@ -10260,7 +10188,6 @@ function done() {
   const on = part("#go-on");
   if (document.activeElement === document.body) on.focus({ preventScroll: true });
 }
-
 
 const isOver = (thread) => scene.figure.run.isIdle(thread) && scene.figure.left(thread).length === 0;
 
@@ -10567,7 +10494,6 @@ function lectureHtml() {
     leads back. Ask the class first, then step.</p><ol class="plan">${LECTURE.map(slide).join("")}</ol></section>`;
 }
 
-
 const titleOf = (name) => QUESTIONS.find((item) => item.name === name).title;
 const snippetOf = (name) =>
   `<iframe src="${linkTo(`#ask=${name}&view=embed`)}" width="800" height="420" style="border:0" loading="lazy" title="${titleOf(name)}"></iframe>`;
@@ -10606,7 +10532,6 @@ goal
   call R of 1: remove, key 5, answers true, begins after C, ends during C
   say A contains of thread 0 answers false; a remove of thread 1 begins after it, and answers true while it is open.
 `;
-
 
 const FIRST_NUMBER = 17;
 const work = { seeds: [] };
@@ -10679,7 +10604,6 @@ const homeworkDeeds = {
   },
   copy: () => copyText(linkTo(addressNow()), "The link is copied."),
 };
-
 
 const OWN = `<section class="panel" id="own"><h2>Lessons of your own</h2>
   <p class="prose">A course is a text: of each lesson a question, a list, the numbers in it, and what a solution shows. Write it under Solve,

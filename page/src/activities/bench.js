@@ -107,8 +107,6 @@ export function listenToBench() {
 }
 
 // ---- The bench: a run step by step, of an example or of a number, with its question above it.
-
-// The example that is shown without an engine, at the event before its question.
 export const FIRST = { example: "marked-in-chain", event: 20 };
 
 export function seedForm(id, verb) {
@@ -153,7 +151,6 @@ function drawSeedBox(seed, more) {
 }
 
 // ---- What stands above the stage: the links to what is before and after the task, and the title of the window.
-
 function showHome() {
   const homework = now.place.view === null ? homeworkOf(now.place, now.task) : null;
   byId("home").hidden = homework === null;

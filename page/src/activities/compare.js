@@ -21,7 +21,6 @@ const PICTURE = '<h2></h2><div class="pair"></div><p class="note"><a class="butt
 const SIDES = ["one", "other"];
 const shown = { sides: null, at: 0, quota: 4, opening: [], figures: [] }; // at: how many turns are shown
 const sidesPart = (name) => byId(`sides-${name}`);
-
 const listsOf = ({ given }) => (given.sides ?? "coarse.lazy").split(".");
 
 function html(place) {
@@ -90,8 +89,6 @@ function turnTo(at) {
   shown.at = Math.min(Math.max(at, 0), shown.sides.turns.length);
   draw();
 }
-
-// ---- what is drawn
 
 function draw() {
   const { sides, at } = shown;

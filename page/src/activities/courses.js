@@ -77,8 +77,6 @@ export function listenToCourses() {
   lessonPart("save").onclick = () => saveText("lessons.course", box.value);
 }
 
-// ---- what is handed in
-
 async function handIn() {
   const { panel } = learning;
   const lessons = panel.course.lessons.filter(({ name }) => panel.isSolved(name));

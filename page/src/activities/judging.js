@@ -10,7 +10,6 @@ import { exerciseOf, LEVELS, MOST_JUDGED, OwnAnswer, repliesOf, verdictOn, wordO
 import { callText, chipOf, escaped } from "../run/markup.js";
 
 export const JUDGED = "listset-judged"; // in the browser's storage: of each run and level the order that was right
-
 const HALF_STEPS = { ArrowLeft: -0.5, ArrowDown: -0.5, ArrowRight: 0.5, ArrowUp: 0.5 };
 const SLIDER_KEYS = { ...HALF_STEPS, PageDown: -5, PageUp: 5, Home: -Infinity, End: Infinity };
 const judgePart = (name) => byId(`judge-${name}`);
@@ -91,7 +90,6 @@ class Judging {
     judgePart("verdict").scrollIntoView({ block: "nearest" });
   }
 
-  // What is handed in of a run that was judged right: it goes with the solutions of the lessons.
   keep() {
     const run = exampleShown() === "" ? addressOf(now.run.text, now.run.count) : exampleShown();
     this.line = `judge ${run} ${this.exercise.level} ${wordOfAnswer(this.answer)}`;

@@ -30,7 +30,6 @@ const lead = (words, score = "") => `<p class="lead">${words}</p>${score === "" 
 const goOn = (href, count, all) => tag("a", { class: "button primary", href }, `${count === 0 ? "Begin" : count < all ? "Go on" : "Once more"} →`);
 
 // ---- Guess, then see
-
 function askHtml() {
   const { asks } = keptStory();
   const seen = QUESTIONS.filter(({ name }) => asks[name] !== undefined);
@@ -46,7 +45,6 @@ function askHtml() {
 }
 
 // ---- Break it: the lists that lack a check, the simplest first
-
 function breakHtml() {
   const cardOf = (name) => {
     const { story, lacks } = BREAK_LEVELS[name];
@@ -63,7 +61,6 @@ function breakHtml() {
 }
 
 // ---- Solve it: the lessons of a course; below them what is handed in, and courses of one's own
-
 function learnHtml() {
   const { panel } = learning;
   const { lessons, name } = panel.course;
@@ -100,7 +97,6 @@ function openBook() {
 }
 
 // ---- Judge: a run by its number, recorded calls, or an example by its question
-
 function judgeHtml() {
   const judged = Object.keys(keptUnder(JUDGED) ?? {});
   const cardOf = ({ name, kind }) => {
@@ -120,7 +116,6 @@ function beginJudge() {
 }
 
 // ---- Read: the pages made of docs/, the words of the page, what is proved
-
 export const PAGES = [
   ["how-it-works.html", "How it works", "The five lists, from one lock to none, each with the runs that show why."],
   ["classic.html", "The examples", "Eighteen runs, each with its question, the answer, and what goes wrong without the check."],

@@ -120,7 +120,6 @@ class CourseReader {
     }
   }
 
-  // Each line `say ..` ends a dead end of its own.
   deadEndsOf(part) {
     if (part === undefined) return [];
     const ends = [[]];
@@ -143,12 +142,10 @@ export function readCourse(text) {
 }
 
 // ---- A course in a link: its text, packed, behind #course=, so that nothing comes from a network.
-
 async function passed(bytes, stream) {
   return new Uint8Array(await new Response(new Blob([bytes]).stream().pipeThrough(stream)).arrayBuffer());
 }
 
-// The part of a link with a course, or null where it would be too long. Lines that are passed over are left out.
 export async function courseAddress(text) {
   const lines = text.split("\n").filter((line) => line.trim() !== "" && !line.startsWith("#"));
   const bytes = await passed(new TextEncoder().encode(`${lines.join("\n")}\n`), new CompressionStream("deflate-raw"));

@@ -1,5 +1,4 @@
-// The goals of lessons, in words: each line finds something in the run and may name it; a line `say ..` is met where all lines above it can
-// be met at once. book.course has a list.
+// The goals of lessons: each line finds something in the run and may name it; `say ..` is met where all lines above it can be met at once.
 import { isFailed, isLock, ownerIn } from "../run/outcomes.js";
 import { State } from "../run/state.js";
 
@@ -105,7 +104,6 @@ export function readGoal(lines) {
   return read;
 }
 
-// What a line may find: where its name is taken already, just that.
 function foundBy(line, run, bound) {
   if (line.name !== undefined && !line.isNew) return [bound.get(line.name)];
   const thread = line.join === "of" ? Number(line.whose) : null;
@@ -118,7 +116,6 @@ function foundBy(line, run, bound) {
 const MOST_WAYS = 100000; // to meet the lines of a goal, that are tried: some 0.2 s
 export class TooManyWays extends Error {}
 
-// Whether all lines can be met at once: tried one after another, up to a bound.
 function canMeet(lines, run) {
   let left = MOST_WAYS;
   const from = (at, bound) => {
@@ -140,7 +137,6 @@ export function conditionsOf(goal, run) {
 }
 
 // ---- a run moment by moment: each event, the row at which its thread stood before, and what there is just after it
-
 export class Run {
   constructor(trace) {
     const state = new State(trace);

@@ -27,7 +27,6 @@ export function handInText(course, student, solutions, otherLines) {
   return [HAND_IN_TITLE, `course ${course}`, `student ${student}`, ...lines, ...otherLines, "end", ""].join("\n");
 }
 
-// The lines of a text without what mail has done to them, each with the number of its first line.
 function unmailed(text) {
   const isCoded = /=3D/i.test(text); // quoted-printable: a line goes on behind =, and =3D is =
   const lines = [];
@@ -44,7 +43,6 @@ function unmailed(text) {
   return lines.map(({ line, number }) => ({ line: decoded(line).replaceAll("&amp;", "&"), number }));
 }
 
-// The texts that a file has, by their titles: courses as they stand, and what was handed in.
 export function textsIn(text) {
   /** @type {any[]} */
   const found = [];
@@ -112,7 +110,6 @@ export function judgedPart(ask, lessons, line) {
   return { task: lesson.name, isSolved: true, says: "", schedule, isVeryAnswer: schedule === lesson.solution };
 }
 
-// Of a line `judge RUN LEVEL ORDER`: the order is judged by `check`. The run is an example or the address of a schedule.
 function judgedOrder(ask, [run = "", level = "", word = "", ...more]) {
   const task = `judge ${run} ${level}`;
   const not = (says) => ({ task, isSolved: false, says });
@@ -128,7 +125,6 @@ function judgedOrder(ask, [run = "", level = "", word = "", ...more]) {
   return { task, isSolved: isRight === true, says: isRight === true ? "" : says };
 }
 
-// Of a line `break NAME SCHEDULE`: whether no order explains the run of the list that lacks this check.
 function judgedBreak(ask, [name = "", link = "", ...more]) {
   const task = `break ${name}`;
   const not = (says) => ({ task, isSolved: false, says });
@@ -143,7 +139,6 @@ function judgedBreak(ask, [name = "", link = "", ...more]) {
   return { task, isSolved: true, says: "", schedule, ofExample: exampleBy(ask, name, schedule) };
 }
 
-// The example whose own schedule this is, on the broken list, as the page shows it without the check; or null.
 function exampleBy(ask, name, schedule) {
   const shown = (example) => {
     const text = ask("listset_example", example).text;

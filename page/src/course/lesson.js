@@ -8,10 +8,8 @@ import { readCourse } from "./course_text.js";
 
 export const MOST_EVENTS = 1000; // of a solution
 const OTHER_SET = "The list, the number of threads, the quota and the opening keys are to be those of the lesson.";
-
 const setOf = (schedule) => schedule.split("\n").slice(1).filter((line) => !/^(begin|go) /.test(line)).join("\n");
 
-// The run of a schedule by the engine, or the fault for which there is none: `ask` gives what a function of the engine says of a text.
 function runOfSchedule(ask, schedule, lacks) {
   const made = askList(ask, "listset_trace", lacks, schedule).text;
   if (!isTrace(made)) return { trace: null, fault: { ...readFault(made), says: `The schedule is refused: ${made.trim()}.` } };
@@ -37,7 +35,6 @@ export function judged(ask, lesson, schedule) {
   return { isSolved, reason: null, fault: null, conditions, deadEnd: isSolved ? null : (deadEnd?.says ?? null) };
 }
 
-// What a search of a goal finds, or null where it has too many ways to look at.
 function withinBound(search) {
   try {
     return search();
@@ -54,7 +51,6 @@ function isBounded(ask, { list, threads, goal }) {
   return trace === null || withinBound(() => conditionsOf(goal, new Run(trace))) !== null;
 }
 
-// What a solution shows, as the student reads it: the conditions of the goal, and of a broken list that the schedule breaks it.
 export const conditionTexts = ({ goal, lacks }) =>
   [...goal.map(({ says }) => says), lacks === null ? undefined : TO_BREAK].filter((says) => says !== undefined);
 

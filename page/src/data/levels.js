@@ -1,5 +1,5 @@
-// Break it: of each list that lacks a check its story, hints, what it lacks, what is not so and the reply to that, the first calls, the events
-// and calls of the shortest run known, and what is struck out of the code. A level is linked by its number, its place here: none is given anew.
+// Break it, of each list that lacks a check: what it lacks, what is not so and the reply to that, the first calls, the events and calls of
+// the shortest run known, and what is struck out. A level is linked by its number, its place here: none is given anew.
 
 export const BREAK_LEVELS = {
   lock: {
@@ -181,13 +181,10 @@ export const BREAK_LEVELS = {
   },
 };
 
-// From one lock to none, and three more.
 export const TEN = ["lock", "second-lock", "hand-over-hand", "second-walk", "same-node", "marks-in-validation", "mark-in-remove", "mark",
   "mark-in-add", "mark-at-key"];
 export const THREE_MORE = ["new-slot", "mark-in-ceiling", "mark-in-contains"];
-
 const NUMBERED = Object.keys(BREAK_LEVELS);
 export const numberOfLevel = (name) => NUMBERED.indexOf(name) + 1;
 export const levelOfNumber = (number) => NUMBERED[Number(number) - 1];
-
 export const whyWrong = (name, sentence) => `No: ${BREAK_LEVELS[name].others[sentence]}. Look for the line that this list makes differently.`;

@@ -44,8 +44,7 @@ function bent(start, ...turns) {
 
 const pathAround = (from, x1, y1) => bent([x1, y1], from.x + from.width + 10, from.y - 12, from.x + from.width - 12, from.y - 3);
 
-// From a node below the chain to one in it: along under the registers, and up through the gap left of the node into its side. No
-// register is written there.
+// From a node below the chain to one in it: along under the registers, and up through the gap left of the node.
 function pathUp(from, to, x1, y1) {
   const beside = from.x + from.width + 8;
   const under = from.y - 34 - 6 * from.lane;

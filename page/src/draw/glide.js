@@ -2,7 +2,6 @@
 
 const TIME = 260; // milliseconds
 const EASE = { duration: TIME, easing: "cubic-bezier(.2, .7, .2, 1)" };
-
 const wantsStill = () => matchMedia("(prefers-reduced-motion: reduce)").matches;
 
 function placesIn(box) {

@@ -101,7 +101,6 @@ function drawLabel(call, scale, left, top) {
 
 const isShown = (call, scale) => scale.now === Infinity || isReached(call, scale.now);
 
-// The point of a call: a disc where it changes the set, a ring where its reply fits there.
 function drawPoint(call, scale) {
   const x = scale.x(call.at);
   const y = scale.y(call.thread);
@@ -145,17 +144,14 @@ export function drawCalls(trace, scale) {
 }
 
 // ---- the words of calls above their bars: their places follow from the whole run, so that nothing jumps
-
 const LETTER = 7.1; // pixels of a letter of a label
 const BOLD = 8; // and of one of a reply
 const BETWEEN = 8; // two labels of a row
 export const ROW_HEIGHT = 15;
-
 export const widthOf = (text, reply = "") => LETTER * text.length + (reply === "" ? 0 : LETTER + BOLD * reply.length);
 
-// Of each item, { left, right, wide } in the order of their left ends, its place { x, row }, where row 0 is next to the bar; null if
-// no row has space. A label begins at the left end of its bar, in the first row that is free there, or else ends at its right end; it
-// moves to the left if the drawing ends. `start` is the left edge of the drawing, `edge` the right one.
+// Of each item, { left, right, wide } by their left ends, its place { x, row }; null if no row has space. A label begins at the left end of
+// its bar, in the first row (0 is next to the bar) that is free there, or else ends at its right end.
 function placeLabels(items, { start, edge, mostRows }) {
   const taken = Array.from({ length: mostRows }, () => start);
   return items.map(({ left, right, wide }) => {

@@ -9,7 +9,6 @@ const JUDGE_BAR = 30;
 const JUDGE_BELOW = 8; // pixels between a bar and the labels of the next lane
 const MOST_ROWS = 3; // of labels
 const SLOT_WIDTH = 60; // of the words of a point
-
 const leftOf = ({ begun }, { x, step }) => x(begun) - step / 2;
 const rightOf = (call, { x, step, last }) => x(call.ended ?? last) + step / 2;
 
@@ -40,7 +39,6 @@ export function judgeScale({ last, threads, calls }, width) {
 }
 
 const momentInWords = (at) => (Number.isInteger(at) ? `at ${at}` : `after ${Math.floor(at)}`);
-
 const OPEN = "(pending)";
 const saidOf = (call, answer) => (call.ended === null ? OPEN : (answer.replyOf(call) ?? "?"));
 

@@ -7,7 +7,6 @@ import { drawFoldLink, drawLink, drawTip, LINK_WIDTH } from "./arrows.js";
 import { FOLD_WIDTH, isPointing, NODE_HEIGHT, TOP } from "./places.js";
 const LOCK_HEIGHT = 31; // of what stands above a node
 
-// What a node is: one of the chain, a thread's own that is not in it yet, or one that was taken out.
 function kindOf(state, name, place) {
   if (!state.nodes[name].reached) return `own ${colourOf(ownerOf(state.trace, name))}`;
   return place.aside ? "out" : "in";
@@ -116,7 +115,6 @@ export function drawList(state, event, { chain, items, places, labels, names, mo
   return named + (more > 0 ? tag("p", { class: "note" }, `and ${more} more nodes that are not in the chain`) : "");
 }
 
-// The chain for a reader of the screen, and who has what: the locks, and where each thread with a call stands.
 function listInWords(chain, state) {
   const inside = chain.filter((name) => name !== "head" && name !== "tail").map((name) => state.nodes[name]);
   const keys = inside.map((node) => keyText(node.key) + (node.link.endsWith("*") ? " marked" : ""));

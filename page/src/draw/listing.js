@@ -7,15 +7,13 @@ function stepsAt(functions, row) {
   return functions.flatMap((code) => code.steps.filter(({ rows }) => rows.includes(row)).map((step) => ({ code, ...step })));
 }
 
-// The functions of a call: of the file that has a line for each of its rows. Null where none has.
 export function codeOf(kind, { operation }) {
   const { rows } = LISTS[kind].calls[operation];
   const file = CODE_OF[kind].find((name) => rows.every((row) => stepsAt(CODE[name], row).length > 0));
   return file === undefined ? null : { file, functions: CODE[file] };
 }
 
-// The line at which a thread stands. Where several make its row, that which comes where its call has come to: at its beginning, or
-// with a reply, or in the function that made the row before, or that called this one.
+// The line at which a thread stands. Where several make its row, that which comes where its call has come to.
 export function stepOf(functions, held) {
   let found = stepsAt(functions, held.pc);
   const came = stepsAt(functions, held.came).map(({ code }) => code.name);

@@ -10,7 +10,6 @@ const WIDE = { node: 94, gap: 48, share: 1 };
 const COMPACT = { node: 76, gap: 32, share: 0.76 }; // share: of the room that a wide one needs
 const NARROW = 480; // pixels
 export const shapeFor = (room) => (room < NARROW ? COMPACT : WIDE);
-
 export const NODE_HEIGHT = 54;
 export const LEAST_GAP = 12; // between nodes that are not in the chain
 export const FOLD_WIDTH = 84;
@@ -20,7 +19,6 @@ const MOST_ASIDE = 10; // nodes drawn that are not in the chain
 const MOST_POINTING = 6; // threads whose registers are drawn
 export const SIGN_WIDTH = 8.6; // of a register's label
 
-// The registers of the threads that point at nodes: of the thread of this event, and then of those with the least numbers.
 function pointersOf(state, event) {
   const inCall = state.threads.map((held, thread) => ({ held, thread })).filter(({ held }) => held.pc !== 0);
   inCall.sort((one, other) => Number(other.thread === event?.thread) - Number(one.thread === event?.thread));

@@ -58,7 +58,6 @@ export function drawThreads(state, event, all, hidesReplies = false) {
 }
 
 // ---- the table of the list that runs: the row that was just made, and each thread at the row that it makes next
-
 export function drawTable({ trace, state, event, before }) {
   const made = event === null || event.deed === "begin" ? null : before.pc;
   const at = new Map();
@@ -74,7 +73,6 @@ export function drawTable({ trace, state, event, before }) {
 }
 
 // ---- the contents of the set, and the order of the calls
-
 const KEY_WIDTH = 8; // pixels, of each character of the contents
 
 function drawContent(part, scale) {

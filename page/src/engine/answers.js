@@ -56,8 +56,7 @@ export function readFault(text) {
   return { line: line === null ? null : Number(line), cause, says };
 }
 
-// The record of a verdict (listset_judge_record, listset_check_record): lines of a word and its values. Its kind is the verdict's word, or
-// `fault` with the engine's line about the text.
+// The record of a verdict: lines of a word and its values. Its kind is the verdict's word, or `fault` with the engine's line about the text.
 export function readVerdict({ text }) {
   const lines = linesIn(text);
   const find = (word) => lines.find((line) => line.startsWith(`${word} `)) ?? null;
@@ -94,7 +93,6 @@ function orderIn([fault, ...values], keys) {
 }
 
 // ---- The program's sentences on the causes of faults.
-
 // What the text of `listset faults` says first on a cause in a text of one of these kinds ("a schedule", "recorded calls"), to be read
 // after a colon; null if it says nothing, or there is no cause.
 export function sentenceOn(ask, cause, ...kinds) {

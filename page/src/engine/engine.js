@@ -22,7 +22,6 @@ export class Engine {
     return new Engine(await WebAssembly.compile(bytes));
   }
 
-  // What an export says of the texts that it takes: the exit status of the program, and what it prints. Those left out are empty.
   ask(name, ...texts) {
     const encoder = new TextEncoder();
     return this.askBytes(name, ...texts.map((text) => encoder.encode(text)));
@@ -50,7 +49,6 @@ export class Engine {
   }
 }
 
-// The bytes of the module: of a page that is opened as a file, or is one file, those of engine.js.
 async function engineBytes() {
   if (typeof ENGINE === "undefined" && location.protocol === "file:") await loadScript("engine.js");
   if (typeof ENGINE !== "undefined") return Uint8Array.from(atob(ENGINE), (letter) => letter.charCodeAt(0));
@@ -66,7 +64,6 @@ function loadScript(src) {
   });
 }
 
-// Asks once, and a second time with the room that the answer needs.
 export function answerOf(engine, name, given) {
   const texts = textsOf(engine, engine[name].length, given);
   let answer = answerInRoom(engine, name, texts, FIRST_ROOM);

@@ -77,7 +77,6 @@ export function listenToFiles() {
   byId("save-picture").onclick = savePicture;
 }
 
-// Where there is room for one column alone, the steps stand below the history, and what is not needed at first is folded.
 export function placeParts() {
   const narrow = matchMedia("(max-width: 940px)");
   const place = () => {
@@ -88,7 +87,6 @@ export function placeParts() {
 }
 
 // ---- what can be opened by its name, and the question of the example that is shown
-
 const WORK = "work: ";
 
 export function fillWorks() {

@@ -36,7 +36,6 @@ function kindOfFile(text) {
   return text.startsWith("listset-report") ? "report" : "schedule";
 }
 
-// Of a trace from a file: whether the engine's trace of its schedule has the same bytes, if it makes one.
 export function comparedTrace(ask, trace) {
   if (ask === null) return "a trace from a file; its grammar was checked";
   if (trace.refused !== null) return "a trace from a file; its grammar was checked, and it ends with a refused event";
@@ -139,7 +138,6 @@ export function refreshReport() {
 }
 
 // ---- the list and the history as one picture in a file of its own
-
 const DRAWN_BY = ["fill", "stroke", "stroke-width", "stroke-dasharray", "fill-opacity", "stroke-opacity", "opacity", "font-family",
   "font-size", "font-weight", "font-style", "text-anchor", "paint-order", "text-decoration-line"];
 

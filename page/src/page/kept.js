@@ -8,7 +8,6 @@ const KEPT = "listset-page-2";
 export const HERE = "listset-here"; // the address of what was shown last
 const MOST_WORKS = 60; // the oldest ones go
 
-// What stands in the browser's storage under a name, or null where it keeps nothing, or something else stands there.
 export function keptUnder(name) {
   try {
     return JSON.parse(localStorage.getItem(name));

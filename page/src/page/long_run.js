@@ -48,14 +48,12 @@ export function stopLong() {
   byId("long").hidden = true;
 }
 
-// Ends the run: what was shown before is shown on, and the text stands in the box.
 export function cancelLong() {
   stopLong();
   tellFault(null, "", "The run was cancelled. Run begins it again.");
 }
 
 // ---- The engine in a worker of its own, which can be ended, so that the page can be used while a long run is made.
-
 const EVENT_ROOM = 96; // bytes of a trace's line, so that the engine is asked once
 
 // The worker's program is a text, since a page that is opened as a file may not start a worker from a file.
@@ -72,7 +70,6 @@ onmessage = ({ data: { module, name, given } }) => {
   }
 };`;
 
-// A worker that is asked of a text with so many events, and its answer to come: null if the browser starts none.
 function askInWorker(module, name, text, events) {
   const place = URL.createObjectURL(new Blob([workerText(FIRST_ROOM + EVENT_ROOM * events)], { type: "text/javascript" }));
   const worker = new Worker(place);

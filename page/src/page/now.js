@@ -7,7 +7,6 @@ import { byId } from "./dom.js";
 import { exampleIn, reduce, stateAtFirst } from "./state.js";
 
 export const NO_ENGINE = "The replayer does not run in this browser: no schedule can be run, no report checked. A file of listset trace can be opened.";
-
 export const now = stateAtFirst();
 /** @type {{ engine: any, render: () => void }} */
 export const held = { engine: null, render: () => {} };
@@ -24,8 +23,7 @@ export function dispatch(type, given) {
   show();
 }
 
-// Who is told: `taken`, with a trace, before it is drawn; `ran`, that a text was run or refused; `kept`, that the works have changed;
-// `recorded` and `course`, with a text of that kind that was opened.
+// Who is told: `taken`, with a trace, before it is drawn; `ran`, of a text; `kept`, of the works; `recorded`, `course`, with a text of a file.
 const listeners = { taken: [], ran: [], kept: [], recorded: [], course: [] };
 export const on = (what, ...deeds) => listeners[what].push(...deeds);
 
@@ -85,7 +83,6 @@ export function tellFault(line, cause, said, isOld = true) {
   byId("fault").textContent = why === null ? said : `${said}: ${why}`;
 }
 
-// A fault that is of no run: that which is shown is as it was.
 export const tellTrouble = (said) => (byId("fault").textContent = said);
 
 export function tellLine(text) {

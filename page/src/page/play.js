@@ -6,9 +6,7 @@ import { setView } from "./seen.js";
 
 const SPEEDS = { slow: 1600, medium: 700, fast: 200 }; // milliseconds of one event
 const play = { timer: null };
-
 export const wantsLessMotion = () => matchMedia("(prefers-reduced-motion: reduce)").matches;
-
 export const isPlaying = () => play.timer !== null; // the sentence is said where the play ends, and not before
 
 function showPlay() {
@@ -22,7 +20,6 @@ export function stopPlay() {
   showPlay();
 }
 
-// Plays on from here, and from the start where nothing is left.
 function startPlay() {
   const { count, trace } = now.run;
   if (trace.total === 0) return;
@@ -60,7 +57,6 @@ function goToTurn(step) {
 }
 
 // ---- the keys; letters and digits can be switched off
-
 export const keysOf = { scene: (event) => event }; // what keys do in a scene
 
 export function pressKey(event) {

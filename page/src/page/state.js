@@ -41,7 +41,6 @@ export const exampleIn = ({ task }) => (task.kind === "example" ? task.id : "");
 
 /** A run has the stage of its activity. @param {State} state @returns {State} */
 const onStage = (state) => ({ ...state, place: { ...state.place, activity: activityOfRun(state), screen: "stage", id: "", given: {} } });
-
 const within = (count, { total }) => Math.max(0, Math.min(total, count));
 
 /** @type {Record<string, (state: State, action: Action) => State>} */
@@ -50,7 +49,6 @@ const MAKES = {
     ({ ...state, place: { ...state.place, activity, screen, id, given }, scene: SCENE_AT_FIRST }),
   scene: (state, { type, ...given }) => ({ ...state, scene: { ...state.scene, ...given } }),
   view: (state, { view }) => ({ ...state, place: { ...state.place, view } }),
-  // Something is begun: what is run from now on is for this task.
   task: (state, { task, lacks = null }) =>
     onStage({ ...state, task: { ...NO_TASK_YET, ...task }, run: { ...state.run, lacks }, exercise: null }),
   run: (state, { type, ...given }) => ({ ...state, run: { ...state.run, ...given } }),

@@ -11,10 +11,8 @@ import { now, tell } from "./now.js";
 import { entryOf } from "./state.js";
 
 const MOMENT = 400; // milliseconds: the bar follows once nothing has moved for so long, since browsers refuse quick changes of it
-// The entry of the browser's history that is shown, and whether the page has read what stood there at first; the packed course, which the
-// address needs and the state has not.
+// The entry of the browser's history that is shown, whether what stood there at first was read, and the packed course.
 export const visit = { timer: 0, entry: null, isRead: false, course: null };
-
 const addressHere = () => addressIn(now, visit);
 
 export function keepSoon() {
@@ -62,11 +60,9 @@ export async function copyLink() {
 export const copied = async (text) => navigator.clipboard?.writeText(text).then(() => true, () => false) ?? false;
 
 // ---- the addresses of the scenes
-
 const SCENES = ["assignment", "story", "ask", "code", "teachers"]; // run/address.js reads the others, with their schedules
 const SCENE_VIEWS = ["lecture", "embed"];
 
-// The scene that an address names, or null; whether there is such a screen or question says its view.
 export function sceneOfHash(hash) {
   const { view = null, ...parts } = Object.fromEntries(new URLSearchParams(hash.replace(/^#/, "")));
   const activity = SCENES.find((name) => name in parts);
@@ -78,7 +74,6 @@ export function sceneOfHash(hash) {
 
 export const START_OF_CODE = [3, 7];
 export const linesOfCode = (s) => s.split(",").filter((line) => /^(b\d+\.[a-z]+\.\d+|g\d+\.\d+)$/.test(line)).map(longLine);
-
 export const SET_OF_CODE = { threads: 2, quota: 9 };
 
 // Of a list to step by its code: the numbers in it at first, the lines of a run, and how many threads and adds of each it has.
@@ -103,8 +98,6 @@ function addressOfLesson({ id }, { text }, { course }) {
 }
 
 export const addressOfAssignment = ({ id, given }) => `#${new URLSearchParams({ assignment: id, ...given })}`.replaceAll("%2C", ",");
-
-// Of the others: the name of the activity, and its id where it has one.
 const plainAddress = ({ activity, id }) => `#${activity}${id === "" ? "" : `=${id}`}`;
 
 const ADDRESSES = {

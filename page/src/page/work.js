@@ -37,8 +37,7 @@ export const openExample = (name, count) =>
 export const newSchedule = (list, threads, quota) =>
   openTask(ownTask("my schedule"), scheduleText({ list, threads, quota }), 0);
 
-// Runs the text of the box, in which a line may be that of a draft. Its last line gets its newline where it has none. The event
-// stays where the events up to it do; a text with a refused event is shown up to that.
+// Runs the text of the box, which may be a draft. The event stays where the events up to it do.
 export function runBox() {
   const box = byId("schedule").value;
   const { text, fault } = scheduleOfDraft(askNow, box === "" || box.endsWith("\n") ? box : `${box}\n`, now.run.lacks);
@@ -89,7 +88,6 @@ function takeAnswer(answer, text, at, told) {
 }
 
 // ---- The classic examples by their names. Without an engine they are shown from their traces, which are kept beside the page.
-
 const KEPT_BESIDE = "a trace that is kept beside the page";
 const known = { examples: null };
 
@@ -115,7 +113,6 @@ export function openKept(name, count) {
 }
 
 // ---- The box of the schedule: the marks at its lines, and the line of the event that is kept in sight.
-
 const LINE_HEIGHT = 21;
 // Whether the box is in sight. If it is not, nothing is asked of its layout: that of 10,000 lines takes 0.3 s.
 const editor = { isSeen: false };

@@ -1,10 +1,5 @@
-// The address of a schedule, as #list=lazy&threads=2&quota=4&s=b0.add.5,g0.11&event=12, of an example, as #example=snip&event=17,
-// of a course of lessons, as #course=.. with its text packed, or of two lists side by side. With &view=lecture, list or history it
-// shows only that; with &lacks=3 the schedule is run on the third broken list, or on that of a name. The page writes the number, since
-// the name would tell too much.
-// #watch, #learn, #judge, #break, #compare and #read are the maps of the activities; #learn=one-lock a lesson, also with a schedule behind
-// it, #break=3 a level, #seed=lazy.2.4.2.17 the run of a number, and &judge asks the reader to judge it.
-// An address is made a text again; whether that is a schedule says the engine.
+// Addresses, as page/README.md lists them. A broken list is written by its number, since its name would tell too much. An address is made a
+// text again; whether that is a schedule says the engine.
 import { LACKING } from "../../made/classics.js";
 import { LISTS } from "../../made/rows.js";
 import { scheduleText, versionOf } from "./schedule_text.js";
@@ -63,7 +58,6 @@ function isAddressOf(address, text) {
   }
 }
 
-// What an address names, each null where it names none; and the event.
 export function readAddress(hash) {
   const { view = null, course = null, lacks: which, seed = null, ...rest } = partsOf(hash);
   const { place, isJudged, parts } = placeOf(rest, seed);
@@ -117,12 +111,10 @@ function textOfParts(parts) {
   return scheduleText({ ...parts, opening: parts.opening?.split(".") }, events);
 }
 
-// What is said of a link that leads to a page on the reader's own disk.
 export const warningOf = (link) =>
   link.startsWith("file:") ? " Others cannot open it, since it leads to a file on this computer: copy it from a page on a web server." : "";
 
 // ---- Runs without end: the engine's generator makes a schedule of a number. The same number is the same run for everyone.
-
 const TRIES = 200;
 const MOST_TRIED_CALLS = 8; // of a run with more calls the first is taken
 const MOST_SEEN = 60; // events that are told apart by eye
@@ -172,7 +164,6 @@ function joined(text) {
   return `${lines.join("\n")}\n`;
 }
 
-// A number that was not shown just before, up to 9999, and one of the lists.
 export function anotherSeed(before, kind = null) {
   const kinds = Object.keys(LISTS);
   const list = kind ?? kinds[Math.floor(Math.random() * kinds.length)];

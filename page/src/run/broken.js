@@ -1,8 +1,5 @@
-// Broken lists: each lacks one check, and the reader looks for a schedule after which no order explains what its calls answer. Here is
-// what needs no browser: its run, the verdict on it, and where the whole list departs from it.
-//
-// The verdict comes from proved functions: one judges the order by the moments that the table names, another all other orders. That this
-// one order is refused does not say that there is none.
+// Broken lists: each lacks one check. One proved function judges the order by the moments that the table names, another all other orders: that
+// this one order is refused does not say that there is none.
 import { LACKING } from "../../made/classics.js";
 import { readReport, readVerdict } from "../engine/answers.js";
 import { nameOfCall } from "./judged.js";
@@ -20,7 +17,6 @@ export const TO_BREAK = "No order explains what the calls answer (proved)."; // 
 export const NO_TASK = "mark-in-contains";
 export const isTaskDone = (lacks, { kind }) => kind === "broken" && lacks !== NO_TASK;
 
-// What a function of the engine says of a schedule, on the whole list or on a broken one.
 export const askList = (ask, name, lacks, text) =>
   lacks === null ? ask(name, text) : ask("listset_lacking", lacks, text, name.slice("listset_".length));
 
@@ -63,7 +59,6 @@ function callInWords({ calls }, { thread, begun }) {
   return `${nameOfCall(call)} ${call.ended === null ? "is open" : `answers ${call.reply}`}`;
 }
 
-// The event at which the whole list departs from the run of such a list; null where it does not, or has no trace.
 export function departureOf(ask, trace) {
   const { text } = ask("listset_trace", scheduleOfTrace(trace));
   const event = isTrace(text) ? eventsInCommon(trace, new Trace(text, trace.version)) + 1 : Infinity;

@@ -1,14 +1,10 @@
-// Judge yourself: a reader says where each call of a run takes effect and what it answers, and the proved `check` judges that.
-// Here is what needs no browser: the exercise, the reader's answer, the report that it makes, and the verdict in a sentence.
-//
-// The calls and the keys are those of the run; the order and the replies in it are the reader's. So `check` says ok if the
-// reader's order explains what the run did, also where it is not the replayer's. Why it is refused says the engine's record.
+// Judge yourself: the calls and the keys are those of the run, the order and the replies in it the reader's. So the proved `check` says ok if
+// the reader's order explains what the run did, also where it is not the replayer's.
 import { readReport, readVerdict } from "../engine/answers.js";
 import { callText, letterOf, openReply } from "./markup.js";
 
 export const MOST_JUDGED = 60; // events of a run that is judged
 
-// Of each level what is asked for, and which outcomes of a sentence would tell it.
 export const LEVELS = {
   points: { name: "points alone", task: "The replies are shown. Where does each call take effect?", hidden: ["change", "effect"] },
   replies: {
@@ -32,7 +28,6 @@ export function exerciseOf(text, level, isWhole = true) {
 export const nameOfCall = (call) => `${callText(call)} of ${letterOf(call.thread)}`;
 export const lastMoment = (exercise, call) => call.ended ?? exercise.last;
 
-// The replies that a call may give, as a reader picks one: of a ceiling those that name a key of the exercise.
 export function repliesOf(exercise, { operation }) {
   if (operation === "add") return ["true", "false", "full"];
   if (operation !== "ceiling") return ["true", "false"];
@@ -41,8 +36,7 @@ export function repliesOf(exercise, { operation }) {
   return ["nothing", ...keys.map((key) => `at-${key}`)];
 }
 
-// What the reader has said so far. A moment k is just after event k; k.5 lies between this event and the next. Of two calls at one
-// moment the one that was put there first comes first.
+// What the reader has said so far. A moment k is just after event k; k.5 lies between this event and the next.
 export class OwnAnswer {
   constructor(exercise) {
     this.exercise = exercise;
@@ -65,8 +59,7 @@ export class OwnAnswer {
     this.replies.set(call.id, reply);
   }
 
-  // The reply of a call in the order: that of the run, where the level shows it, else what the reader says; an open call has none
-  // in the run, and stands in an order where it has changed the set.
+  // The reply of a call in the order: an open call has none in the run, and stands in an order where it has changed the set.
   replyOf(call) {
     if (call.ended === null) return openReply;
     return this.exercise.level === "replies" ? (this.replies.get(call.id) ?? null) : call.reply;
@@ -139,10 +132,7 @@ function faultInWords(answer, { fault, call, place, reply, set, answer: due, beg
   return `This is no order of the calls of this run (${fault}).`;
 }
 
-// The last word of a line that is handed in: the places of the order, or the word none.
-//
-//     judge read-in-anothers-step replies 0-true,2-true,1-false,3-true
-//     judge #list=lazy&threads=2&quota=4&s=.. points 0-true,1-false
+// The last word of a line that is handed in, as in `judge read-in-anothers-step replies 0-true,2-true,1-false,3-true`; or none.
 export const wordOfAnswer = (answer) => (answer.isNone ? "none" : answer.order().map(({ call, reply }) => `${call.id}-${reply}`).join());
 
 // The answer of such a word: each call stands at the least moment of its bar that keeps the order. Null where the word is none.

@@ -33,8 +33,7 @@ function wholeName({ trace, event }, name) {
 export const hasInChain = (state, key) => keysInChain(state).includes(Number(key));
 
 export const OUTCOMES = {
-  // In a broken list, a node may be inserted behind one that is not in the chain, and a key that is removed may stay in it; and a call
-  // may add a key that is there already, or remove one that is not.
+  // In a broken list a node may be inserted behind one that is out of the chain, a removed key may stay, a key come in twice.
   change({ trace, state, event, held, hadKey }) {
     const { put, took } = event;
     const had = trace.lacks !== null && hadKey;

@@ -12,8 +12,6 @@ end
 `;
 
 const MOST_DRAWN = 40; // calls
-
-// A text that was pasted may lack its last newline.
 export const withNewline = (text) => (text === "" || text.endsWith("\n") ? text : `${text}\n`);
 
 export const recordedInWords = (call) =>

@@ -46,7 +46,6 @@ export function eventsAsked(text) {
 }
 
 // ---- drafts
-
 const MOST_TRIED = 1000; // steps of a thread that does not come to where it is sent, to see for what it waits
 const DRAFT_LINE = /^go \d+ (?:out|to \d+)$/m;
 

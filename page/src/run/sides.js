@@ -55,7 +55,6 @@ class Side {
     return this.state.threads[thread].pc !== 0;
   }
 
-  // Makes an event more, where there is a line for it; else waits.
   take(line) {
     if (line !== null) {
       this.lines.push(line);

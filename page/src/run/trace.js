@@ -5,7 +5,6 @@ export const NODE_REGISTERS = ["pred", "curr", "succ", "node"];
 export const KEY_REGISTERS = ["pkey", "ckey"];
 export const CALL_WORDS = ["add", "remove", "contains", "ceiling"];
 export const MOST_NUMBER = 4294967295;
-
 export const isTrace = (text) => text.startsWith("listset-trace");
 
 export class Trace {
@@ -68,7 +67,6 @@ export class Trace {
     this.callsOf[call.thread].push(call);
   }
 
-  // The call of a thread that is open at an event, or ends there.
   callAt(thread, number) {
     const calls = this.callsOf[thread];
     let [least, most] = [0, calls.length - 1];
@@ -112,7 +110,6 @@ function tellIn(event, name, value) {
 // The nodes of the opening keys come after the slots of all threads.
 export const firstOpeningNode = (trace) => 2 + trace.threads * trace.quota;
 
-// How many events from the first on two traces have in common, where they are of sets that open alike.
 export function eventsInCommon(one, other) {
   const header = ({ kind, threads, quota, opening }) => [kind, threads, quota, ...opening].join();
   if (header(one) !== header(other)) return 0;

@@ -42,7 +42,6 @@ function freshBox() {
 }
 
 // ---- what if: a run of a question may be changed from any moment on, and each branch is kept
-
 function takeOwnBranch(branch) {
   const figure = takeBranch({ ...branch, isFree: true });
   Object.assign(figure, { onFork: fork, onStep: grow });
@@ -88,7 +87,6 @@ export async function openBranch(at, plays = false) {
 export const goBack = () => openBranch(0);
 export const seeAgain = () => scene.figure.replay(now.scene.branches[0].from);
 
-// The threads' buttons come when they are asked for.
 export function whatIf() {
   const { figure } = scene;
   figure.set({ hidesDock: false });
@@ -113,8 +111,6 @@ function sameLines({ list, opening, lines, rest, lacks }) {
   broken.take(whole.lines);
   return [...broken.linesHere(), ...[0, 1].filter((thread) => !broken.isIdle(thread)).map((thread) => `go ${thread} out`)];
 }
-
-// ---- what is said of a branch
 
 const ownWords = ({ from, lacks = null }, isBroken) => {
   const proved = "Whatever you choose, some order of the calls explains their answers: that is proved of each run of this list.";

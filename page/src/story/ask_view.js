@@ -47,8 +47,6 @@ async function guessed(index) {
   openBranch(0);
 }
 
-// ---- what follows from how far one is
-
 function talkOf({ stage, chosen, at, branches }) {
   const item = here();
   const reply = replyTo(item.options, chosen, stage === "playing");

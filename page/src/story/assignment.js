@@ -1,5 +1,4 @@
-// An assignment is its address: #assignment=Week+3&learn=one-lock.lost-pred&break=6.7&judge=lazy.2.5.2.17. It names tasks by words and
-// numbers that stay, so that a link on a board, in a mail or in a bookmark opens the same years later; nothing is kept for it anywhere.
+// An assignment is its address, #assignment=Week+3&learn=one-lock.lost-pred&break=6.7&judge=lazy.2.5.2.17: nothing is kept for it anywhere.
 import { BOOK, BOOK_NAME } from "../../made/book.js";
 import { LACKING } from "../../made/classics.js";
 import { LISTS } from "../../made/rows.js";
@@ -18,11 +17,8 @@ import { brokenLines, keepStory, keptStory, startAfresh } from "./kept.js";
 import { copyText, foot, head, part } from "./scene.js";
 
 const known = { course: null };
-
 export const bookCourse = () => (known.course ??= triedCourse(askNow, BOOK));
-
 export const allLevels = () => Object.keys(BREAK_LEVELS).filter((name) => name !== NO_TASK).map((name) => ({ name, number: numberOfLevel(name) }));
-
 const wordsIn = (text, sign = ".") => (text ?? "").split(sign).filter((word) => word !== "");
 
 export function addressOfTasks(title, { learn, levels, seeds }) {
@@ -85,7 +81,6 @@ export function tasksOf(given) {
 }
 
 // ---- what this browser has done: what the page keeps of lessons, levels and judged runs
-
 function textOfRun(run) {
   try {
     return run.includes("#") ? readAddress(run.slice(run.indexOf("#"))).text : null;
@@ -95,7 +90,6 @@ function textOfRun(run) {
   }
 }
 
-// Which of these tasks a judged run is: that of the same schedule, whatever moment the address names.
 export function taskOfJudged(line, tasks) {
   const [, run = "", level] = line.split(" ");
   if (level === "claim") return null;
@@ -116,7 +110,6 @@ function linesDone(tasks) {
 }
 
 // ---- What a student opens: the tasks of one link, what of them is done in this browser, and the text to hand in.
-
 export const titleOfAssignment = ({ id }) => id || "Assignment";
 
 function doneOf(place) {

@@ -36,8 +36,6 @@ function begin(place) {
   if (place.given.text !== undefined) looked();
 }
 
-// ---- after each deed the proved judge is asked
-
 // Whether the run is the one that was opened, broken as it is: that was shown, and not found.
 const isShown = (run) => now.place.given.text !== undefined && run.lines.join() === run.first.join() && !isBrokenOnce(nameNow());
 
@@ -66,8 +64,6 @@ const whyOf = ({ why }, wasShown) => {
   const ofList = why.replace(/the set (has|does not have) it/, "the list $1 it"); // no set is this
   return `${ofList}. No order of the calls explains that; it is proved.${wasShown ? " This run was shown to you: find one of your own." : ""}`;
 };
-
-// ---- what follows from how far one is
 
 const NOBODY_KNOWS = "Nobody knows a run that breaks this list. Try it, and say why.";
 

@@ -58,12 +58,10 @@ function drawOwnLine({ text, rows = [], isPlain = false }, { next, made, fresh =
 /** @param {CodeSpec} spec */
 export const drawOwnCode = (spec) => tag("ol", { class: "steps" }, ...linesShown(spec).map((line) => drawOwnLine(line, spec)));
 
-// ---- the algorithm of each list as the book's listings have it; `rows` are those of the table for which a line stands (each on one line),
-// `of` the calls that make it
+// ---- the algorithm of each list as the book has it: `rows` of the table for which a line stands, `of` the calls that make it
 
 const CHANGES = ["add", "remove"];
 
-// The walk of `contains` and `ceiling` without locks, of two lists.
 const READS = [
   { of: ["contains"], text: "contains(key):  no lock, no retry" },
   { of: ["contains"], text: "  curr = curr.next, from the head", rows: [20] },

@@ -92,7 +92,6 @@ export function showScrub(figure) {
 }
 
 // ---- What a press on a part of a figure does: a thread's button, a line of the code, the slider's ends, what takes a press back.
-
 const MOST_KEY = 999;
 
 export function pressed(figure, event) {

@@ -11,8 +11,7 @@ const sleep = (time) => new Promise((done) => setTimeout(done, time));
 const drawn = { count: 0 };
 const tellBusy = (isBusy) => (document.body.dataset.busy = isBusy ? "yes" : "no");
 
-// A spec has what a run needs; `calls`, of each thread those that it is to make; `shown`, the threads with a button; `dock`, `code`, `strip`,
-// `scrub`: what is shown besides the list.
+// A spec has what a run needs; of each thread its `calls`; the threads with a button (`shown`); and what is shown besides the list.
 export const STILL = { dock: false, names: true, strip: true, short: true, again: false }; // of a run that is made elsewhere
 
 export class Figure {

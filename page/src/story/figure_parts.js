@@ -14,8 +14,6 @@ const MOST_HEIGHT = 0.4; // of the window, for the list
 const NARROW = "(max-width: 760px)";
 export const isNarrow = () => matchMedia(NARROW).matches;
 
-// ---- the frame
-
 const codeBox = ({ codeTitle, codeNote = "" }) => `<details class="codebox" ${isNarrow() ? "" : "open"}><summary><b>${codeTitle}</b></summary>
     <p class="small code-note" ${codeNote === "" ? "hidden" : ""}>${codeNote}</p><span class="runs"></span><div class="lines"></div>
     <p class="small hint">A letter stands at its thread’s next line. Press the line to step, another one to run there.</p></details>`;
@@ -58,7 +56,6 @@ function scrollSoon(figure, moved) {
   });
 }
 
-// The sentence of a moment. Where the lock is left out, its last step tells what the one before did.
 function taleHere({ run, spec }, moment) {
   if (spec.sentence) return spec.sentence(moment);
   if (moment.event === null) return "";
@@ -69,8 +66,6 @@ function taleHere({ run, spec }, moment) {
   run.state.moveTo(run.count);
   return `${before} <b>${callText(call)} answers ${answer}.</b>`;
 }
-
-// ---- the list
 
 function placeTheList(figure, { state, event }, isNear) {
   const box = figure.part("list");
@@ -101,7 +96,6 @@ function fitList({ spec, most: { width } }, svg, room, own) {
   svg.setAttribute("height", high * scale);
 }
 
-// Keeps the node of the event in sight where the list is wider than its stage.
 function scrollToTouched(figure) {
   const [box, room] = [figure.part("list"), figure.wide];
   const drawn = box.firstElementChild;
@@ -129,8 +123,6 @@ export function markLostNodes({ run, box }) {
     if (isLost(node)) box.querySelector(`.list [data-part="node ${name}"]`)?.classList.add("lost");
   }
 }
-
-// ---- the code
 
 function operationsOf({ spec, run, isGuess }) {
   const planned = Object.values(spec.calls ?? {}).flat().map(([operation]) => operation);

@@ -12,7 +12,6 @@ const NOTHING = { at: 1, done: {}, asks: {}, student: "", number: "", homework: 
 /** @returns {{ at: number, done: Record<string, boolean>, asks: Record<string, string>, student: string, number: string, homework: any }} */
 export const keptStory = () => ({ ...NOTHING, ...keptUnder(STORY) });
 export const keepStory = (change) => keepUnder(STORY, { ...keptStory(), ...change });
-
 const isBrokenLine = ([name, line]) => Object.hasOwn(LACKING, name) && isText(line);
 export const brokenLines = () => Object.entries(keptUnder(BROKEN) ?? {}).filter(isBrokenLine);
 export const isBrokenOnce = (name) => brokenLines().some(([one]) => one === name);
@@ -38,7 +37,6 @@ export function startAfresh(button) {
 }
 
 // ---- the courses that were opened, the schedules that solved a lesson, and the lessons whose answer was looked at
-
 const LESSONS_KEPT = "listset-lessons-2";
 const textsKept = (kept) => Object.entries(kept ?? {}).filter(([, text]) => isText(text));
 const namesKept = (kept) => (Array.isArray(kept) ? kept.filter(isText) : []);

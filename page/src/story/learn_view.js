@@ -52,7 +52,6 @@ function takeTry(figure, lines) {
   figure.draw();
 }
 
-// A step at an earlier moment drops what came after it.
 function goOnFromHere({ run }) {
   if (run.count < run.trace.total) run.take(run.linesHere());
 }
@@ -67,8 +66,6 @@ function looked() {
   if (isBegun) panel.keepTry(run.schedule);
   setScene({ text: isBegun ? run.schedule : "", stage: verdict.isSolved && !verdict.isShown ? "done" : "task" });
 }
-
-// ---- what follows from how far one is
 
 function conditionsHtml() {
   const met = new Set(shown.verdict.conditions.filter(({ isMet }) => isMet).map(({ says }) => says));

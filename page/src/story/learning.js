@@ -52,8 +52,6 @@ class Learning {
     return this.course.lessons.find(({ name }) => !this.isSolved(name));
   }
 
-  // ---- the tries: each is kept among the works, under the name of its lesson
-
   get workName() {
     return `lesson ${this.lesson.name}${this.course.name === BOOK_NAME ? "" : ` of ${this.course.name}`}`;
   }
@@ -80,7 +78,6 @@ class Learning {
     return { ...verdict, isShown, isKept };
   }
 
-  // From now on the answer itself is no solution of this reader's own.
   lookAtAnswer() {
     this.own.looked.add(this.lesson.name);
     this.kept.save();

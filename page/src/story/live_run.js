@@ -1,5 +1,4 @@
-// A run that is made while it is watched: the engine is asked for each deed, and what the reader chose is one schedule.
-// No step is computed here: how far a thread goes in one deed is read off the engine's own trace.
+// A run that is made while it is watched. No step is computed here: how far a thread goes is read off the engine's own trace.
 import { askNow } from "../page/now.js";
 import { askList, verdictOnLacking } from "../run/broken.js";
 import { openingIn, scheduleOfDraft, scheduleOfTrace, scheduleText } from "../run/schedule_text.js";
@@ -9,7 +8,6 @@ import { isTrace, Trace } from "../run/trace.js";
 import { joinedRows, phaseAt } from "./tale.js";
 
 const MOST_STEPS = 80; // of one call, in the short lists of the story
-
 export const linesOf = (schedule) => schedule.split("\n").filter((line) => /^(begin|go) /.test(line));
 
 export function runOfText(text) {

@@ -11,7 +11,6 @@ const numberOf = ({ id }) => Math.max(1, Math.min(LAST, Number(id) || 1));
 const screenOf = (place) => SCREENS[numberOf(place) - 1] ?? null;
 const here = () => screenOf(now.place);
 const shown = { count: 0 }; // how many deeds of the way were shown
-
 const hashOf = (number) => `#story=${number}${now.place.view === "lecture" ? "&view=lecture" : ""}`;
 const goTo = (number) => (location.hash = hashOf(number));
 
@@ -71,8 +70,6 @@ function drawBar(stage, number) {
   show.textContent = isNarrow() && stage !== "again" ? "Show me" : SHOW[stage];
   drawOn(isDone, number === SCREENS.length ? "And now? →" : "Continue →");
 }
-
-// ---- a deed: is it what was asked for?
 
 function looked() {
   const screen = here();
@@ -134,8 +131,6 @@ function done() {
   const on = part("#go-on");
   if (document.activeElement === document.body) on.focus({ preventScroll: true });
 }
-
-// ---- the bar, the keys
 
 const isOver = (thread) => scene.figure.run.isIdle(thread) && scene.figure.left(thread).length === 0;
 

@@ -1,6 +1,4 @@
-// The places of the story: each has a view, which says what stands there, draws how far one is, and does what is pressed.
-//
-// A button with `data-do` does the deed of its view that has this name.
+// The places of the story: each has a view. A button with `data-do` does the deed of its view that has this name.
 import { change, dispatch, now } from "../page/now.js";
 import { byId, setHtml } from "../page/dom.js";
 import { copied } from "../page/visit.js";
@@ -21,7 +19,6 @@ import { isNarrow } from "./figure_parts.js";
 /** @type {Record<string, View>} of an activity, or of one without an id its map */
 export const VIEWS = {};
 export const scene = { key: "", view: null, figure: null, isFirst: true, isNew: false };
-
 export const part = (selector) => byId("scene").querySelector(selector);
 const viewOf = ({ activity, id }) => (id === "" ? VIEWS[`${activity} map`] : undefined) ?? VIEWS[activity];
 export const titleOfScene = (place) => viewOf(place).title(place);
@@ -105,14 +102,11 @@ export function listenToScene() {
 
 export const pressInScene = (event) => scene.view?.press?.(event);
 
-// ---- parts that several places have
-
 export const head = (kicker, title, more = "", kind = "") =>
   `<div class="head">${kicker === "" ? "" : `<p class="kicker">${kicker}</p>`}<h1 class="${kind}" tabindex="-1">${title}</h1>${more}</div>`;
 
 export const FIGURE_AND_TALK = '<div id="figure"></div><div id="talk" class="talk" aria-live="polite"></div>';
 
-// The buttons of a task at its right: a hint, and on to the next one.
 export const hintAndOn = ({ href, words }) =>
   `<button id="hint" class="primary" data-do="hint"></button>${tag("a", { id: "go-on", class: "button quiet", href, "data-words": words }, "Skip →")}`;
 
@@ -129,13 +123,11 @@ export function drawOn(isDone, words) {
   on.className = isDone ? "button primary ready" : "button quiet";
 }
 
-// A figure in which the reader may begin any call.
 export function takeFreeFigure(list, spec) {
   const free = { free: true, strip: true, short: true, roomFor: 694, operations: ["add", "remove", "contains"], codeTitle: LIST_WORDS[list] };
   return takeFigure(new Figure(part("#figure"), { list, ...free, ...spec }));
 }
 export const LACKS_ONE = "One check of this code is not made here.";
-
 export const foot = (left, right) => tag("footer", { class: "foot" }, left, tag("span", { class: "spread" }), right);
 
 export const optionButtons = (texts, wrong = []) => {
@@ -181,5 +173,4 @@ export function pressThread(event) {
 }
 
 export const numberOfKey = ({ key }) => (now.prefs.letters && /^[1-9]$/.test(key) ? Number(key) - 1 : -1);
-
 export const LIST_WORDS = { coarse: "One lock", fine: "Hand over hand", optimistic: "Optimistic", lazy: "Lazy", "lock-free": "Lock-free" };

@@ -54,7 +54,6 @@ const WORDS = {
 export const phaseText = (phase, call) => WORDS[phase](call);
 
 // ---- One short sentence about an event, for who has not read the book: nodes go by their numbers, threads by their letters.
-
 const bold = (text) => `<b>${text}</b>`;
 
 const nodeName = (state, name) => {
@@ -63,8 +62,6 @@ const nodeName = (state, name) => {
   return name in state.nodes ? keyText(state.nodes[name].key) : "";
 };
 const bare = (link) => link.replace("*", "");
-
-// An answer as it is told: that of a ceiling is a number.
 export const answerText = (answer) => answer.replace(/^at-/, "");
 
 export function taleOf(moment, { plain = false } = {}) {

@@ -11,7 +11,6 @@ import { beginHandIns, handInDeeds, handInsHtml } from "./handins_view.js";
 import { startAfresh } from "./kept.js";
 import { copyText, head, part } from "./scene.js";
 
-// Of each slide its minutes, its title, its address, and what to ask.
 /** @type {[number, string, string, string][]} */
 const LECTURE = [
   [4, "Lose a number", "#story=2&view=lecture", "No lock. Let the class call out A or B until a number is lost."],
@@ -38,8 +37,6 @@ function lectureHtml() {
     <p class="prose">Each link opens one slide, as large as the screen. A presenter’s keys and the arrows step; A and B let a thread go on; Escape
     leads back. Ask the class first, then step.</p><ol class="plan">${LECTURE.map(slide).join("")}</ol></section>`;
 }
-
-// ---- a question in one's own page
 
 const titleOf = (name) => QUESTIONS.find((item) => item.name === name).title;
 const snippetOf = (name) =>
@@ -81,7 +78,6 @@ goal
 `;
 
 // ---- homework, put together by ticks from lessons, levels and numbered runs, as one link that has all of it
-
 const FIRST_NUMBER = 17;
 const work = { seeds: [] };
 const piece = (name) => part(`#hw-${name}`);
@@ -153,8 +149,6 @@ const homeworkDeeds = {
   },
   copy: () => copyText(linkTo(addressNow()), "The link is copied."),
 };
-
-// ---- the whole
 
 const OWN = `<section class="panel" id="own"><h2>Lessons of your own</h2>
   <p class="prose">A course is a text: of each lesson a question, a list, the numbers in it, and what a solution shows. Write it under Solve,
