@@ -706,7 +706,6 @@ const LONG_WORDS = { b: "begin", g: "go" };
 const SHORT_EVENT = String.raw`(b\d+\.[a-z]+\.\d+|g\d+\.\d+)`;
 const NUMBER = /^\d+$/;
 const KIND = `(${Object.keys(LISTS).join("|")})`;
-/** @type {Record<string, RegExp>} */
 const ADDRESS_PARTS = {
   threads: NUMBER, quota: NUMBER, version: NUMBER, event: NUMBER, list: /^[A-Za-z-]+$/, opening: /^\d+(\.\d+)*$/,
   s: new RegExp(`^(${SHORT_EVENT}(,${SHORT_EVENT})*)?$`),
@@ -1328,9 +1327,7 @@ function drawBar(call, scale) {
   const isOpen = call.ended === null || call.ended > now;
   const right = isOpen && now <= last ? Math.min(end, scale.x(now)) : end;
   const state = `${call.begun <= count ? "begun" : "later"}${isOpen ? " open" : ""}`;
-  return tag(
-    "g",
-    { class: `bar ${state} ${colourOf(call.thread)}` },
+  return tag("g", { class: `bar ${state} ${colourOf(call.thread)}` },
     title(callInWords(call, now)),
     tag("rect", { x: left, y: top, width: Math.max(right - left, 4), height: bar, rx: 4 }),
     drawLabel(call, scale, left, top),
@@ -1353,9 +1350,7 @@ function drawPoint(call, scale) {
   const y = scale.y(call.thread);
   const state = isReached(call, scale.count) ? "reached" : "later";
   const how = call.changes ? "changes the set at" : "does not change the set; its reply is correct at";
-  return tag(
-    "g",
-    { class: `point ${state} ${colourOf(call.thread)}` },
+  return tag("g", { class: `point ${state} ${colourOf(call.thread)}` },
     title(`call ${call.id}, ${callText(call)}, ${how} event ${call.at}`),
     tag("circle", { cx: x, cy: y, r: 6.5 }),
     call.changes ? "" : tag("circle", { class: "hole", cx: x, cy: y, r: 3 }),
@@ -1504,9 +1499,7 @@ function drawContent(part, scale) {
   const text = all.length <= room ? all : room > 6 ? `${all.slice(0, room - 2)}…` : "";
   const right = text === "" ? shown : Math.max(shown, left + 10 + KEY_WIDTH * text.length);
   const isNow = scale.count < part.to && (scale.count >= part.from || part.from <= scale.first);
-  return tag(
-    "g",
-    { class: isNow ? "content now" : "content" },
+  return tag("g", { class: isNow ? "content now" : "content" },
     title(all),
     tag("rect", { x: left, y: 0, width: Math.max(right - left, 1), height: 24 }),
     text === "" && isLast ? label({ x: scale.edge, y: 17, "text-anchor": "end", class: "over" }, all) : label({ x: left + 5, y: 17 }, text),
@@ -3243,7 +3236,7 @@ const isSlide = ({ view }) => view === "lecture";
 const isFree = ({ isClaim }) => !isClaim; // of a claim there is no run to step through
 
 const SEEN = {
-  top: isFull,
+  ...Object.fromEntries(["top", "told", "order"].map((id) => [id, isFull])),
   leave: ({ view }) => view !== null && view !== "embed",
   scene: ({ screen }) => screen === "scene",
   bench: ({ screen }) => screen !== "scene",
@@ -3264,8 +3257,6 @@ const SEEN = {
   dock: (facts) => isStage(facts) && isFree(facts),
   ...Object.fromEntries(["judge-note", "run-figure", "key-help-box", "threads-box", "table-box"].map((id) => [id, isFree])),
   "listing-box": (facts) => isFree(facts) && !facts.isBroken,
-  told: isFull,
-  order: isFull,
   "no-engine": ({ hasEngine }) => hasEngine === false,
 };
 
@@ -5779,12 +5770,7 @@ class KeptLessons {
   }
 }
 
-function ownOf(kept) {
-  return {
-    solutions: new Map(textsKept(kept?.solutions)),
-    looked: new Set(namesKept(kept?.looked)),
-  };
-}
+const ownOf = (kept) => ({ solutions: new Map(textsKept(kept?.solutions)), looked: new Set(namesKept(kept?.looked)) });
 return { keptStory, keepStory, brokenLines, isBrokenOnce, keepBrokenLine, isNamed, keepNamed, startAfresh, KeptLessons };
 })();
 
@@ -6003,9 +5989,7 @@ function drawLink(state, name, places, event) {
   const isMarked = link.endsWith("*");
   const x = from.x + from.width - (isMarked ? 1 : LINK_WIDTH / 2);
   const y = from.y + NODE_HEIGHT / 2;
-  return tag(
-    "g",
-    { class: `link ${kind}${from.aside ? " aside" : ""}`, "data-part": `link ${name}`, "data-to": target },
+  return tag("g", { class: `link ${kind}${from.aside ? " aside" : ""}`, "data-part": `link ${name}`, "data-to": target },
     title(`${name}.link: ${said(link)}`),
     isMarked ? "" : tag("circle", { cx: x, cy: y, r: 4 }),
     tag("path", { d: pathOf(from, to, x, y), "marker-end": `url(#tip-${kind})` }),
@@ -6087,9 +6071,7 @@ function drawNode(state, name, place, event) {
   const size = { x, y, width, height: NODE_HEIGHT, rx: 5 };
   const box = isMarked ? { ...size, class: "box marked", style: "fill:url(#hatch)" } : { ...size, class: "box" };
   const side = x + width - LINK_WIDTH;
-  return tag(
-    "g",
-    { class: `node ${kind}`, "data-part": `node ${name}`, "data-x": x, "data-y": y },
+  return tag("g", { class: `node ${kind}`, "data-part": `node ${name}`, "data-x": x, "data-y": y },
     title(nodeInWords(node, name, kind)),
     hot === name ? drawHot(place) : "",
     tag("rect", box),
@@ -6113,9 +6095,7 @@ function drawKey(node, x, y, isTouched) {
 
 function drawLock(lock, x, y) {
   const thread = Number(lock.slice(1));
-  return tag(
-    "g",
-    { class: `lock ${colourOf(thread)}`, transform: `translate(${x},${y})` },
+  return tag("g", { class: `lock ${colourOf(thread)}`, transform: `translate(${x},${y})` },
     title(`locked by ${holderOf(lock)}`),
     tag("path", { d: "M12 9 v-3 a6 6 0 0 1 12 0 v3" }),
     tag("rect", { x: 0, y: 8, width: 36, height: 18, rx: 4 }),
@@ -6126,9 +6106,7 @@ function drawLock(lock, x, y) {
 function drawFold(item) {
   const { x } = item;
   const count = item.folded.length;
-  return tag(
-    "g",
-    { class: "fold" },
+  return tag("g", { class: "fold" },
     title(`${count} nodes of the chain that no thread is at`),
     tag("rect", { x, y: TOP + 9, width: FOLD_WIDTH, height: NODE_HEIGHT - 18, rx: 18 }),
     label({ x: x + FOLD_WIDTH / 2, y: TOP + NODE_HEIGHT / 2 + 5 }, `… ${count} …`),
@@ -6147,17 +6125,8 @@ function drawListLock(state) {
   return label({ class: "name", x: 16, y: 20 }, "the list's lock") + lock;
 }
 const HATCH = { id: "hatch", width: 7, height: 7, patternUnits: "userSpaceOnUse", patternTransform: "rotate(45)" };
-const DEFINITIONS = tag(
-  "defs",
-  {},
-  tag(
-    "pattern",
-    HATCH,
-    tag("rect", { class: "ground", width: 7, height: 7 }),
-    tag("line", { class: "stripe", x1: 0, x2: 0, y1: 0, y2: 7 }),
-  ),
-  ...["in", "out", "hot"].map(drawTip),
-);
+const STRIPES = tag("rect", { class: "ground", width: 7, height: 7 }) + tag("line", { class: "stripe", x1: 0, x2: 0, y1: 0, y2: 7 });
+const DEFINITIONS = tag("defs", {}, tag("pattern", HATCH, STRIPES), ...["in", "out", "hot"].map(drawTip));
 
 function drawList(state, event, { chain, items, places, labels, names, more, width, height: high }, least = 0, own = "") {
   const above = state.trace.kind === "coarse" ? -4 : TOP - LOCK_HEIGHT; // the list's own lock stands there
@@ -7823,15 +7792,9 @@ function judgeScale({ last, threads, calls }, width) {
   const { places: labels, rows } = layLabels(threads, inOrder, itemOf, { start: 2, edge: width, mostRows: MOST_ROWS });
   const above = ROW_HEIGHT * rows + 4;
   const lane = above + JUDGE_BAR + JUDGE_BELOW;
-  return {
-    ...across,
-    width,
-    edge: width - JUDGE_RIGHT,
-    labels,
-    height: 4 + threads * lane,
-    y: (thread) => 2 + thread * lane + above + JUDGE_BAR / 2,
-    momentAt: (x) => (x - HISTORY_LEFT) / step + 0.5,
-  };
+  const y = (thread) => 2 + thread * lane + above + JUDGE_BAR / 2;
+  const momentAt = (x) => (x - HISTORY_LEFT) / step + 0.5;
+  return { ...across, width, edge: width - JUDGE_RIGHT, labels, height: 4 + threads * lane, y, momentAt };
 }
 
 const momentInWords = (at) => (Number.isInteger(at) ? `at ${at}` : `after ${Math.floor(at)}`);
@@ -7845,13 +7808,9 @@ function drawJudgedCall(call, { answer, exercise, verdict, scale }) {
   const isClash = verdict?.clash === call.id;
   const where = point === undefined ? "not placed yet" : momentInWords(point.at);
   const slider = {
-    role: "slider",
-    tabindex: 0,
-    "data-call": call.id,
+    role: "slider", tabindex: 0, "data-call": call.id,
     "aria-label": `where ${nameOfCall(call)}, ${reply === "?" ? "its reply not said yet" : reply}, takes effect`,
-    "aria-valuemin": call.begun,
-    "aria-valuemax": lastMoment(exercise, call),
-    "aria-valuenow": point?.at ?? call.begun,
+    "aria-valuemin": call.begun, "aria-valuemax": lastMoment(exercise, call), "aria-valuenow": point?.at ?? call.begun,
     "aria-valuetext": `${where}${isClash ? ", and clashes there" : ""}`,
     class: `bar own ${colourOf(call.thread)}${isClash ? " clash" : ""}${call.ended === null ? " open" : ""}`,
   };
@@ -8716,7 +8675,6 @@ function readHtml() {
     <h2>What is proved, and what is not</h2><div class="panel prose">${byId("proved").innerHTML}</div>`;
 }
 
-/** @type {(name: () => string, html: (place: any) => string, more?: any) => import("../story/scene.js").View} */
 const mapOf = (name, html, more = {}) => ({ kind: "asks", title: () => `${name()} · Why not just one lock?`, html, ...more });
 const MAPS = {
   "ask map": mapOf(() => "Guess, then see", askHtml),
@@ -8805,6 +8763,10 @@ function listenToCourses() {
   lessonPart("try").onclick = () => takeCourseText(box.value);
   lessonPart("link").onclick = () => takeCourseText(box.value) && copyCourseLink();
   lessonPart("save").onclick = () => saveText("lessons.course", box.value);
+  lessonPart("hand-in").onclick = handIn;
+  lessonPart("student").onchange = () => {
+    if (!keepStory({ student: lessonPart("student").value.trim() })) lessonPart("told").textContent = "This browser keeps nothing: hand in before you leave the page.";
+  };
 }
 
 async function handIn() {
@@ -8821,14 +8783,7 @@ async function handIn() {
   const count = `${counted(solutions.length, "solution")}, ${counted(orders.length, "judged order")} and ${counted(broken.length, "broken list")}`;
   lessonPart("told").textContent = (await copied(box.value)) ? `The text with ${count} is copied.` : `Copy this text: it has ${count}.`;
 }
-
-function listenToHandIn() {
-  lessonPart("hand-in").onclick = handIn;
-  lessonPart("student").onchange = () => {
-    if (!keepStory({ student: lessonPart("student").value.trim() })) lessonPart("told").textContent = "This browser keeps nothing: hand in before you leave the page.";
-  };
-}
-return { takeCourseOfAddress, showCourseText, listenToCourses, listenToHandIn };
+return { takeCourseOfAddress, showCourseText, listenToCourses };
 })();
 
 // run/sides.js
@@ -10648,7 +10603,7 @@ return { OWN_COURSE, teachView };
 // main.js
 const $main = (() => {
 const { listenToBench, showBar, showPlace, showRun } = $activities_bench;
-const { listenToCourses, listenToHandIn } = $activities_courses;
+const { listenToCourses } = $activities_courses;
 const { compareView } = $activities_compare;
 const { drawJudging, listenToJudging } = $activities_judging;
 const { MAPS } = $activities_maps;
@@ -10678,17 +10633,10 @@ const SCENES = {
   story: pathView, ask: askView, break: breakView, learn: learnView, code: codeView, teachers: teachView, assignment: assignmentView, compare: compareView,
 };
 
+const LISTEN = [listenToBar, listenToBench, listenToWork, listenToFiles, listenToSettings, listenToJudging, listenToCourses, listenToScene, placeParts];
+
 function listen() {
-  listenToBar();
-  listenToBench();
-  listenToWork();
-  listenToFiles();
-  listenToSettings();
-  listenToJudging();
-  listenToCourses();
-  listenToHandIn();
-  listenToScene();
-  placeParts();
+  for (const begin of LISTEN) begin();
   keysOf.scene = pressInScene;
   document.addEventListener("click", stopUnable, true);
   document.addEventListener("keydown", pressKey);

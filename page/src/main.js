@@ -1,6 +1,6 @@
 // The page: its parts are put together, and it starts.
 import { listenToBench, showBar, showPlace, showRun } from "./activities/bench.js";
-import { listenToCourses, listenToHandIn } from "./activities/courses.js";
+import { listenToCourses } from "./activities/courses.js";
 import { compareView } from "./activities/compare.js";
 import { drawJudging, listenToJudging } from "./activities/judging.js";
 import { MAPS } from "./activities/maps.js";
@@ -31,17 +31,10 @@ const SCENES = {
   story: pathView, ask: askView, break: breakView, learn: learnView, code: codeView, teachers: teachView, assignment: assignmentView, compare: compareView,
 };
 
+const LISTEN = [listenToBar, listenToBench, listenToWork, listenToFiles, listenToSettings, listenToJudging, listenToCourses, listenToScene, placeParts];
+
 function listen() {
-  listenToBar();
-  listenToBench();
-  listenToWork();
-  listenToFiles();
-  listenToSettings();
-  listenToJudging();
-  listenToCourses();
-  listenToHandIn();
-  listenToScene();
-  placeParts();
+  for (const begin of LISTEN) begin();
   keysOf.scene = pressInScene;
   document.addEventListener("click", stopUnable, true);
   document.addEventListener("keydown", pressKey);

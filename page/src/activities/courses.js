@@ -75,6 +75,10 @@ export function listenToCourses() {
   lessonPart("try").onclick = () => takeCourseText(box.value);
   lessonPart("link").onclick = () => takeCourseText(box.value) && copyCourseLink();
   lessonPart("save").onclick = () => saveText("lessons.course", box.value);
+  lessonPart("hand-in").onclick = handIn;
+  lessonPart("student").onchange = () => {
+    if (!keepStory({ student: lessonPart("student").value.trim() })) lessonPart("told").textContent = "This browser keeps nothing: hand in before you leave the page.";
+  };
 }
 
 async function handIn() {
@@ -92,9 +96,3 @@ async function handIn() {
   lessonPart("told").textContent = (await copied(box.value)) ? `The text with ${count} is copied.` : `Copy this text: it has ${count}.`;
 }
 
-export function listenToHandIn() {
-  lessonPart("hand-in").onclick = handIn;
-  lessonPart("student").onchange = () => {
-    if (!keepStory({ student: lessonPart("student").value.trim() })) lessonPart("told").textContent = "This browser keeps nothing: hand in before you leave the page.";
-  };
-}

@@ -145,7 +145,6 @@ function readHtml() {
     <h2>What is proved, and what is not</h2><div class="panel prose">${byId("proved").innerHTML}</div>`;
 }
 
-/** @type {(name: () => string, html: (place: any) => string, more?: any) => import("../story/scene.js").View} */
 const mapOf = (name, html, more = {}) => ({ kind: "asks", title: () => `${name()} · Why not just one lock?`, html, ...more });
 export const MAPS = {
   "ask map": mapOf(() => "Guess, then see", askHtml),

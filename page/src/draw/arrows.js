@@ -15,9 +15,7 @@ export function drawLink(state, name, places, event) {
   const isMarked = link.endsWith("*");
   const x = from.x + from.width - (isMarked ? 1 : LINK_WIDTH / 2);
   const y = from.y + NODE_HEIGHT / 2;
-  return tag(
-    "g",
-    { class: `link ${kind}${from.aside ? " aside" : ""}`, "data-part": `link ${name}`, "data-to": target },
+  return tag("g", { class: `link ${kind}${from.aside ? " aside" : ""}`, "data-part": `link ${name}`, "data-to": target },
     title(`${name}.link: ${said(link)}`),
     isMarked ? "" : tag("circle", { cx: x, cy: y, r: 4 }),
     tag("path", { d: pathOf(from, to, x, y), "marker-end": `url(#tip-${kind})` }),

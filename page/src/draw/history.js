@@ -81,9 +81,7 @@ function drawBar(call, scale) {
   const isOpen = call.ended === null || call.ended > now;
   const right = isOpen && now <= last ? Math.min(end, scale.x(now)) : end;
   const state = `${call.begun <= count ? "begun" : "later"}${isOpen ? " open" : ""}`;
-  return tag(
-    "g",
-    { class: `bar ${state} ${colourOf(call.thread)}` },
+  return tag("g", { class: `bar ${state} ${colourOf(call.thread)}` },
     title(callInWords(call, now)),
     tag("rect", { x: left, y: top, width: Math.max(right - left, 4), height: bar, rx: 4 }),
     drawLabel(call, scale, left, top),
@@ -106,9 +104,7 @@ function drawPoint(call, scale) {
   const y = scale.y(call.thread);
   const state = isReached(call, scale.count) ? "reached" : "later";
   const how = call.changes ? "changes the set at" : "does not change the set; its reply is correct at";
-  return tag(
-    "g",
-    { class: `point ${state} ${colourOf(call.thread)}` },
+  return tag("g", { class: `point ${state} ${colourOf(call.thread)}` },
     title(`call ${call.id}, ${callText(call)}, ${how} event ${call.at}`),
     tag("circle", { cx: x, cy: y, r: 6.5 }),
     call.changes ? "" : tag("circle", { class: "hole", cx: x, cy: y, r: 3 }),

@@ -27,15 +27,9 @@ export function judgeScale({ last, threads, calls }, width) {
   const { places: labels, rows } = layLabels(threads, inOrder, itemOf, { start: 2, edge: width, mostRows: MOST_ROWS });
   const above = ROW_HEIGHT * rows + 4;
   const lane = above + JUDGE_BAR + JUDGE_BELOW;
-  return {
-    ...across,
-    width,
-    edge: width - JUDGE_RIGHT,
-    labels,
-    height: 4 + threads * lane,
-    y: (thread) => 2 + thread * lane + above + JUDGE_BAR / 2,
-    momentAt: (x) => (x - HISTORY_LEFT) / step + 0.5,
-  };
+  const y = (thread) => 2 + thread * lane + above + JUDGE_BAR / 2;
+  const momentAt = (x) => (x - HISTORY_LEFT) / step + 0.5;
+  return { ...across, width, edge: width - JUDGE_RIGHT, labels, height: 4 + threads * lane, y, momentAt };
 }
 
 const momentInWords = (at) => (Number.isInteger(at) ? `at ${at}` : `after ${Math.floor(at)}`);
@@ -49,13 +43,9 @@ function drawJudgedCall(call, { answer, exercise, verdict, scale }) {
   const isClash = verdict?.clash === call.id;
   const where = point === undefined ? "not placed yet" : momentInWords(point.at);
   const slider = {
-    role: "slider",
-    tabindex: 0,
-    "data-call": call.id,
+    role: "slider", tabindex: 0, "data-call": call.id,
     "aria-label": `where ${nameOfCall(call)}, ${reply === "?" ? "its reply not said yet" : reply}, takes effect`,
-    "aria-valuemin": call.begun,
-    "aria-valuemax": lastMoment(exercise, call),
-    "aria-valuenow": point?.at ?? call.begun,
+    "aria-valuemin": call.begun, "aria-valuemax": lastMoment(exercise, call), "aria-valuenow": point?.at ?? call.begun,
     "aria-valuetext": `${where}${isClash ? ", and clashes there" : ""}`,
     class: `bar own ${colourOf(call.thread)}${isClash ? " clash" : ""}${call.ended === null ? " open" : ""}`,
   };

@@ -30,9 +30,7 @@ function drawNode(state, name, place, event) {
   const size = { x, y, width, height: NODE_HEIGHT, rx: 5 };
   const box = isMarked ? { ...size, class: "box marked", style: "fill:url(#hatch)" } : { ...size, class: "box" };
   const side = x + width - LINK_WIDTH;
-  return tag(
-    "g",
-    { class: `node ${kind}`, "data-part": `node ${name}`, "data-x": x, "data-y": y },
+  return tag("g", { class: `node ${kind}`, "data-part": `node ${name}`, "data-x": x, "data-y": y },
     title(nodeInWords(node, name, kind)),
     hot === name ? drawHot(place) : "",
     tag("rect", box),
@@ -56,9 +54,7 @@ function drawKey(node, x, y, isTouched) {
 
 function drawLock(lock, x, y) {
   const thread = Number(lock.slice(1));
-  return tag(
-    "g",
-    { class: `lock ${colourOf(thread)}`, transform: `translate(${x},${y})` },
+  return tag("g", { class: `lock ${colourOf(thread)}`, transform: `translate(${x},${y})` },
     title(`locked by ${holderOf(lock)}`),
     tag("path", { d: "M12 9 v-3 a6 6 0 0 1 12 0 v3" }),
     tag("rect", { x: 0, y: 8, width: 36, height: 18, rx: 4 }),
@@ -69,9 +65,7 @@ function drawLock(lock, x, y) {
 function drawFold(item) {
   const { x } = item;
   const count = item.folded.length;
-  return tag(
-    "g",
-    { class: "fold" },
+  return tag("g", { class: "fold" },
     title(`${count} nodes of the chain that no thread is at`),
     tag("rect", { x, y: TOP + 9, width: FOLD_WIDTH, height: NODE_HEIGHT - 18, rx: 18 }),
     label({ x: x + FOLD_WIDTH / 2, y: TOP + NODE_HEIGHT / 2 + 5 }, `… ${count} …`),
@@ -90,17 +84,8 @@ function drawListLock(state) {
   return label({ class: "name", x: 16, y: 20 }, "the list's lock") + lock;
 }
 const HATCH = { id: "hatch", width: 7, height: 7, patternUnits: "userSpaceOnUse", patternTransform: "rotate(45)" };
-const DEFINITIONS = tag(
-  "defs",
-  {},
-  tag(
-    "pattern",
-    HATCH,
-    tag("rect", { class: "ground", width: 7, height: 7 }),
-    tag("line", { class: "stripe", x1: 0, x2: 0, y1: 0, y2: 7 }),
-  ),
-  ...["in", "out", "hot"].map(drawTip),
-);
+const STRIPES = tag("rect", { class: "ground", width: 7, height: 7 }) + tag("line", { class: "stripe", x1: 0, x2: 0, y1: 0, y2: 7 });
+const DEFINITIONS = tag("defs", {}, tag("pattern", HATCH, STRIPES), ...["in", "out", "hot"].map(drawTip));
 
 export function drawList(state, event, { chain, items, places, labels, names, more, width, height: high }, least = 0, own = "") {
   const above = state.trace.kind === "coarse" ? -4 : TOP - LOCK_HEIGHT; // the list's own lock stands there

@@ -85,9 +85,7 @@ function drawContent(part, scale) {
   const text = all.length <= room ? all : room > 6 ? `${all.slice(0, room - 2)}…` : "";
   const right = text === "" ? shown : Math.max(shown, left + 10 + KEY_WIDTH * text.length);
   const isNow = scale.count < part.to && (scale.count >= part.from || part.from <= scale.first);
-  return tag(
-    "g",
-    { class: isNow ? "content now" : "content" },
+  return tag("g", { class: isNow ? "content now" : "content" },
     title(all),
     tag("rect", { x: left, y: 0, width: Math.max(right - left, 1), height: 24 }),
     text === "" && isLast ? label({ x: scale.edge, y: 17, "text-anchor": "end", class: "over" }, all) : label({ x: left + 5, y: 17 }, text),

@@ -15,7 +15,7 @@ const isSlide = ({ view }) => view === "lecture";
 const isFree = ({ isClaim }) => !isClaim; // of a claim there is no run to step through
 
 export const SEEN = {
-  top: isFull,
+  ...Object.fromEntries(["top", "told", "order"].map((id) => [id, isFull])),
   leave: ({ view }) => view !== null && view !== "embed",
   scene: ({ screen }) => screen === "scene",
   bench: ({ screen }) => screen !== "scene",
@@ -36,8 +36,6 @@ export const SEEN = {
   dock: (facts) => isStage(facts) && isFree(facts),
   ...Object.fromEntries(["judge-note", "run-figure", "key-help-box", "threads-box", "table-box"].map((id) => [id, isFree])),
   "listing-box": (facts) => isFree(facts) && !facts.isBroken,
-  told: isFull,
-  order: isFull,
   "no-engine": ({ hasEngine }) => hasEngine === false,
 };
 

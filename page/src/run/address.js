@@ -11,7 +11,6 @@ const LONG_WORDS = { b: "begin", g: "go" };
 const SHORT_EVENT = String.raw`(b\d+\.[a-z]+\.\d+|g\d+\.\d+)`;
 const NUMBER = /^\d+$/;
 const KIND = `(${Object.keys(LISTS).join("|")})`;
-/** @type {Record<string, RegExp>} */
 const ADDRESS_PARTS = {
   threads: NUMBER, quota: NUMBER, version: NUMBER, event: NUMBER, list: /^[A-Za-z-]+$/, opening: /^\d+(\.\d+)*$/,
   s: new RegExp(`^(${SHORT_EVENT}(,${SHORT_EVENT})*)?$`),

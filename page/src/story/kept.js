@@ -61,9 +61,4 @@ export class KeptLessons {
   }
 }
 
-function ownOf(kept) {
-  return {
-    solutions: new Map(textsKept(kept?.solutions)),
-    looked: new Set(namesKept(kept?.looked)),
-  };
-}
+const ownOf = (kept) => ({ solutions: new Map(textsKept(kept?.solutions)), looked: new Set(namesKept(kept?.looked)) });
