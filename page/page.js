@@ -31,7 +31,6 @@ var listsets = (() => {
     BOOK_NAME: () => BOOK_NAME,
     BREAK_LEVELS: () => BREAK_LEVELS,
     CALL_WORDS: () => CALL_WORDS,
-    CHECK_WORDS: () => CHECK_WORDS,
     CLASSICS: () => CLASSICS,
     CLAUSES: () => CLAUSES,
     CODE: () => CODE,
@@ -55,8 +54,9 @@ var listsets = (() => {
     KEY_REGISTERS: () => KEY_REGISTERS,
     KeptLessons: () => KeptLessons,
     LACKING: () => LACKING,
+    LACKS_ONE: () => LACKS_ONE,
     LARGE_MEMORY: () => LARGE_MEMORY,
-    LAST: () => LAST,
+    LAST: () => LAST2,
     LEAST_GAP: () => LEAST_GAP,
     LEVELS: () => LEVELS,
     LINK_WIDTH: () => LINK_WIDTH,
@@ -67,6 +67,7 @@ var listsets = (() => {
     LONG_TEXT: () => LONG_TEXT,
     LiveRun: () => LiveRun,
     MANY_EVENTS: () => MANY_EVENTS,
+    MAPS: () => MAPS,
     MOST_EVENTS: () => MOST_EVENTS,
     MOST_JUDGED: () => MOST_JUDGED,
     MOST_NUMBER: () => MOST_NUMBER,
@@ -87,13 +88,12 @@ var listsets = (() => {
     SCREENS: () => SCREENS,
     SEEN: () => SEEN,
     SET_OF_CODE: () => SET_OF_CODE,
-    SIGNS_IN_WORDS: () => SIGNS_IN_WORDS,
     SIGN_WIDTH: () => SIGN_WIDTH,
     START_OF_CODE: () => START_OF_CODE,
+    STILL: () => STILL,
     ShownRun: () => ShownRun,
     Sides: () => Sides,
     State: () => State,
-    StillFigure: () => StillFigure,
     TEN: () => TEN,
     THREE_MORE: () => THREE_MORE,
     TOP: () => TOP,
@@ -106,7 +106,6 @@ var listsets = (() => {
     addressOf: () => addressOf,
     addressOfAssignment: () => addressOfAssignment,
     addressOfCode: () => addressOfCode,
-    addressOfScene: () => addressOfScene,
     addressOfTasks: () => addressOfTasks,
     allLevels: () => allLevels,
     announce: () => announce,
@@ -116,22 +115,18 @@ var listsets = (() => {
     answerOfWord: () => answerOfWord,
     answerText: () => answerText,
     arranged: () => arranged,
-    askInWorker: () => askInWorker,
     askList: () => askList,
     askLong: () => askLong,
-    askMapView: () => askMapView,
     askNow: () => askNow,
     askView: () => askView,
     assignmentView: () => assignmentView,
     barHtml: () => barHtml,
     beginHandIns: () => beginHandIns,
-    beginHomework: () => beginHomework,
     beginJudging: () => beginJudging,
     beginOwn: () => beginOwn,
     beginTask: () => beginTask,
     blockOf: () => blockOf,
     bookCourse: () => bookCourse,
-    breakMapView: () => breakMapView,
     breakView: () => breakView,
     brokenLines: () => brokenLines,
     byId: () => byId,
@@ -143,7 +138,6 @@ var listsets = (() => {
     checkAll: () => checkAll,
     chipOf: () => chipOf,
     chooseCall: () => chooseCall,
-    chooseInList: () => chooseInList,
     codeOf: () => codeOf,
     codeView: () => codeView,
     colourOf: () => colourOf,
@@ -164,18 +158,20 @@ var listsets = (() => {
     dots: () => dots,
     drawBranches: () => drawBranches,
     drawCalls: () => drawCalls,
-    drawCard: () => drawCard,
     drawContents: () => drawContents,
     drawCursor: () => drawCursor,
     drawFigure: () => drawFigure,
     drawFoldLink: () => drawFoldLink,
+    drawHintAndOn: () => drawHintAndOn,
     drawJudged: () => drawJudged,
     drawJudging: () => drawJudging,
+    drawLane: () => drawLane,
     drawLearnMap: () => drawLearnMap,
     drawLedger: () => drawLedger,
     drawLink: () => drawLink,
     drawList: () => drawList,
     drawListing: () => drawListing,
+    drawOn: () => drawOn,
     drawOrder: () => drawOrder,
     drawOwnCode: () => drawOwnCode,
     drawOwnOrder: () => drawOwnOrder,
@@ -191,7 +187,6 @@ var listsets = (() => {
     eventsInCommon: () => eventsInCommon,
     exampleIn: () => exampleIn,
     exampleShown: () => exampleShown,
-    exampleText: () => exampleText,
     examples: () => examples,
     exerciseOf: () => exerciseOf,
     factsOf: () => factsOf,
@@ -207,7 +202,6 @@ var listsets = (() => {
     goBack: () => goBack,
     goByHand: () => goByHand,
     goTo: () => goTo,
-    goToTurn: () => goToTurn,
     handInDeeds: () => handInDeeds,
     handInText: () => handInText,
     handInsHtml: () => handInsHtml,
@@ -217,36 +211,28 @@ var listsets = (() => {
     hiddenOutcomes: () => hiddenOutcomes,
     hintAndOn: () => hintAndOn,
     holderOf: () => holderOf,
-    homeworkDeeds: () => homeworkDeeds,
-    homeworkHtml: () => homeworkHtml,
     homeworkOf: () => homeworkOf,
     inLetters: () => inLetters,
     isBrokenOnce: () => isBrokenOnce,
     isEmbed: () => isEmbed,
     isExample: () => isExample,
     isFailed: () => isFailed,
-    isFailedStep: () => isFailedStep,
-    isFailedTry: () => isFailedTry,
-    isInChain: () => isInChain,
     isJudging: () => isJudging,
     isLock: () => isLock,
-    isMarkSeen: () => isMarkSeen,
     isNamed: () => isNamed,
     isNarrow: () => isNarrow,
     isOddRun: () => isOddRun,
     isPlaying: () => isPlaying,
     isPointing: () => isPointing,
     isReached: () => isReached,
-    isReadOfLink: () => isReadOfLink,
     isScene: () => isScene,
+    isSeed: () => isSeed,
     isTaskDone: () => isTaskDone,
     isText: () => isText,
     isTrace: () => isTrace,
-    isWithin: () => isWithin,
     isWritten: () => isWritten,
-    itemOf: () => itemOf,
+    itemOf: () => itemOf2,
     joinedRows: () => joinedRows,
-    judgeMapView: () => judgeMapView,
     judgeScale: () => judgeScale,
     judged: () => judged,
     judgedPart: () => judgedPart,
@@ -265,33 +251,29 @@ var listsets = (() => {
     keysInChain: () => keysInChain,
     keysOf: () => keysOf,
     label: () => label,
-    labelWidth: () => labelWidth,
     lastMoment: () => lastMoment,
-    learnMapView: () => learnMapView,
+    layLabels: () => layLabels,
     learnView: () => learnView,
     learning: () => learning,
     leaveScene: () => leaveScene,
     leavesKey: () => leavesKey,
-    lessonText: () => lessonText,
     letterOf: () => letterOf,
     levelOfNumber: () => levelOfNumber,
-    linesDone: () => linesDone,
     linesOf: () => linesOf,
     linesOfCode: () => linesOfCode,
     linkTarget: () => linkTarget,
     linkTo: () => linkTo,
+    listOptions: () => listOptions,
     listenToBar: () => listenToBar,
     listenToBench: () => listenToBench,
     listenToCourses: () => listenToCourses,
     listenToFiles: () => listenToFiles,
-    listenToHandIn: () => listenToHandIn,
     listenToJudging: () => listenToJudging,
     listenToRecorded: () => listenToRecorded,
     listenToScene: () => listenToScene,
     listenToSeedForm: () => listenToSeedForm,
     listenToSettings: () => listenToSettings,
     listenToWork: () => listenToWork,
-    locksOf: () => locksOf,
     longLine: () => longLine,
     markLostNodes: () => markLostNodes,
     markOf: () => markOf,
@@ -301,11 +283,11 @@ var listsets = (() => {
     mono: () => mono,
     nameOfCall: () => nameOfCall,
     newSchedule: () => newSchedule,
-    nodeOf: () => nodeOf,
     now: () => now,
     numberOfKey: () => numberOfKey,
     numberOfLevel: () => numberOfLevel,
     on: () => on,
+    onFile: () => onFile,
     openBranch: () => openBranch,
     openCourseFile: () => openCourseFile,
     openExample: () => openExample,
@@ -329,10 +311,10 @@ var listsets = (() => {
     phaseAt: () => phaseAt,
     phaseText: () => phaseText,
     pickExample: () => pickExample,
-    placeLabels: () => placeLabels,
     placeParts: () => placeParts,
     pressInScene: () => pressInScene,
     pressKey: () => pressKey,
+    pressThread: () => pressThread,
     pressed: () => pressed,
     programText: () => programText,
     promisedKeys: () => promisedKeys,
@@ -345,7 +327,6 @@ var listsets = (() => {
     readProgram: () => readProgram,
     readReport: () => readReport,
     readVerdict: () => readVerdict,
-    readView: () => readView,
     reasonsOf: () => reasonsOf,
     recordedInWords: () => recordedInWords,
     redraw: () => redraw,
@@ -366,10 +347,11 @@ var listsets = (() => {
     scaleOf: () => scaleOf,
     scene: () => scene,
     sceneOfHash: () => sceneOfHash,
-    scheduleAndLine: () => scheduleAndLine,
     scheduleOfDraft: () => scheduleOfDraft,
     scheduleOfSeed: () => scheduleOfSeed,
     scheduleOfTrace: () => scheduleOfTrace,
+    scheduleText: () => scheduleText,
+    scrollToLane: () => scrollToLane,
     scrollToLine: () => scrollToLine,
     seeAgain: () => seeAgain,
     seedForm: () => seedForm,
@@ -384,6 +366,7 @@ var listsets = (() => {
     setView: () => setView,
     setsMark: () => setsMark,
     shapeFor: () => shapeFor,
+    shortLine: () => shortLine,
     show: () => show,
     showBar: () => showBar,
     showBeforehand: () => showBeforehand,
@@ -410,14 +393,13 @@ var listsets = (() => {
     takeBranch: () => takeBranch,
     takeCourseOfAddress: () => takeCourseOfAddress,
     takeFigure: () => takeFigure,
+    takeFreeFigure: () => takeFreeFigure,
     takeScheduleOfTrace: () => takeScheduleOfTrace,
     takeTrace: () => takeTrace,
-    takeViews: () => takeViews,
     taleOf: () => taleOf,
     talk: () => talk,
     talkOfBranch: () => talkOfBranch,
     taskOfJudged: () => taskOfJudged,
-    taskOfWatch: () => taskOfWatch,
     tasksOf: () => tasksOf,
     teachView: () => teachView,
     tell: () => tell,
@@ -429,7 +411,6 @@ var listsets = (() => {
     threadOfKey: () => threadOfKey,
     title: () => title,
     titleIn: () => titleIn,
-    titleOf: () => titleOf,
     titleOfAssignment: () => titleOfAssignment,
     titleOfScene: () => titleOfScene,
     toggleKeys: () => toggleKeys,
@@ -3192,42 +3173,15 @@ end
 `.slice(1)
   };
 
-  // src/run/markup.js
-  var SIGNS = { "&": "&amp;", "<": "&lt;", ">": "&gt;", '"': "&quot;" };
-  var escaped = (text) => String(text).replace(/[&<>"]/g, (sign) => SIGNS[sign]);
-  function tag(name, attributes, ...content) {
-    const given2 = Object.entries(attributes).map(([attribute, value]) => ` ${attribute}="${escaped(value)}"`);
-    return `<${name}${given2.join("")}>${content.join("")}</${name}>`;
-  }
-  var label = (attributes, text) => tag("text", attributes, escaped(text));
-  var title = (text) => tag("title", {}, escaped(text));
-  var colourOf = (thread) => `thread-${thread % 8}`;
-  var letterOf = (thread) => thread < 26 ? String.fromCharCode(65 + Number(thread)) : String(thread);
-  var chipOf = (thread) => tag("span", { class: `who ${colourOf(thread)}` }, letterOf(thread));
-  var holderOf = (lock) => letterOf(Number(lock.slice(1)));
-  var keyText = (key) => String(key).replace("-inf", "−∞").replace("+inf", "+∞");
-  var said = (value) => value.endsWith("*") ? `${value.slice(0, -1)}, marked` : keyText(value);
-  var counted = (count, word) => `${count} ${word}${count === 1 ? "" : "s"}`;
-  var callText = (call) => `${call.operation}(${call.key})`;
-  var openReply = "true";
-  function inLetters(text) {
-    const letters = (numbers) => numbers.replace(/\d+/g, (number) => letterOf(Number(number)));
-    const some = text.replace(/\b(?:the )?threads (\d+(?:, \d+)*(?:,? and \d+)?)/gi, (_, numbers) => letters(numbers));
-    return some.replace(/\bthread (\d+)/gi, (_, number) => letterOf(Number(number))).replace(/\bt(\d+)\b/g, (_, number) => letterOf(Number(number)));
-  }
-
   // src/run/trace.js
   var HEADER_LINES = 4;
-  var END = "end\n";
   var NODE_REGISTERS = ["pred", "curr", "succ", "node"];
   var KEY_REGISTERS = ["pkey", "ckey"];
   var CALL_WORDS = ["add", "remove", "contains", "ceiling"];
   var MOST_NUMBER = 4294967295;
   var isTrace = (text) => text.startsWith("listset-trace");
   var Trace = class {
-    // The version is that of the schedule's text: the one that is given, and the second where there are opening keys or a ceiling.
-    // If the trace goes on where another one ends, what was read of that is taken over, with its calls; that one is not used any more.
-    constructor(text, version = 1, before = null) {
+    constructor(text, version = 1) {
       const [, kind, lacks = null, threads, quota] = /^listset-trace 1\nlist (\S+)\n(?:lacks (\S+)\n)?threads (\d+)\nquota (\d+)\n/.exec(text);
       this.text = text;
       this.version = version;
@@ -3242,11 +3196,7 @@ end
       this.changes = [];
       this.starred = [];
       this.refused = null;
-      this.before = before !== null && goesOn(this, before) ? before : null;
-      if (this.before === null)
-        this.scan(0);
-      else
-        this.takeOver();
+      this.scan();
       if (this.opening.length > 0)
         this.version = 2;
       this.order = orderOf(this.calls);
@@ -3254,27 +3204,20 @@ end
     get total() {
       return this.starts.length;
     }
-    takeOver() {
-      const { opening, starts, calls, callsOf, changes, starred, text } = this.before;
-      const own = { opening, starts: [...starts], calls: [...calls], changes: [...changes], starred: [...starred] };
-      Object.assign(this, own, { callsOf: callsOf.map((some) => [...some]) });
-      this.scan(text.length - END.length);
-    }
-    scan(from) {
+    scan() {
       const { text } = this;
-      for (let at = from; at < text.length; ) {
-        const end3 = text.indexOf("\n", at);
-        const line = text.slice(at, end3);
+      for (let at = 0; at < text.length; ) {
+        const end2 = text.indexOf("\n", at);
+        const line = text.slice(at, end2);
         if (line.startsWith("event "))
           this.note(line, this.starts.push(at));
         else if (line.startsWith("opening "))
           this.opening.push(Number(line.slice("opening ".length)));
         else if (line.startsWith("refused "))
           this.refused = { line: Number(line.split(" ")[2]), cause: line.split(" ")[3] };
-        at = end3 + 1;
+        at = end2 + 1;
       }
     }
-    // Notes what the line of an event says of its call and of the set.
     note(line, number) {
       if (line.includes("*"))
         this.starred.push(number);
@@ -3300,7 +3243,6 @@ end
       this.calls.push(call);
       this.callsOf[call.thread].push(call);
     }
-    // The call of a thread that is open at an event, or ends there.
     callAt(thread, number) {
       const calls = this.callsOf[thread];
       let [least, most] = [0, calls.length - 1];
@@ -3317,7 +3259,6 @@ end
       const start = this.starts[number - 1];
       return this.text.slice(start, this.text.indexOf("\n", start));
     }
-    // The event of this number, from 1: what its line tells.
     event(number) {
       const pieces = this.lineOf(number).split(" ");
       const event = { number, line: Number(pieces[3]), thread: Number(pieces[5]), deed: pieces[6], changes: {} };
@@ -3333,7 +3274,6 @@ end
         tellIn(event, pieces[at], pieces[at + 1]);
       return event;
     }
-    // All events, of a short trace.
     events() {
       return this.starts.map((_, index) => this.event(index + 1));
     }
@@ -3347,10 +3287,6 @@ end
       event.changes[name] = Number(value);
     else if (name !== "call")
       event.changes[name] = value;
-  }
-  function goesOn({ text, version }, before) {
-    return before.version === version && before.text.endsWith(`
-${END}`) && text.startsWith(before.text.slice(0, -END.length));
   }
   var firstOpeningNode = (trace) => 2 + trace.threads * trace.quota;
   function eventsInCommon(one, other) {
@@ -3367,6 +3303,288 @@ ${END}`) && text.startsWith(before.text.slice(0, -END.length));
   function orderOf(calls) {
     const placed2 = calls.filter((call) => call.at !== null);
     return placed2.sort((one, other) => one.at - other.at || Number(other.changes) - Number(one.changes) || one.id - other.id);
+  }
+
+  // src/run/schedule_text.js
+  function scheduleText({ list, threads, quota, opening = [], version = null }, lines = []) {
+    const needed = opening.length > 0 || lines.some((line) => line.includes(" ceiling ")) ? 2 : 1;
+    const head2 = [`listset-schedule ${version ?? needed}`, `list ${list}`, `threads ${threads}`, `quota ${quota}`];
+    return [...head2, ...opening.map((key) => `opening ${key}`), ...lines, ""].join("\n");
+  }
+  var TITLE_OF_SECOND = "listset-schedule 2";
+  var versionOf = (schedule) => schedule.startsWith(`${TITLE_OF_SECOND}
+`) ? 2 : 1;
+  function scheduleOfTrace(trace, count = trace.total) {
+    const lines = [];
+    let [steps, before] = [0, null];
+    for (let number = 1; number <= count; number++) {
+      const event = trace.event(number);
+      const goesOn = before === event.line;
+      steps = goesOn ? steps + 1 : 1;
+      if (event.deed === "begin")
+        lines.push(`begin ${event.thread} ${event.call.operation} ${event.call.key}`);
+      else if (goesOn)
+        lines[lines.length - 1] = `go ${event.thread} ${steps}`;
+      else
+        lines.push(`go ${event.thread} ${steps}`);
+      before = event.line;
+    }
+    return scheduleText({ ...trace, list: trace.kind }, lines);
+  }
+  function openingIn(schedule) {
+    const lines = schedule.split("\n").slice(HEADER_LINES);
+    const count = lines.findIndex((line) => !line.startsWith("opening "));
+    return lines.slice(0, count === -1 ? lines.length : count).map((line) => line.slice("opening ".length));
+  }
+  function withOpening(schedule, keys) {
+    const lines = schedule.split("\n");
+    lines.splice(HEADER_LINES, openingIn(schedule).length, ...keys.map((key) => `opening ${key}`));
+    if (keys.length > 0 && lines[0] === "listset-schedule 1")
+      lines[0] = TITLE_OF_SECOND;
+    return lines.join("\n");
+  }
+  function eventsAsked(text) {
+    let count = 0;
+    for (const [, steps] of text.matchAll(/^(?:begin |go \d+ (\d+)$)/gm))
+      count += Number(steps ?? 1);
+    return count;
+  }
+  var MOST_TRIED = 1e3;
+  var DRAFT_LINE = /^go \d+ (?:out|to \d+)$/m;
+  function scheduleOfDraft(ask, text, lacks = null) {
+    if (!DRAFT_LINE.test(text))
+      return { text, fault: null };
+    if (lacks !== null)
+      return scheduleOfLackingDraft(ask, lacks, text);
+    const made2 = ask("listset_draft", text.replace(/^listset-(?:schedule|draft) [12]$/m, "listset-draft 2"));
+    return made2.status === 0 ? { text: made2.text, fault: null } : { text: null, fault: made2.text.trim() };
+  }
+  function stepsOfLacking(ask, lacks, lines, thread, row) {
+    const fault = (cause) => ({ count: null, fault: `listset: line ${lines.length + 1}: ${cause}` });
+    const { text } = ask("listset_lacking", lacks, `${[...lines, `go ${thread} ${MOST_TRIED}`].join("\n")}
+`, "trace");
+    if (!isTrace(text))
+      return { count: null, fault: text.trim() };
+    const steps = new Trace(text).events().filter(({ line }) => line === lines.length + 1);
+    const end2 = steps.findIndex(({ answer: answer2 }) => answer2 !== void 0);
+    const at = row === void 0 ? end2 : steps.findIndex(({ answer: answer2, changes }) => answer2 === void 0 && changes.pc === Number(row));
+    if (at !== -1)
+      return { count: at + 1, fault: null };
+    return fault(end2 !== -1 || steps.length === 0 ? "Idle" : "Waits");
+  }
+  function scheduleOfLackingDraft(ask, lacks, text) {
+    const lines = [];
+    for (const line of text.split("\n").slice(0, -1)) {
+      const asked2 = /^go (\d+) (?:out|to (\d+))$/.exec(line);
+      const { count, fault } = asked2 === null ? { count: null, fault: null } : stepsOfLacking(ask, lacks, lines, asked2[1], asked2[2]);
+      if (fault !== null)
+        return { text: null, fault };
+      lines.push(asked2 === null ? line : `go ${asked2[1]} ${count}`);
+    }
+    return { text: [...lines, ""].join("\n"), fault: null };
+  }
+
+  // src/run/address.js
+  var LONGEST_ADDRESS = 3e4;
+  var SHORT_WORDS = { begin: "b", go: "g" };
+  var LONG_WORDS = { b: "begin", g: "go" };
+  var SHORT_EVENT = String.raw`(b\d+\.[a-z]+\.\d+|g\d+\.\d+)`;
+  var NUMBER = /^\d+$/;
+  var KIND = `(${Object.keys(LISTS).join("|")})`;
+  var ADDRESS_PARTS = {
+    threads: NUMBER,
+    quota: NUMBER,
+    version: NUMBER,
+    event: NUMBER,
+    list: /^[A-Za-z-]+$/,
+    opening: /^\d+(\.\d+)*$/,
+    s: new RegExp(`^(${SHORT_EVENT}(,${SHORT_EVENT})*)?$`),
+    example: /^[a-z-]+$/,
+    seed: new RegExp(`^${KIND}(\\.\\d{1,2}){3}\\.\\d{1,9}$`),
+    course: /^[A-Za-z0-9_-]+$/,
+    lacks: /^(\d+|[A-Za-z-]+)$/,
+    view: /^(lecture|list|history)$/,
+    sides: new RegExp(`^${KIND}\\.${KIND}$`),
+    calls: /^(\d\d?\.[a-z]+\.\d+(,|$))+$/,
+    turns: /^(\d\d?(\.\d\d?)*)?$/,
+    watch: /^[a-z-]*$/,
+    learn: /^[a-z0-9-]*$/,
+    break: /^\d*$/,
+    judge: /^$/,
+    compare: /^$/,
+    read: /^$/
+  };
+  var isSeed = (word) => ADDRESS_PARTS.seed.test(word);
+  var AddressFault = class extends Error {
+  };
+  function addressOf(text, event, lacks = null) {
+    if (text.length > 2 * LONGEST_ADDRESS)
+      return null;
+    const [title2, list, threads, quota, ...lines] = text.split("\n").slice(0, -1);
+    const isOpening = (line) => line.startsWith("opening ");
+    const opening = lines.filter(isOpening).map((line) => line.slice("opening ".length));
+    const events = lines.filter((line) => !isOpening(line)).map(shortLine);
+    const version = title2?.split(" ")[1];
+    const needed = versionOf(scheduleText({ list, threads, quota, opening }, lines));
+    const parts = [`list=${list?.split(" ")[1]}`, `threads=${threads?.split(" ")[1]}`, `quota=${quota?.split(" ")[1]}`];
+    if (version !== String(needed))
+      parts.push(`version=${version}`);
+    if (opening.length > 0)
+      parts.push(`opening=${opening.join(".")}`);
+    parts.push(`s=${events.join()}`, `event=${event}`);
+    if (lacks !== null)
+      parts.push(`lacks=${Object.keys(LACKING).indexOf(lacks) + 1}`);
+    const address = `#${parts.join("&")}`;
+    return address.length <= LONGEST_ADDRESS && isAddressOf(address, text) ? address : null;
+  }
+  var shortLine = (line) => {
+    const [word, ...values] = line.split(" ");
+    return `${SHORT_WORDS[word] ?? word}${values.join(".")}`;
+  };
+  var longLine = (short) => `${LONG_WORDS[short[0]]} ${short.slice(1).replaceAll(".", " ")}`;
+  function isAddressOf(address, text) {
+    try {
+      return readAddress(address).text === text;
+    } catch (fault) {
+      if (!(fault instanceof AddressFault))
+        throw fault;
+      return false;
+    }
+  }
+  function readAddress(hash) {
+    const { view = null, course = null, lacks: which, seed = null, ...rest } = partsOf(hash);
+    const { place, isJudged, parts } = placeOf(rest, seed);
+    const lacks = which === void 0 ? null : lackingNamed(which, parts);
+    const own = { view, course, sides: null, lacks, place, seed, isJudged };
+    const named = { example: parts.example ?? null, text: null, event: Number(parts.event ?? 0), ...own };
+    if (parts.sides !== void 0)
+      return { ...named, sides: parts };
+    const ofSchedule = Object.keys(parts).filter((name) => name !== "event" && name !== "example");
+    if (named.example !== null && ofSchedule.length > 0) {
+      throw new AddressFault(`the address names an example, and has "${ofSchedule[0]}" too`);
+    }
+    if (ofSchedule.length > 0)
+      named.text = textOfParts(parts);
+    return named;
+  }
+  function lackingNamed(which, { list, example }) {
+    const names = Object.keys(LACKING);
+    const lacks = names.includes(which) ? which : names[which - 1];
+    if (lacks === void 0) {
+      throw new AddressFault(`there is no broken list "${which}": expected 1 to ${names.length}, or a name that "listset show --help" prints`);
+    }
+    if (list === LACKING[lacks])
+      return lacks;
+    const named = list !== void 0 ? `list=${list}` : example !== void 0 ? `example=${example}` : "no list";
+    throw new AddressFault(`lacks=${which} is a broken ${LISTS[LACKING[lacks]].name}, and the address has ${named}`);
+  }
+  function placeOf(parts, seed) {
+    const isRun = seed !== null || parts.example !== void 0 || parts.list !== void 0;
+    const name = ["watch", "learn", "judge", "break", "compare", "read"].find((one) => parts[one] !== void 0);
+    if (name === void 0)
+      return { place: null, isJudged: false, parts };
+    const { [name]: value, ...others } = parts;
+    const isJudged = name === "judge" && isRun;
+    return { place: isJudged ? null : [name, value], isJudged, parts: others };
+  }
+  function partsOf(hash) {
+    const parts = {};
+    for (const [name, value] of new URLSearchParams(hash.replace(/^#/, ""))) {
+      if (!Object.hasOwn(ADDRESS_PARTS, name))
+        throw new AddressFault(`the address has a part "${name}", which is none`);
+      if (name in parts)
+        throw new AddressFault(`the address has "${name}" twice`);
+      if (!ADDRESS_PARTS[name].test(value))
+        throw new AddressFault(`"${value.slice(0, 60)}" is no ${name} of an address`);
+      parts[name] = value;
+    }
+    return parts;
+  }
+  function textOfParts(parts) {
+    const missing = ["list", "threads", "quota"].find((name) => parts[name] === void 0);
+    if (missing !== void 0)
+      throw new AddressFault(`the address has no "${missing}"`);
+    const events = (parts.s ? parts.s.split(",") : []).map(longLine);
+    return scheduleText({ ...parts, opening: parts.opening?.split(".") }, events);
+  }
+  var warningOf = (link) => link.startsWith("file:") ? " Others cannot open it, since it leads to a file on this computer: copy it from a page on a web server." : "";
+  var TRIES = 200;
+  var MOST_TRIED_CALLS = 8;
+  var MOST_SEEN = 60;
+  var seedOf = (kind, number) => `${kind}.2.5.2.${number}`;
+  function partsOfSeed(seed) {
+    const [kind, ...values] = seed.split(".");
+    const [threads, calls, keys, number] = values.map(Number);
+    return { kind, threads, calls, keys, number };
+  }
+  function scheduleOfSeed(ask, seed) {
+    const { kind, threads, calls, keys, number } = partsOfSeed(seed);
+    const tries = calls > MOST_TRIED_CALLS ? 1 : TRIES;
+    let text = "";
+    for (let tried = 0; tried < tries; tried++) {
+      const answer2 = ask("listset_gen", [kind, threads, 4, calls, keys, number * TRIES + tried].join("\0"));
+      if (answer2.status !== 0)
+        throw new AddressFault(`the address names no run: ${answer2.text.trim()}`);
+      text = answer2.text;
+      const traced = ask("listset_trace", text).text;
+      if (!isTrace(traced))
+        throw new AddressFault(`the run of the address has no trace: ${traced.trim()}`);
+      if (isWorthIt(new Trace(traced)))
+        break;
+    }
+    return joined(text);
+  }
+  function isWorthIt({ calls, changes, total }) {
+    const puts = changes.some(({ put }) => put !== void 0) && changes.some(({ took }) => took !== void 0);
+    const isBeside = (one, other) => one.thread !== other.thread && one.begun < other.ended && other.begun < one.ended;
+    const beside = calls.filter((one) => calls.some((other) => isBeside(one, other)));
+    const isTold = beside.some(({ changes: own, operation, reply }) => !own && (operation === "contains" || reply === "false"));
+    return puts && isTold && total <= MOST_SEEN && calls.every(({ ended }) => ended !== null);
+  }
+  function joined(text) {
+    const lines = [];
+    for (const line of text.trimEnd().split("\n")) {
+      const [thread, steps] = /^go (\d+) (\d+)$/.exec(line)?.slice(1) ?? [];
+      const [before, count] = /^go (\d+) (\d+)$/.exec(lines.at(-1) ?? "")?.slice(1) ?? [];
+      if (thread !== void 0 && thread === before)
+        lines[lines.length - 1] = `go ${thread} ${Number(count) + Number(steps)}`;
+      else
+        lines.push(line);
+    }
+    return `${lines.join("\n")}
+`;
+  }
+  function anotherSeed(before, kind = null) {
+    const kinds = Object.keys(LISTS);
+    const list = kind ?? kinds[Math.floor(Math.random() * kinds.length)];
+    const number = 1 + Math.floor(Math.random() * 9999);
+    const seed = seedOf(list, number);
+    return seed === before ? seedOf(list, number % 9999 + 1) : seed;
+  }
+
+  // src/run/markup.js
+  var SIGNS = { "&": "&amp;", "<": "&lt;", ">": "&gt;", '"': "&quot;" };
+  var escaped = (text) => String(text).replace(/[&<>"]/g, (sign) => SIGNS[sign]);
+  function tag(name, attributes, ...content) {
+    const given2 = Object.entries(attributes).map(([attribute, value]) => ` ${attribute}="${escaped(value)}"`);
+    return `<${name}${given2.join("")}>${content.join("")}</${name}>`;
+  }
+  var listOptions = (chosen = "") => Object.entries(LISTS).map(([kind, { name }]) => tag("option", { value: kind, ...kind === chosen ? { selected: "" } : {} }, name)).join("");
+  var label = (attributes, text) => tag("text", attributes, escaped(text));
+  var title = (text) => tag("title", {}, escaped(text));
+  var colourOf = (thread) => `thread-${thread % 8}`;
+  var letterOf = (thread) => thread < 26 ? String.fromCharCode(65 + Number(thread)) : String(thread);
+  var chipOf = (thread) => tag("span", { class: `who ${colourOf(thread)}` }, letterOf(thread));
+  var holderOf = (lock) => letterOf(Number(lock.slice(1)));
+  var keyText = (key) => String(key).replace("-inf", "−∞").replace("+inf", "+∞");
+  var said = (value) => value.endsWith("*") ? `${value.slice(0, -1)}, marked` : keyText(value);
+  var counted = (count, word) => `${count} ${word}${count === 1 ? "" : "s"}`;
+  var callText = (call) => `${call.operation}(${call.key})`;
+  var openReply = "true";
+  function inLetters(text) {
+    const letters = (numbers) => numbers.replace(/\d+/g, (number) => letterOf(Number(number)));
+    const some = text.replace(/\b(?:the )?threads (\d+(?:, \d+)*(?:,? and \d+)?)/gi, (_, numbers) => letters(numbers));
+    return some.replace(/\bthread (\d+)/gi, (_, number) => letterOf(Number(number))).replace(/\bt(\d+)\b/g, (_, number) => letterOf(Number(number)));
   }
 
   // src/run/state.js
@@ -3388,12 +3606,6 @@ ${END}`) && text.startsWith(before.text.slice(0, -END.length));
       this.threads = Array.from({ length: trace.threads }, () => ({ ...AT_REST }));
       this.undo = [];
     }
-    // The state of a trace that goes on where this one's ends: what was made is not made again.
-    goOn(trace) {
-      this.trace = trace;
-      return this;
-    }
-    // Goes to the state after `count` events, on or back.
     moveTo(count) {
       if (count < this.count - this.undo.length)
         this.begin();
@@ -3405,7 +3617,6 @@ ${END}`) && text.startsWith(before.text.slice(0, -END.length));
           holder[name] = before;
       }
     }
-    // Makes an event; it can be gone back where it is kept.
     apply(event, isKept) {
       const done2 = [];
       const set = (holder, name, value) => {
@@ -3452,7 +3663,6 @@ ${END}`) && text.startsWith(before.text.slice(0, -END.length));
         add(node.lock, `${name}.lock`);
       return held2;
     }
-    // The nodes from the head to the tail, as the link words lead.
     chain() {
       const found = /* @__PURE__ */ new Set(["head"]);
       for (let name = "head"; name !== "tail"; ) {
@@ -3501,725 +3711,6 @@ ${END}`) && text.startsWith(before.text.slice(0, -END.length));
     return inside.map((name) => Number(state.nodes[name].key));
   }
 
-  // src/draw/labels.js
-  var LETTER = 7.1;
-  var BOLD = 8;
-  var BETWEEN = 8;
-  var ROW_HEIGHT = 15;
-  var widthOf = (text, reply = "") => LETTER * text.length + (reply === "" ? 0 : LETTER + BOLD * reply.length);
-  function placeLabels(items, { start, edge, mostRows }) {
-    const taken = Array.from({ length: mostRows }, () => start);
-    return items.map(({ left, right, wide }) => {
-      for (const x of [Math.min(left, edge - wide), Math.min(right, edge) - wide]) {
-        const row = taken.findIndex((end3) => x >= end3);
-        if (row === -1)
-          continue;
-        taken[row] = x + wide + BETWEEN;
-        return { x, row };
-      }
-      return null;
-    });
-  }
-  var SIGNS2 = {
-    add: (key) => `+${key}`,
-    remove: (key) => `−${key}`,
-    contains: (key) => `${key}?`,
-    ceiling: (key) => `⌈${key}⌉`
-  };
-  var SIGNS_IN_WORDS = "+5 add, −5 remove, 5? contains, ⌈5⌉ ceiling of 5; more by a click on a bar";
-  var signOf = ({ operation, key }) => SIGNS2[operation](key);
-  var labelWidth = (call) => widthOf(callText(call), call.reply ?? "");
-
-  // src/draw/history.js
-  var HISTORY_LEFT = 50;
-  var HISTORY_RIGHT = 16;
-  var LEAST_STEP = 7;
-  var BAR = 20;
-  var BELOW = 6;
-  function windowOf(total, count, room) {
-    const most = Math.max(30, Math.floor(room / LEAST_STEP));
-    if (total <= most)
-      return { first: 1, last: Math.max(total, 1) };
-    const third = Math.floor(most / 3);
-    const wanted = (Math.floor(Math.max(count - 1, 0) / third) - 1) * third + 1;
-    const first = Math.max(1, Math.min(total - most + 1, wanted));
-    return { first, last: first + most - 1 };
-  }
-  var shownIn = ({ calls }, first, last) => calls.filter(({ begun, ended }) => begun <= last && (ended === null || ended >= first));
-  function formOf(threads) {
-    if (threads > 12)
-      return { bar: 9, below: 1, mostRows: 1 };
-    if (threads > 6)
-      return { bar: 13, below: 4, mostRows: 1 };
-    return { bar: BAR, below: BELOW, mostRows: threads > 3 ? 2 : 3 };
-  }
-  function layLabels(trace, calls, spanOf, edge, mostRows) {
-    const places = /* @__PURE__ */ new Map();
-    for (let thread = 0; thread < trace.threads; thread++) {
-      const own = calls.filter((call) => call.thread === thread);
-      const items = own.map((call) => ({ ...spanOf(call), wide: labelWidth(call) }));
-      placeLabels(items, { start: HISTORY_LEFT - 6, edge, mostRows }).forEach((place, at) => places.set(own[at].id, place));
-    }
-    const found = [...places.values()].filter((place) => place !== null);
-    return { places, rows: Math.max(1, ...found.map(({ row }) => row + 1)), areWhole: found.length === places.size };
-  }
-  function scaleOf(trace, count, width, hides = false) {
-    const { first, last } = windowOf(trace.total, count, width - HISTORY_LEFT - HISTORY_RIGHT);
-    const isWhole = first === 1 && last >= trace.total;
-    const step = (width - HISTORY_LEFT - HISTORY_RIGHT) / (last - first + 1);
-    const edge = width - HISTORY_RIGHT;
-    const x = (moment) => HISTORY_LEFT + (moment - first + 0.5) * step;
-    const { bar, below, mostRows } = formOf(trace.threads);
-    const leftOf2 = ({ begun }) => begun < first ? HISTORY_LEFT - 6 : x(begun);
-    const rightOf2 = ({ ended }) => ended === null || ended > last ? edge : x(ended);
-    const spanOf = (call) => ({ left: leftOf2(call), right: rightOf2(call) });
-    const labels = layLabels(trace, shownIn(trace, first, last), spanOf, width, mostRows);
-    const above = ROW_HEIGHT * (isWhole ? labels.rows : mostRows);
-    const lane = above + bar + below;
-    return {
-      first,
-      last,
-      step,
-      lane,
-      bar,
-      width,
-      count,
-      now: hides ? count : Infinity,
-      // the last event of which something is told
-      edge,
-      height: 6 + trace.threads * lane + (isWhole && labels.areWhole ? 0 : ROW_HEIGHT),
-      x,
-      y: (thread) => 2 + thread * lane + above + bar / 2,
-      spanOf,
-      labels: labels.places,
-      areWhole: labels.areWhole
-    };
-  }
-  var isReached = (call, count) => call.at <= count && (call.changes || call.ended !== null && call.ended <= count);
-  function drawLane(scale, thread) {
-    const y = scale.y(thread);
-    const badge = tag("rect", { x: 2, y: y - 10, width: 38, height: 20, rx: 4 }) + label({ x: 21, y: y + 5 }, letterOf(thread));
-    return tag("line", { class: "lane", x1: HISTORY_LEFT - 6, x2: scale.edge, y1: y, y2: y }) + tag("g", { class: `badge ${colourOf(thread)}` }, badge);
-  }
-  function callInWords(call, now2) {
-    const isOpen = call.ended === null || call.ended > now2;
-    const events = isOpen && now2 < Infinity ? `from event ${call.begun} on` : `events ${call.begun} to ${call.ended ?? "the end"}`;
-    return `call ${call.id}: ${letterOf(call.thread)} ${callText(call)} ${isOpen ? "pending" : call.reply}, ${events}`;
-  }
-  function drawBar(call, scale) {
-    const { last, count, now: now2, bar } = scale;
-    const top = scale.y(call.thread) - bar / 2;
-    const { left, right: end3 } = scale.spanOf(call);
-    const isOpen = call.ended === null || call.ended > now2;
-    const right = isOpen && now2 <= last ? Math.min(end3, scale.x(now2)) : end3;
-    const state = `${call.begun <= count ? "begun" : "later"}${isOpen ? " open" : ""}`;
-    return tag(
-      "g",
-      { class: `bar ${state} ${colourOf(call.thread)}` },
-      title(callInWords(call, now2)),
-      tag("rect", { x: left, y: top, width: Math.max(right - left, 4), height: bar, rx: 4 }),
-      drawLabel(call, scale, left, top)
-    );
-  }
-  function drawLabel(call, scale, left, top) {
-    const place = scale.labels.get(call.id);
-    if (place === null)
-      return label({ class: "call", x: left, y: top - 4 }, signOf(call));
-    const isTold = call.reply !== null && call.ended <= scale.now;
-    const done2 = call.ended !== null && call.ended <= scale.count;
-    const reply = isTold ? tag("tspan", { class: done2 ? "reply" : "reply later" }, ` ${call.reply}`) : "";
-    return tag("text", { class: "call", x: place.x, y: top - 4 - ROW_HEIGHT * place.row }, callText(call), reply);
-  }
-  var isShown = (call, scale) => scale.now === Infinity || isReached(call, scale.now);
-  function drawPoint(call, scale) {
-    const x = scale.x(call.at);
-    const y = scale.y(call.thread);
-    const state = isReached(call, scale.count) ? "reached" : "later";
-    const how = call.changes ? "changes the set at" : "does not change the set; its reply is correct at";
-    return tag(
-      "g",
-      { class: `point ${state} ${colourOf(call.thread)}` },
-      title(`call ${call.id}, ${callText(call)}, ${how} event ${call.at}`),
-      tag("circle", { cx: x, cy: y, r: 6.5 }),
-      call.changes ? "" : tag("circle", { class: "hole", cx: x, cy: y, r: 3 })
-    );
-  }
-  function drawStem(call, scale) {
-    const x = scale.x(call.at);
-    const state = isReached(call, scale.count) ? "reached" : "later";
-    const stem = { x1: x, x2: x, y1: scale.y(call.thread), y2: scale.height };
-    return tag("g", { class: `stem ${state} ${colourOf(call.thread)}` }, tag("line", stem));
-  }
-  function drawCursor(scale, bottom, top = 0) {
-    if (scale.count < scale.first || scale.count > scale.last)
-      return "";
-    const x = scale.x(scale.count);
-    return tag("line", { class: "cursor", x1: x, x2: x, y1: top, y2: bottom });
-  }
-  function drawCalls(trace, scale) {
-    const { first, last, width, height } = scale;
-    const shown4 = shownIn(trace, first, Math.min(last, scale.now));
-    const placed2 = shown4.filter((call) => call.at !== null && call.at >= first && call.at <= last && isShown(call, scale));
-    const lanes = Array.from({ length: trace.threads }, (_, thread) => drawLane(scale, thread));
-    const bars = shown4.map((call) => drawBar(call, scale));
-    const points = placed2.map((call) => drawPoint(call, scale));
-    const stems = placed2.map((call) => drawStem(call, scale));
-    const begun = shown4.filter((call) => call.begun <= scale.count);
-    const words = begun.length === 0 ? "no call has begun" : begun.slice(-20).map((call) => callInWords(call, scale.now)).join("; ");
-    const frame = { width, height, viewBox: `0 0 ${width} ${height}`, role: "img", "aria-label": `the history of the calls: ${words}` };
-    const signs = scale.areWhole ? "" : label({ class: "note", x: 2, y: height - 4 }, SIGNS_IN_WORDS);
-    return tag("svg", frame, ...lanes, drawCursor(scale, height, scale.y(0) - scale.bar / 2 - 2), ...stems, ...bars, ...points, signs);
-  }
-
-  // src/draw/contents.js
-  var KEY_WIDTH = 8;
-  function drawContent(part2, scale) {
-    const left = part2.from <= scale.first ? HISTORY_LEFT - 6 : scale.x(part2.from);
-    const end3 = part2.to > scale.last ? scale.edge : scale.x(part2.to);
-    const isLast = scale.now < part2.to;
-    const shown4 = isLast && scale.now <= scale.last ? Math.max(left, scale.x(Math.max(scale.now, scale.first))) : end3;
-    const all = `{${part2.keys.join(", ")}}`;
-    const room = Math.floor(((isLast ? scale.edge : shown4) - left - 10) / KEY_WIDTH);
-    const text = all.length <= room ? all : room > 6 ? `${all.slice(0, room - 2)}…` : "";
-    const right = text === "" ? shown4 : Math.max(shown4, left + 10 + KEY_WIDTH * text.length);
-    const isNow = scale.count < part2.to && (scale.count >= part2.from || part2.from <= scale.first);
-    return tag(
-      "g",
-      { class: isNow ? "content now" : "content" },
-      title(all),
-      tag("rect", { x: left, y: 0, width: Math.max(right - left, 1), height: 24 }),
-      text === "" && isLast ? label({ x: scale.edge, y: 17, "text-anchor": "end", class: "over" }, all) : label({ x: left + 5, y: 17 }, text)
-    );
-  }
-  function drawWindow(scale, total, x) {
-    if (scale.first === 1 && scale.last >= total)
-      return "";
-    const place = x > scale.width / 2 ? { x: 4, "text-anchor": "start" } : { x: scale.edge, "text-anchor": "end" };
-    return label({ class: "note", y: 42, ...place }, `events ${scale.first} to ${scale.last} of ${total}`);
-  }
-  function nameOfContents({ lacks }) {
-    if (lacks === null)
-      return label({ class: "name", x: 6, y: 17 }, "set");
-    const lines = ["set as", "told"].map((words, line) => label({ class: "name", x: 2, y: 10 + 12 * line }, words));
-    return tag("g", {}, title(`${BY_POINTS}; the list may have other keys`), ...lines);
-  }
-  var BY_POINTS = "the set by the linearization points of the calls";
-  function drawContents(trace, scale) {
-    const told2 = contentsIn(trace, scale.first, scale.last).filter((part2) => part2.from <= Math.max(scale.now, scale.first));
-    const parts = told2.map((part2) => drawContent(part2, scale));
-    const now2 = told2.findLast((part2) => part2.from <= Math.max(scale.count, scale.first));
-    const x = Math.min(Math.max(scale.x(scale.count), HISTORY_LEFT + 12), scale.width - 44);
-    const number = scale.count > 0 ? label({ class: "number", x, y: 42 }, `event ${scale.count}`) : "";
-    const what = trace.lacks === null ? "the set" : BY_POINTS;
-    const words = `${what} after event ${scale.count}: {${now2.keys.slice(0, 40).join(", ")}}`;
-    const frame = { width: scale.width, height: 50, viewBox: `0 0 ${scale.width} 50`, role: "img", "aria-label": words };
-    return tag("svg", frame, nameOfContents(trace), ...parts, drawCursor(scale, 24), number, drawWindow(scale, trace.total, x));
-  }
-  function drawOrder(trace, count, hides = false) {
-    const reached = trace.order.filter((call) => isReached(call, count));
-    const order = hides ? reached : trace.order;
-    const total = order.length;
-    if (total === 0)
-      return hides ? "No call has taken effect yet." : "No call has taken effect.";
-    const first = Math.max(0, Math.min(reached.length - 8, total - 14));
-    const last = Math.min(total, first + 22);
-    const items = order.slice(first, last).map((call) => {
-      const isAnswered = call.ended !== null && (!hides || call.ended <= count);
-      const reply = isAnswered ? call.reply : openReply;
-      const state = isReached(call, count) ? "reached" : "later";
-      return `<li class="${state}">${chipOf(call.thread)} ${callText(call)} <b>${reply}</b></li>`;
-    });
-    const before = first > 0 ? `<li class="later">${first} before …</li>` : "";
-    const after = last < total ? `<li class="later">… ${total - last} more</li>` : "";
-    return `<ol>${before}${items.join("")}${after}</ol>`;
-  }
-
-  // src/draw/listing.js
-  function stepsAt(functions, row) {
-    return functions.flatMap((code) => code.steps.filter(({ rows }) => rows.includes(row)).map((step) => ({ code, ...step })));
-  }
-  function codeOf(kind, { operation }) {
-    const { rows } = LISTS[kind].calls[operation];
-    const file = CODE_OF[kind].find((name) => rows.every((row) => stepsAt(CODE[name], row).length > 0));
-    return file === void 0 ? null : { file, functions: CODE[file] };
-  }
-  function stepOf(functions, held2) {
-    let found = stepsAt(functions, held2.pc);
-    const came = stepsAt(functions, held2.came).map(({ code }) => code.name);
-    const tests = [
-      ({ begins = false }) => begins === (held2.came === 0),
-      ({ answers = false }) => answers === (held2.reply !== "none"),
-      ({ code }) => came.includes(code.name),
-      ({ code }) => code.calls.some(([, name]) => came.includes(name))
-    ];
-    for (const test of tests)
-      if (found.length > 1 && found.some(test))
-        found = found.filter(test);
-    return found[0];
-  }
-  function callersOf(functions, name) {
-    const calls = functions.flatMap((code) => code.calls.map(([line, called]) => ({ line, called, name: code.name })));
-    const direct = calls.filter(({ called }) => called === name);
-    return [...direct.map(({ line }) => line), ...direct.flatMap((caller) => callersOf(functions, caller.name))];
-  }
-  var rowText = (kind, number) => {
-    const { step, then, book } = LISTS[kind].rows[number];
-    return `row ${number}: ${escaped(step)} <span class="then">→ ${escaped(then)}</span> <small>${escaped(book)}</small>`;
-  };
-  function standingText(kind, threads) {
-    const rows = [...new Set(threads.map(({ held: held2 }) => held2.pc))];
-    const chips = (row) => threads.filter(({ held: held2 }) => held2.pc === row).map(({ thread }) => chipOf(thread)).join(" ");
-    return rows.map((row) => tag("p", {}, `${chips(row)} ${rowText(kind, row)}`)).join("");
-  }
-  function lineItem(number, text, isSaid, kind, threads) {
-    const here3 = threads.filter(({ step }) => step.line === number);
-    const inside = threads.filter(({ callers }) => callers.includes(number));
-    const shown4 = [tag("i", {}, number), tag("code", isSaid ? { class: "said-of-it" } : {}, escaped(text)), standingText(kind, here3)];
-    const isOfEvent = here3.some(({ isMoved }) => isMoved);
-    if (here3.length > 0)
-      return tag("li", { class: isOfEvent ? "here moved" : "here", "aria-current": "step" }, ...shown4);
-    return tag("li", inside.length > 0 ? { class: "inside" } : {}, ...shown4);
-  }
-  function functionOf(code, kind, threads) {
-    const lines = code.text.trimStart().split("\n");
-    const body = lines.indexOf("{");
-    const items = lines.map((text, index) => lineItem(code.first + index, text, index < body, kind, threads));
-    return tag("ol", { class: "code" }, ...items);
-  }
-  function fileOf(file, functions, kind, threads) {
-    const calls = threads.map(({ thread, held: held2 }) => `${chipOf(thread)} ${callText(held2.call)}`).join(" ");
-    return tag("section", {}, tag("h3", {}, `${calls} <small>${file}</small>`), ...functions.map((code) => functionOf(code, kind, threads)));
-  }
-  function rowsOf(kind, { thread, held: held2 }) {
-    const items = LISTS[kind].calls[held2.call.operation].rows.map((number) => {
-      const given2 = number === held2.pc ? { class: "here", "aria-current": "step" } : {};
-      return tag("li", given2, rowText(kind, number));
-    });
-    const head2 = tag("h3", {}, `${chipOf(thread)} ${callText(held2.call)} <small>by the interpreter, row by row</small>`);
-    return tag("section", {}, head2, tag("ol", { class: "rows" }, ...items));
-  }
-  function drawListing({ trace, state, event }) {
-    const { kind } = trace;
-    const open = state.threads.map((held2, thread) => ({ held: held2, thread })).filter(({ held: held2 }) => held2.pc !== 0);
-    if (open.length === 0)
-      return tag("p", { class: "note" }, "No call is open.");
-    const byFile = /* @__PURE__ */ new Map();
-    for (const one of open) {
-      const file = codeOf(kind, one.held.call)?.file;
-      byFile.set(file, [...byFile.get(file) ?? [], one]);
-    }
-    const byRows = (byFile.get(void 0) ?? []).map((one) => rowsOf(kind, one));
-    byFile.delete(void 0);
-    const parts = [...byFile].map(([file, threads]) => {
-      const standing = threads.map(({ held: held2, thread }) => {
-        const step = stepOf(CODE[file], held2);
-        return { held: held2, thread, step, callers: callersOf(CODE[file], step.code.name), isMoved: thread === event?.thread };
-      });
-      return fileOf(file, CODE[file], kind, standing);
-    });
-    return tag("div", { class: "listings" }, ...parts, ...byRows);
-  }
-
-  // src/draw/table.js
-  function drawTable({ trace, state, event, before }) {
-    const made2 = event === null || event.deed === "begin" ? null : before.pc;
-    const at = /* @__PURE__ */ new Map();
-    state.threads.forEach((held2, thread) => at.set(held2.pc, [...at.get(held2.pc) ?? [], thread]));
-    const lines = Object.entries(LISTS[trace.kind].rows).map(([number, row]) => {
-      const here3 = (at.get(Number(number)) ?? []).map(chipOf).join(" ");
-      const by = made2 === Number(number) ? ` <small>made by</small> ${chipOf(event.thread)}` : "";
-      const cells = [here3, `<b>${number}</b>${by}`, escaped(row.step), escaped(row.then), `<small>${escaped(row.book)}</small>`];
-      return tag("tr", by === "" ? {} : { class: "moved" }, ...cells.map((text) => tag("td", {}, text)));
-    });
-    const heads = ["next", "row", "step", "then", "in the book"].map((text) => tag("th", { scope: "col" }, text));
-    return tag("table", {}, tag("thead", {}, tag("tr", {}, ...heads)), tag("tbody", {}, ...lines));
-  }
-
-  // src/draw/threads.js
-  var MOST_ROWS = 8;
-  function threadsShown(state, event, all) {
-    const every = state.threads.map((_, thread) => thread);
-    if (all || every.length <= MOST_ROWS)
-      return every;
-    return every.filter((thread) => state.threads[thread].pc !== 0 || thread === event?.thread);
-  }
-  function callCell(held2, moved, event, hidesReplies) {
-    if (held2.pc !== 0)
-      return callText(held2.call);
-    if (moved && event.answer !== void 0)
-      return `${callText(held2.call)} <b>${hidesReplies ? "…" : event.answer}</b>`;
-    return '<span class="pale">idle</span>';
-  }
-  function rowCell(held2, kind) {
-    if (held2.pc === 0)
-      return "";
-    const row = LISTS[kind].rows[held2.pc];
-    return `<b>${held2.pc}</b> ${row ? `${row.step} <small>${row.book}</small>` : ""}`;
-  }
-  var hasRegister = (kind, call, name) => LISTS[kind].calls[call.operation].registers.includes(name);
-  function registerCell(held2, name, moved, event, kind) {
-    if (held2.pc === 0 || !hasRegister(kind, held2.call, name))
-      return "";
-    const value = keyText(held2[name]);
-    if (moved && event.changes[name] !== void 0)
-      return `<b class="new">${value}</b>`;
-    return held2[name] === "head" || held2[name] === "-inf" ? `<span class="pale">${value}</span>` : value;
-  }
-  function threadRow(state, thread, event, hidesReplies) {
-    const { kind, quota } = state.trace;
-    const held2 = state.threads[thread];
-    const moved = event?.thread === thread;
-    const cells = [
-      tag("td", {}, callCell(held2, moved, event, hidesReplies)),
-      tag("td", { class: "next" }, rowCell(held2, kind)),
-      ...LISTS[kind].registers.map((name) => tag("td", {}, registerCell(held2, name, moved, event, kind))),
-      tag("td", {}, held2.pc !== 0 && held2.reply !== "none" && !hidesReplies ? held2.reply : ""),
-      tag("td", {}, `${held2.used} of ${quota}`)
-    ];
-    return tag("tr", moved ? { class: "moved" } : {}, tag("th", { scope: "row" }, chipOf(thread)), ...cells);
-  }
-  function drawThreads(state, event, all, hidesReplies = false) {
-    const { registers: registers2 } = LISTS[state.trace.kind];
-    const heads = ["thread", "call", "next row of the step table", ...registers2, "reply", "slots used"];
-    const rows = threadsShown(state, event, all).map((thread) => threadRow(state, thread, event, hidesReplies));
-    if (rows.length === 0)
-      rows.push(`<tr><td colspan="${heads.length}" class="pale">every thread is idle</td></tr>`);
-    const head2 = tag("tr", {}, ...heads.map((text) => tag("th", { scope: "col" }, text)));
-    return tag("table", {}, tag("thead", {}, head2), tag("tbody", {}, ...rows));
-  }
-
-  // src/page/dom.js
-  var byId = (id) => document.getElementById(id);
-  function redraw(box, html14) {
-    const before = box.contains(document.activeElement) ? document.activeElement : null;
-    const keyOf = (part2) => JSON.stringify({ ...part2.dataset, name: part2.tagName });
-    const key = before === null ? "" : keyOf(before);
-    if (typeof html14 === "string")
-      box.innerHTML = html14;
-    else
-      box.replaceChildren(...html14);
-    if (before === null)
-      return;
-    const same = [...box.querySelectorAll("button, select, input, a, [tabindex]")].find((part2) => keyOf(part2) === key);
-    (same ?? box.querySelector("button, a") ?? box).focus();
-  }
-  var setAble = (id, isAble) => byId(id).setAttribute("aria-disabled", String(!isAble));
-  function setHidden(part2, isHidden, other) {
-    if (part2.hidden === isHidden)
-      return;
-    if (isHidden && part2.contains(document.activeElement))
-      other.focus();
-    part2.hidden = isHidden;
-  }
-  function setHtml(box, html14) {
-    if (texts.get(box) === html14)
-      return false;
-    texts.set(box, html14);
-    box.innerHTML = html14;
-    return true;
-  }
-  var texts = /* @__PURE__ */ new WeakMap();
-
-  // src/engine/answers.js
-  var linesIn = (text) => text.trimEnd().split("\n");
-  function callOfReport(line) {
-    const [, id, thread, operation, key, begun, ended, reply = null] = line.split(" ");
-    const end3 = ended === "open" ? null : Number(ended);
-    return { id: Number(id), thread: Number(thread), operation, key: Number(key), begun: Number(begun), ended: end3, reply };
-  }
-  function callOfRecording(line) {
-    const [, thread, operation, key, begun, ended, reply] = line.split(" ");
-    const isOpen = ended === "-";
-    const moments = { begun: BigInt(begun), ended: isOpen ? null : BigInt(ended) };
-    return { thread: Number(thread), operation, key: Number(key), ...moments, reply: isOpen ? null : reply };
-  }
-  function readReport(text) {
-    const lines = linesIn(text);
-    const linesOf2 = (word) => lines.filter((line) => line.startsWith(`${word} `));
-    const valuesOf = (word) => linesOf2(word).map((line) => line.split(" ").slice(1));
-    return {
-      head: [...lines.slice(0, 4), ...linesOf2("opening")],
-      threads: Number(lines[2].split(" ")[1]),
-      opening: valuesOf("opening").map(([key]) => Number(key)),
-      calls: linesOf2("call").map(callOfReport),
-      callLines: linesOf2("call"),
-      places: valuesOf("place").map(([call, reply]) => ({ call: Number(call), reply })),
-      keys: valuesOf("key").map(([key]) => Number(key)),
-      keyLines: linesOf2("key")
-    };
-  }
-  function callsOfRecording(text, most) {
-    const calls = [];
-    for (const [line] of text.matchAll(/^call .*$/gm)) {
-      if (calls.length === most)
-        break;
-      calls.push(callOfRecording(line));
-    }
-    return calls;
-  }
-  var leavesKey = (text, key) => new RegExp(`^key ${key}$`, "m").test(text);
-  var readExamples = (text) => linesIn(text).map((line) => {
-    const [name, kind] = line.split(/ +/);
-    return { name, kind };
-  });
-  function readFault(text) {
-    const says = text.trim();
-    const [, line = null, cause = null] = /^listset: line (\d+): (\w+)$/.exec(says) ?? [];
-    return { line: line === null ? null : Number(line), cause, says };
-  }
-  function readVerdict({ text }) {
-    const lines = linesIn(text);
-    const find = (word) => lines.find((line) => line.startsWith(`${word} `)) ?? null;
-    const valuesOf = (word) => find(word)?.split(" ").slice(1) ?? [];
-    const [kind = "fault"] = valuesOf("verdict");
-    if (kind === "fault")
-      return { kind, fault: readFault(text), order: null, why: null };
-    const [[count], [cut], [key = null], [moment = null]] = ["calls", "cut", "key", "moment"].map(valuesOf);
-    const [[since = null, there], [hidden, first, last]] = ["since", "hidden"].map(valuesOf);
-    const by = find("by")?.slice("by ".length);
-    const why = {
-      key: key === null ? null : Number(key),
-      moment,
-      // up to which the calls have no order; null: the key is left otherwise
-      since,
-      // from which moment on they have none; 0: from the beginning; null: not known
-      isThere: there === "true",
-      by: by === void 0 ? null : callOfRecording(by),
-      calls: lines.filter((line) => line.startsWith("call ")).map(callOfRecording),
-      hidden: hidden === void 0 ? null : { count: Number(hidden), first, last }
-    };
-    const ofCalls = { count: Number(count), overlapped: Number(valuesOf("overlapped")[0]), isCutOff: cut === "true" };
-    return { kind, ...ofCalls, order: orderIn(valuesOf("order"), valuesOf("set")), why: kind === "none" ? why : null };
-  }
-  var FAULT_VALUES = {
-    HistoryReply: ["call", "reply"],
-    SetReply: ["call", "reply", "place", "answer"],
-    TooEarly: ["call", "begun", "other", "ended"],
-    WrongSet: []
-  };
-  function orderIn([fault, ...values], keys) {
-    if (fault === void 0)
-      return null;
-    return { fault, set: `{${keys.join(", ")}}`, ...Object.fromEntries((FAULT_VALUES[fault] ?? ["call"]).map((name, at) => [name, values[at]])) };
-  }
-
-  // src/run/faults.js
-  function sentenceOn(ask, cause, ...kinds) {
-    if (!cause)
-      return null;
-    const told2 = ask("listset_faults").text;
-    const parts = kinds.map((kind) => told2.split(`, in ${kind};`)[1]?.split("\n\n")[0] ?? "");
-    const [, said2] = new RegExp(`^  ${cause} +((?:.|
- {12})+)`, "m").exec(parts.join("\n")) ?? [];
-    return said2 === void 0 ? null : said2[0].toLowerCase() + said2.slice(1).replace(/\n +/g, " ").replace(/\.( .*)?$/, "");
-  }
-
-  // src/run/judged.js
-  var MOST_JUDGED = 60;
-  var LEVELS = {
-    points: { name: "points alone", task: "The replies are shown. Where does each call take effect?", hidden: ["change", "effect"] },
-    replies: {
-      name: "replies and points",
-      task: "What does each call answer, and where does it take effect?",
-      hidden: ["change", "reply", "leftInChain", "effect"]
-    },
-    claim: {
-      name: "any order at all?",
-      task: "Can a set give these replies? Give an order that explains the report, or say that there is none.",
-      hidden: []
-    }
-  };
-  function exerciseOf(text, level, isWhole = true) {
-    const report = readReport(text);
-    const last = Math.max(1, ...report.calls.flatMap((call) => [call.begun, call.ended ?? 0]));
-    return { ...report, level, isWhole, reportText: text, last };
-  }
-  var nameOfCall = (call) => `${callText(call)} of ${letterOf(call.thread)}`;
-  var lastMoment = (exercise, call) => call.ended ?? exercise.last;
-  function repliesOf(exercise, { operation }) {
-    if (operation === "add")
-      return ["true", "false", "full"];
-    if (operation !== "ceiling")
-      return ["true", "false"];
-    const added = exercise.calls.filter((call) => call.operation === "add").map(({ key }) => key);
-    const keys = [.../* @__PURE__ */ new Set([...exercise.opening, ...added])].sort((one, other) => one - other);
-    return ["nothing", ...keys.map((key) => `at-${key}`)];
-  }
-  var OwnAnswer = class {
-    constructor(exercise) {
-      this.exercise = exercise;
-      this.points = /* @__PURE__ */ new Map();
-      this.replies = /* @__PURE__ */ new Map();
-      this.turn = 0;
-      this.isNone = false;
-    }
-    // Puts a call at a moment of its bar, to the nearest half.
-    place(call, at) {
-      const within2 = Math.min(Math.max(Math.round(2 * at) / 2, call.begun), lastMoment(this.exercise, call));
-      if (this.points.get(call.id)?.at !== within2)
-        this.points.set(call.id, { at: within2, turn: this.turn++ });
-    }
-    take(call) {
-      this.points.delete(call.id);
-    }
-    say(call, reply) {
-      this.replies.set(call.id, reply);
-    }
-    // The reply of a call in the order: that of the run, where the level shows it, else what the reader says; an open call has none
-    // in the run, and stands in an order where it has changed the set.
-    replyOf(call) {
-      if (call.ended === null)
-        return openReply;
-      return this.exercise.level === "replies" ? this.replies.get(call.id) ?? null : call.reply;
-    }
-    order() {
-      const calls = this.exercise.calls.filter(({ id }) => this.points.has(id));
-      const placed2 = calls.map((call) => ({ call, ...this.points.get(call.id) }));
-      placed2.sort((one, other) => one.at - other.at || one.turn - other.turn);
-      return placed2.map(({ call, at }) => ({ call, at, reply: this.replyOf(call) }));
-    }
-    // What is still to be said, in words: of each call its point, its reply, or both.
-    unsaid() {
-      const lackOf = (call) => [this.points.has(call.id) ? "" : "point", this.replyOf(call) === null ? "reply" : ""].filter((it) => it !== "");
-      const lacking = this.exercise.calls.filter((call) => call.ended !== null && lackOf(call).length > 0);
-      return lacking.map((call) => `the ${lackOf(call).join(" and the ")} of ${nameOfCall(call)}`);
-    }
-  };
-  function reportOfAnswer(answer2) {
-    const { head: head2, callLines, keyLines } = answer2.exercise;
-    const places = answer2.order().map(({ call, reply }) => `place ${call.id} ${reply}`);
-    return [...head2, ...callLines, ...places, ...keyLines, "end", ""].join("\n");
-  }
-  function verdictOn(ask, answer2) {
-    const unsaid = answer2.unsaid();
-    if (answer2.isNone)
-      return verdictOnClaim(ask, answer2.exercise);
-    const nothing2 = { isRight: null, clash: null, report: null };
-    if (unsaid.length > 0)
-      return { ...nothing2, says: `Still missing: ${unsaid.join(", ")}.` };
-    const report = reportOfAnswer(answer2);
-    const { kind, fault, order } = readVerdict(ask("listset_check_record", report));
-    if (kind === "fault")
-      return { ...nothing2, says: `This order is not judged: ${fault.says}.` };
-    if (order === null)
-      return { isRight: true, clash: null, report, says: rightInWords(answer2) };
-    const clash = order.call === void 0 ? null : Number(order.call);
-    return { isRight: false, clash, report, says: faultInWords(answer2, order) };
-  }
-  function verdictOnClaim(ask, { isWhole, reportText }) {
-    const said2 = (isRight, says) => ({ isRight, clash: null, report: null, says });
-    const there = "There is one: this is a run of a correct list, and each of those has an order (proved). Find it.";
-    if (isWhole)
-      return said2(false, there);
-    const { kind, fault } = readVerdict(ask("listset_check_record", reportText));
-    if (kind === "fault")
-      return said2(null, `Whether there is none is not judged: ${fault.says}.`);
-    if (kind === "none")
-      return said2(true, "Right: no order explains this report (proved). It comes from a broken list.");
-    if (kind === "unknown")
-      return said2(null, "This report comes from a broken list, and whether an order explains it is not known.");
-    return said2(false, "There is one, although this report comes from a broken list. Find it.");
-  }
-  function rightInWords(answer2) {
-    if (!answer2.exercise.isWhole)
-      return "check says ok: this order explains the report, so this schedule does not break the list.";
-    const own = answer2.order().map(({ call, reply }) => `${call.id}-${reply}`);
-    const isSame = own.join() === answer2.exercise.places.map(({ call, reply }) => `${call}-${reply}`).join();
-    const also = isSame ? "It is also the order of the replayer." : "The replayer has another one: both explain the run.";
-    return `check says ok: this order explains the run. ${also}`;
-  }
-  function faultInWords(answer2, { fault, call, place, reply, set, answer: due, begun, other, ended }) {
-    const named = (id) => nameOfCall(answer2.exercise.calls[Number(id)]);
-    if (fault === "SetReply") {
-      const before = Number(place) === 1 ? "before your first call" : `after ${named(answer2.order()[Number(place) - 2].call.id)} in your order`;
-      return `${named(call)} cannot answer ${reply} there: ${before} the set is ${set}, and it would answer ${due}.`;
-    }
-    if (fault === "HistoryReply")
-      return `${named(call)} does not answer ${reply} in this run. Look at what it sees before it answers.`;
-    if (fault === "TooEarly") {
-      return `${named(call)} begins at event ${begun}, and in your order it comes before ${named(other)}, which ended at event ${ended}.`;
-    }
-    if (fault === "WrongSet")
-      return `Your order leaves the set ${set}; at the end of this run it is {${answer2.exercise.keys.join(", ")}}.`;
-    return `This is no order of the calls of this run (${fault}).`;
-  }
-  var wordOfAnswer = (answer2) => answer2.isNone ? "none" : answer2.order().map(({ call, reply }) => `${call.id}-${reply}`).join();
-  function answerOfWord(exercise, word) {
-    const answer2 = new OwnAnswer(exercise);
-    if (word === "none")
-      return Object.assign(answer2, { isNone: true });
-    let at = 0;
-    for (const piece3 of word.split(",")) {
-      const [, id, reply] = /^(\d{1,5})-([a-z0-9-]+)$/.exec(piece3) ?? [];
-      const call = exercise.calls[id];
-      if (call === void 0 || answer2.points.has(call.id))
-        return null;
-      at = Math.max(at, call.begun);
-      answer2.points.set(call.id, { at, turn: answer2.turn++ });
-      answer2.say(call, reply);
-    }
-    return answer2;
-  }
-
-  // src/run/schedule_text.js
-  var MOST_STEPS = 1e4;
-  var titleOf = (version) => `listset-schedule ${version}`;
-  var versionOf = (schedule) => schedule.startsWith(`${titleOf(2)}
-`) ? 2 : 1;
-  function scheduleLines(trace, count) {
-    const lines = [titleOf(trace.version), `list ${trace.kind}`, `threads ${trace.threads}`, `quota ${trace.quota}`];
-    for (const key of trace.opening)
-      lines.push(`opening ${key}`);
-    let [steps, before] = [0, null];
-    for (let number = 1; number <= count; number++) {
-      const event = trace.event(number);
-      const goesOn2 = before === event.line;
-      steps = goesOn2 ? steps + 1 : 1;
-      if (event.deed === "begin")
-        lines.push(`begin ${event.thread} ${event.call.operation} ${event.call.key}`);
-      else if (goesOn2)
-        lines[lines.length - 1] = `go ${event.thread} ${steps}`;
-      else
-        lines.push(`go ${event.thread} ${steps}`);
-      before = event.line;
-    }
-    return lines;
-  }
-  var scheduleOfTrace = (trace, count = trace.total) => [...scheduleLines(trace, count), ""].join("\n");
-  function scheduleAndLine(trace, count, line, text = null) {
-    const isWhole = text !== null && count === trace.total && trace.refused === null;
-    const lines = isWhole ? text.trimEnd().split("\n") : scheduleLines(trace, count);
-    const last = lines[lines.length - 1].split(" ");
-    const added = line.split(" ");
-    const isPlain = last[0] === "go" && added[0] === "go" && last[1] === added[1] && Number(added[2]) > 0;
-    const joins = isPlain && Number(last[2]) + Number(added[2]) <= MOST_STEPS;
-    if (added[2] === "ceiling")
-      lines[0] = titleOf(2);
-    if (joins)
-      lines[lines.length - 1] = `go ${last[1]} ${Number(last[2]) + Number(added[2])}`;
-    else
-      lines.push(line);
-    return lines.join("\n") + "\n";
-  }
-  function openingIn(schedule) {
-    const lines = schedule.split("\n").slice(HEADER_LINES);
-    const count = lines.findIndex((line) => !line.startsWith("opening "));
-    return lines.slice(0, count === -1 ? lines.length : count).map((line) => line.slice("opening ".length));
-  }
-  function withOpening(schedule, keys) {
-    const lines = schedule.split("\n");
-    lines.splice(HEADER_LINES, openingIn(schedule).length, ...keys.map((key) => `opening ${key}`));
-    if (keys.length > 0 && lines[0] === titleOf(1))
-      lines[0] = titleOf(2);
-    return lines.join("\n");
-  }
-  function eventsAsked(text) {
-    let count = 0;
-    for (const [, steps] of text.matchAll(/^(?:begin |go \d+ (\d+)$)/gm))
-      count += Number(steps ?? 1);
-    return count;
-  }
-
   // src/run/outcomes.js
   var isLock = (word) => word.endsWith(".lock");
   var mono = (text) => `<b class="mono">${text}</b>`;
@@ -4248,8 +3739,7 @@ ${END}`) && text.startsWith(before.text.slice(0, -END.length));
   }
   var hasInChain = (state, key) => keysInChain(state).includes(Number(key));
   var OUTCOMES = {
-    // In a broken list, a node may be inserted behind one that is not in the chain, and a key that is removed may stay in it; and a call
-    // may add a key that is there already, or remove one that is not.
+    // In a broken list a node may be inserted behind one that is out of the chain, a removed key may stay, a key come in twice.
     change({ trace, state, event, held: held2, hadKey }) {
       const { put, took } = event;
       const had = trace.lacks !== null && hadKey;
@@ -4273,7 +3763,6 @@ ${END}`) && text.startsWith(before.text.slice(0, -END.length));
       const owner = ownerIn(event.word);
       return state.chain().includes(owner) ? `${owner} is still in the chain.` : `${owner} is not in the chain any more.`;
     },
-    // A link that went to a node goes past it.
     unlink(moment) {
       const { state, event, before, wasInChain } = moment;
       const gone = before.curr;
@@ -4283,7 +3772,6 @@ ${END}`) && text.startsWith(before.text.slice(0, -END.length));
         return "";
       return `<b>This unlinks ${wholeName(moment, gone)}.`;
     },
-    // The last exchange of a remove, which answers whatever it sees.
     leftInChain({ state, event, before }) {
       if (!isFailed(event) || event.answer === void 0)
         return "";
@@ -4463,6 +3951,641 @@ ${END}`) && text.startsWith(before.text.slice(0, -END.length));
     return parts.filter((text) => text !== "").join(" ");
   }
 
+  // src/draw/history.js
+  var HISTORY_LEFT = 50;
+  var HISTORY_RIGHT = 16;
+  var LEAST_STEP = 7;
+  var BAR = 20;
+  var BELOW = 6;
+  function windowOf(total, count, room) {
+    const most = Math.max(30, Math.floor(room / LEAST_STEP));
+    if (total <= most)
+      return { first: 1, last: Math.max(total, 1) };
+    const third = Math.floor(most / 3);
+    const wanted = (Math.floor(Math.max(count - 1, 0) / third) - 1) * third + 1;
+    const first = Math.max(1, Math.min(total - most + 1, wanted));
+    return { first, last: first + most - 1 };
+  }
+  var shownIn = ({ calls }, first, last) => calls.filter(({ begun, ended }) => begun <= last && (ended === null || ended >= first));
+  function formOf(threads) {
+    if (threads > 12)
+      return { bar: 9, below: 1, mostRows: 1 };
+    if (threads > 6)
+      return { bar: 13, below: 4, mostRows: 1 };
+    return { bar: BAR, below: BELOW, mostRows: threads > 3 ? 2 : 3 };
+  }
+  function layLabels(threads, calls, itemOf3, room) {
+    const places = /* @__PURE__ */ new Map();
+    for (let thread = 0; thread < threads; thread++) {
+      const own = calls.filter((call) => call.thread === thread);
+      placeLabels(own.map(itemOf3), room).forEach((place, at) => places.set(own[at].id, place));
+    }
+    const found = [...places.values()].filter((place) => place !== null);
+    return { places, rows: Math.max(1, ...found.map(({ row }) => row + 1)), areWhole: found.length === places.size };
+  }
+  function scaleOf(trace, count, width, hides = false) {
+    const { first, last } = windowOf(trace.total, count, width - HISTORY_LEFT - HISTORY_RIGHT);
+    const isWhole = first === 1 && last >= trace.total;
+    const step = (width - HISTORY_LEFT - HISTORY_RIGHT) / (last - first + 1);
+    const edge = width - HISTORY_RIGHT;
+    const x = (moment) => HISTORY_LEFT + (moment - first + 0.5) * step;
+    const { bar, below, mostRows } = formOf(trace.threads);
+    const leftOf2 = ({ begun }) => begun < first ? HISTORY_LEFT - 6 : x(begun);
+    const rightOf2 = ({ ended }) => ended === null || ended > last ? edge : x(ended);
+    const spanOf = (call) => ({ left: leftOf2(call), right: rightOf2(call) });
+    const itemOf3 = (call) => ({ ...spanOf(call), wide: widthOf(callText(call), call.reply ?? "") });
+    const labels = layLabels(trace.threads, shownIn(trace, first, last), itemOf3, { start: HISTORY_LEFT - 6, edge: width, mostRows });
+    const above = ROW_HEIGHT * (isWhole ? labels.rows : mostRows);
+    const lane = above + bar + below;
+    const now2 = hides ? count : Infinity;
+    const height = 6 + trace.threads * lane + (isWhole && labels.areWhole ? 0 : ROW_HEIGHT);
+    const y = (thread) => 2 + thread * lane + above + bar / 2;
+    const { places, areWhole } = labels;
+    return { first, last, step, lane, bar, width, count, now: now2, edge, height, x, y, spanOf, labels: places, areWhole };
+  }
+  var isReached = (call, count) => call.at <= count && (call.changes || call.ended !== null && call.ended <= count);
+  function drawLane(scale, thread, place = thread) {
+    const y = scale.y(place);
+    const badge = tag("rect", { x: 2, y: y - 10, width: 38, height: 20, rx: 4 }) + label({ x: 21, y: y + 5 }, letterOf(thread));
+    return tag("line", { class: "lane", x1: HISTORY_LEFT - 6, x2: scale.edge, y1: y, y2: y }) + tag("g", { class: `badge ${colourOf(thread)}` }, badge);
+  }
+  function callInWords(call, now2) {
+    const isOpen = call.ended === null || call.ended > now2;
+    const events = isOpen && now2 < Infinity ? `from event ${call.begun} on` : `events ${call.begun} to ${call.ended ?? "the end"}`;
+    return `call ${call.id}: ${letterOf(call.thread)} ${callText(call)} ${isOpen ? "pending" : call.reply}, ${events}`;
+  }
+  function drawBar(call, scale) {
+    const { last, count, now: now2, bar } = scale;
+    const top = scale.y(call.thread) - bar / 2;
+    const { left, right: end2 } = scale.spanOf(call);
+    const isOpen = call.ended === null || call.ended > now2;
+    const right = isOpen && now2 <= last ? Math.min(end2, scale.x(now2)) : end2;
+    const state = `${call.begun <= count ? "begun" : "later"}${isOpen ? " open" : ""}`;
+    return tag(
+      "g",
+      { class: `bar ${state} ${colourOf(call.thread)}` },
+      title(callInWords(call, now2)),
+      tag("rect", { x: left, y: top, width: Math.max(right - left, 4), height: bar, rx: 4 }),
+      drawLabel(call, scale, left, top)
+    );
+  }
+  function drawLabel(call, scale, left, top) {
+    const place = scale.labels.get(call.id);
+    if (place === null)
+      return label({ class: "call", x: left, y: top - 4 }, signOf(call));
+    const isTold = call.reply !== null && call.ended <= scale.now;
+    const done2 = call.ended !== null && call.ended <= scale.count;
+    const reply = isTold ? tag("tspan", { class: done2 ? "reply" : "reply later" }, ` ${call.reply}`) : "";
+    return tag("text", { class: "call", x: place.x, y: top - 4 - ROW_HEIGHT * place.row }, callText(call), reply);
+  }
+  var isShown = (call, scale) => scale.now === Infinity || isReached(call, scale.now);
+  function drawPoint(call, scale) {
+    const x = scale.x(call.at);
+    const y = scale.y(call.thread);
+    const state = isReached(call, scale.count) ? "reached" : "later";
+    const how = call.changes ? "changes the set at" : "does not change the set; its reply is correct at";
+    return tag(
+      "g",
+      { class: `point ${state} ${colourOf(call.thread)}` },
+      title(`call ${call.id}, ${callText(call)}, ${how} event ${call.at}`),
+      tag("circle", { cx: x, cy: y, r: 6.5 }),
+      call.changes ? "" : tag("circle", { class: "hole", cx: x, cy: y, r: 3 })
+    );
+  }
+  function drawStem(call, scale) {
+    const x = scale.x(call.at);
+    const state = isReached(call, scale.count) ? "reached" : "later";
+    const stem = { x1: x, x2: x, y1: scale.y(call.thread), y2: scale.height };
+    return tag("g", { class: `stem ${state} ${colourOf(call.thread)}` }, tag("line", stem));
+  }
+  function drawCursor(scale, bottom, top = 0) {
+    if (scale.count < scale.first || scale.count > scale.last)
+      return "";
+    const x = scale.x(scale.count);
+    return tag("line", { class: "cursor", x1: x, x2: x, y1: top, y2: bottom });
+  }
+  function drawCalls(trace, scale) {
+    const { first, last, width, height } = scale;
+    const shown4 = shownIn(trace, first, Math.min(last, scale.now));
+    const placed2 = shown4.filter((call) => call.at !== null && call.at >= first && call.at <= last && isShown(call, scale));
+    const lanes = Array.from({ length: trace.threads }, (_, thread) => drawLane(scale, thread));
+    const bars = shown4.map((call) => drawBar(call, scale));
+    const points = placed2.map((call) => drawPoint(call, scale));
+    const stems = placed2.map((call) => drawStem(call, scale));
+    const begun = shown4.filter((call) => call.begun <= scale.count);
+    const words = begun.length === 0 ? "no call has begun" : begun.slice(-20).map((call) => callInWords(call, scale.now)).join("; ");
+    const frame = { width, height, viewBox: `0 0 ${width} ${height}`, role: "img", "aria-label": `the history of the calls: ${words}` };
+    const signs = scale.areWhole ? "" : label({ class: "note", x: 2, y: height - 4 }, SIGNS_IN_WORDS);
+    return tag("svg", frame, ...lanes, drawCursor(scale, height, scale.y(0) - scale.bar / 2 - 2), ...stems, ...bars, ...points, signs);
+  }
+  var LETTER = 7.1;
+  var BOLD = 8;
+  var BETWEEN = 8;
+  var ROW_HEIGHT = 15;
+  var widthOf = (text, reply = "") => LETTER * text.length + (reply === "" ? 0 : LETTER + BOLD * reply.length);
+  function placeLabels(items, { start, edge, mostRows }) {
+    const taken = Array.from({ length: mostRows }, () => start);
+    return items.map(({ left, right, wide }) => {
+      for (const x of [Math.min(left, edge - wide), Math.min(right, edge) - wide]) {
+        const row = taken.findIndex((end2) => x >= end2);
+        if (row === -1)
+          continue;
+        taken[row] = x + wide + BETWEEN;
+        return { x, row };
+      }
+      return null;
+    });
+  }
+  var SIGNS2 = {
+    add: (key) => `+${key}`,
+    remove: (key) => `−${key}`,
+    contains: (key) => `${key}?`,
+    ceiling: (key) => `⌈${key}⌉`
+  };
+  var SIGNS_IN_WORDS = "+5 add, −5 remove, 5? contains, ⌈5⌉ ceiling of 5; more by a click on a bar";
+  var signOf = ({ operation, key }) => SIGNS2[operation](key);
+
+  // src/draw/tables.js
+  var MOST_ROWS = 8;
+  function threadsShown(state, event, all) {
+    const every = state.threads.map((_, thread) => thread);
+    if (all || every.length <= MOST_ROWS)
+      return every;
+    return every.filter((thread) => state.threads[thread].pc !== 0 || thread === event?.thread);
+  }
+  function callCell(held2, moved, event, hidesReplies) {
+    if (held2.pc !== 0)
+      return callText(held2.call);
+    if (moved && event.answer !== void 0)
+      return `${callText(held2.call)} <b>${hidesReplies ? "…" : event.answer}</b>`;
+    return '<span class="pale">idle</span>';
+  }
+  function rowCell(held2, kind) {
+    if (held2.pc === 0)
+      return "";
+    const row = LISTS[kind].rows[held2.pc];
+    return `<b>${held2.pc}</b> ${row ? `${row.step} <small>${row.book}</small>` : ""}`;
+  }
+  var hasRegister = (kind, call, name) => LISTS[kind].calls[call.operation].registers.includes(name);
+  function registerCell(held2, name, moved, event, kind) {
+    if (held2.pc === 0 || !hasRegister(kind, held2.call, name))
+      return "";
+    const value = keyText(held2[name]);
+    if (moved && event.changes[name] !== void 0)
+      return `<b class="new">${value}</b>`;
+    return held2[name] === "head" || held2[name] === "-inf" ? `<span class="pale">${value}</span>` : value;
+  }
+  function threadRow(state, thread, event, hidesReplies) {
+    const { kind, quota } = state.trace;
+    const held2 = state.threads[thread];
+    const moved = event?.thread === thread;
+    const cells = [
+      tag("td", {}, callCell(held2, moved, event, hidesReplies)),
+      tag("td", { class: "next" }, rowCell(held2, kind)),
+      ...LISTS[kind].registers.map((name) => tag("td", {}, registerCell(held2, name, moved, event, kind))),
+      tag("td", {}, held2.pc !== 0 && held2.reply !== "none" && !hidesReplies ? held2.reply : ""),
+      tag("td", {}, `${held2.used} of ${quota}`)
+    ];
+    return tag("tr", moved ? { class: "moved" } : {}, tag("th", { scope: "row" }, chipOf(thread)), ...cells);
+  }
+  function drawThreads(state, event, all, hidesReplies = false) {
+    const { registers: registers2 } = LISTS[state.trace.kind];
+    const heads = ["thread", "call", "next row of the step table", ...registers2, "reply", "slots used"];
+    const rows = threadsShown(state, event, all).map((thread) => threadRow(state, thread, event, hidesReplies));
+    if (rows.length === 0)
+      rows.push(`<tr><td colspan="${heads.length}" class="pale">every thread is idle</td></tr>`);
+    const head2 = tag("tr", {}, ...heads.map((text) => tag("th", { scope: "col" }, text)));
+    return tag("table", {}, tag("thead", {}, head2), tag("tbody", {}, ...rows));
+  }
+  function drawTable({ trace, state, event, before }) {
+    const made2 = event === null || event.deed === "begin" ? null : before.pc;
+    const at = /* @__PURE__ */ new Map();
+    state.threads.forEach((held2, thread) => at.set(held2.pc, [...at.get(held2.pc) ?? [], thread]));
+    const lines = Object.entries(LISTS[trace.kind].rows).map(([number, row]) => {
+      const here3 = (at.get(Number(number)) ?? []).map(chipOf).join(" ");
+      const by = made2 === Number(number) ? ` <small>made by</small> ${chipOf(event.thread)}` : "";
+      const cells = [here3, `<b>${number}</b>${by}`, escaped(row.step), escaped(row.then), `<small>${escaped(row.book)}</small>`];
+      return tag("tr", by === "" ? {} : { class: "moved" }, ...cells.map((text) => tag("td", {}, text)));
+    });
+    const heads = ["next", "row", "step", "then", "in the book"].map((text) => tag("th", { scope: "col" }, text));
+    return tag("table", {}, tag("thead", {}, tag("tr", {}, ...heads)), tag("tbody", {}, ...lines));
+  }
+  var KEY_WIDTH = 8;
+  function drawContent(part2, scale) {
+    const left = part2.from <= scale.first ? HISTORY_LEFT - 6 : scale.x(part2.from);
+    const end2 = part2.to > scale.last ? scale.edge : scale.x(part2.to);
+    const isLast = scale.now < part2.to;
+    const shown4 = isLast && scale.now <= scale.last ? Math.max(left, scale.x(Math.max(scale.now, scale.first))) : end2;
+    const all = `{${part2.keys.join(", ")}}`;
+    const room = Math.floor(((isLast ? scale.edge : shown4) - left - 10) / KEY_WIDTH);
+    const text = all.length <= room ? all : room > 6 ? `${all.slice(0, room - 2)}…` : "";
+    const right = text === "" ? shown4 : Math.max(shown4, left + 10 + KEY_WIDTH * text.length);
+    const isNow = scale.count < part2.to && (scale.count >= part2.from || part2.from <= scale.first);
+    return tag(
+      "g",
+      { class: isNow ? "content now" : "content" },
+      title(all),
+      tag("rect", { x: left, y: 0, width: Math.max(right - left, 1), height: 24 }),
+      text === "" && isLast ? label({ x: scale.edge, y: 17, "text-anchor": "end", class: "over" }, all) : label({ x: left + 5, y: 17 }, text)
+    );
+  }
+  function drawWindow(scale, total, x) {
+    if (scale.first === 1 && scale.last >= total)
+      return "";
+    const place = x > scale.width / 2 ? { x: 4, "text-anchor": "start" } : { x: scale.edge, "text-anchor": "end" };
+    return label({ class: "note", y: 42, ...place }, `events ${scale.first} to ${scale.last} of ${total}`);
+  }
+  function nameOfContents({ lacks }) {
+    if (lacks === null)
+      return label({ class: "name", x: 6, y: 17 }, "set");
+    const lines = ["set as", "told"].map((words, line) => label({ class: "name", x: 2, y: 10 + 12 * line }, words));
+    return tag("g", {}, title(`${BY_POINTS}; the list may have other keys`), ...lines);
+  }
+  var BY_POINTS = "the set by the linearization points of the calls";
+  function drawContents(trace, scale) {
+    const told2 = contentsIn(trace, scale.first, scale.last).filter((part2) => part2.from <= Math.max(scale.now, scale.first));
+    const parts = told2.map((part2) => drawContent(part2, scale));
+    const now2 = told2.findLast((part2) => part2.from <= Math.max(scale.count, scale.first));
+    const x = Math.min(Math.max(scale.x(scale.count), HISTORY_LEFT + 12), scale.width - 44);
+    const number = scale.count > 0 ? label({ class: "number", x, y: 42 }, `event ${scale.count}`) : "";
+    const what = trace.lacks === null ? "the set" : BY_POINTS;
+    const words = `${what} after event ${scale.count}: {${now2.keys.slice(0, 40).join(", ")}}`;
+    const frame = { width: scale.width, height: 50, viewBox: `0 0 ${scale.width} 50`, role: "img", "aria-label": words };
+    return tag("svg", frame, nameOfContents(trace), ...parts, drawCursor(scale, 24), number, drawWindow(scale, trace.total, x));
+  }
+  function drawOrder(trace, count, hides = false) {
+    const reached = trace.order.filter((call) => isReached(call, count));
+    const order = hides ? reached : trace.order;
+    const total = order.length;
+    if (total === 0)
+      return hides ? "No call has taken effect yet." : "No call has taken effect.";
+    const first = Math.max(0, Math.min(reached.length - 8, total - 14));
+    const last = Math.min(total, first + 22);
+    const items = order.slice(first, last).map((call) => {
+      const isAnswered = call.ended !== null && (!hides || call.ended <= count);
+      const reply = isAnswered ? call.reply : openReply;
+      const state = isReached(call, count) ? "reached" : "later";
+      return `<li class="${state}">${chipOf(call.thread)} ${callText(call)} <b>${reply}</b></li>`;
+    });
+    const before = first > 0 ? `<li class="later">${first} before …</li>` : "";
+    const after = last < total ? `<li class="later">… ${total - last} more</li>` : "";
+    return `<ol>${before}${items.join("")}${after}</ol>`;
+  }
+
+  // src/draw/listing.js
+  function stepsAt(functions, row) {
+    return functions.flatMap((code) => code.steps.filter(({ rows }) => rows.includes(row)).map((step) => ({ code, ...step })));
+  }
+  function codeOf(kind, { operation }) {
+    const { rows } = LISTS[kind].calls[operation];
+    const file = CODE_OF[kind].find((name) => rows.every((row) => stepsAt(CODE[name], row).length > 0));
+    return file === void 0 ? null : { file, functions: CODE[file] };
+  }
+  function stepOf(functions, held2) {
+    let found = stepsAt(functions, held2.pc);
+    const came = stepsAt(functions, held2.came).map(({ code }) => code.name);
+    const tests = [
+      ({ begins = false }) => begins === (held2.came === 0),
+      ({ answers = false }) => answers === (held2.reply !== "none"),
+      ({ code }) => came.includes(code.name),
+      ({ code }) => code.calls.some(([, name]) => came.includes(name))
+    ];
+    for (const test of tests)
+      if (found.length > 1 && found.some(test))
+        found = found.filter(test);
+    return found[0];
+  }
+  function callersOf(functions, name) {
+    const calls = functions.flatMap((code) => code.calls.map(([line, called]) => ({ line, called, name: code.name })));
+    const direct = calls.filter(({ called }) => called === name);
+    return [...direct.map(({ line }) => line), ...direct.flatMap((caller) => callersOf(functions, caller.name))];
+  }
+  var rowText = (kind, number) => {
+    const { step, then, book } = LISTS[kind].rows[number];
+    return `row ${number}: ${escaped(step)} <span class="then">→ ${escaped(then)}</span> <small>${escaped(book)}</small>`;
+  };
+  function standingText(kind, threads) {
+    const rows = [...new Set(threads.map(({ held: held2 }) => held2.pc))];
+    const chips = (row) => threads.filter(({ held: held2 }) => held2.pc === row).map(({ thread }) => chipOf(thread)).join(" ");
+    return rows.map((row) => tag("p", {}, `${chips(row)} ${rowText(kind, row)}`)).join("");
+  }
+  function lineItem(number, text, isSaid, kind, threads) {
+    const here3 = threads.filter(({ step }) => step.line === number);
+    const inside = threads.filter(({ callers }) => callers.includes(number));
+    const shown4 = [tag("i", {}, number), tag("code", isSaid ? { class: "said-of-it" } : {}, escaped(text)), standingText(kind, here3)];
+    const isOfEvent = here3.some(({ isMoved }) => isMoved);
+    if (here3.length > 0)
+      return tag("li", { class: isOfEvent ? "here moved" : "here", "aria-current": "step" }, ...shown4);
+    return tag("li", inside.length > 0 ? { class: "inside" } : {}, ...shown4);
+  }
+  function functionOf(code, kind, threads) {
+    const lines = code.text.trimStart().split("\n");
+    const body = lines.indexOf("{");
+    const items = lines.map((text, index) => lineItem(code.first + index, text, index < body, kind, threads));
+    return tag("ol", { class: "code" }, ...items);
+  }
+  function fileOf(file, functions, kind, threads) {
+    const calls = threads.map(({ thread, held: held2 }) => `${chipOf(thread)} ${callText(held2.call)}`).join(" ");
+    return tag("section", {}, tag("h3", {}, `${calls} <small>${file}</small>`), ...functions.map((code) => functionOf(code, kind, threads)));
+  }
+  function rowsOf(kind, { thread, held: held2 }) {
+    const items = LISTS[kind].calls[held2.call.operation].rows.map((number) => {
+      const given2 = number === held2.pc ? { class: "here", "aria-current": "step" } : {};
+      return tag("li", given2, rowText(kind, number));
+    });
+    const head2 = tag("h3", {}, `${chipOf(thread)} ${callText(held2.call)} <small>by the interpreter, row by row</small>`);
+    return tag("section", {}, head2, tag("ol", { class: "rows" }, ...items));
+  }
+  function drawListing({ trace, state, event }) {
+    const { kind } = trace;
+    const open = state.threads.map((held2, thread) => ({ held: held2, thread })).filter(({ held: held2 }) => held2.pc !== 0);
+    if (open.length === 0)
+      return tag("p", { class: "note" }, "No call is open.");
+    const byFile = /* @__PURE__ */ new Map();
+    for (const one of open) {
+      const file = codeOf(kind, one.held.call)?.file;
+      byFile.set(file, [...byFile.get(file) ?? [], one]);
+    }
+    const byRows = (byFile.get(void 0) ?? []).map((one) => rowsOf(kind, one));
+    byFile.delete(void 0);
+    const parts = [...byFile].map(([file, threads]) => {
+      const standing = threads.map(({ held: held2, thread }) => {
+        const step = stepOf(CODE[file], held2);
+        return { held: held2, thread, step, callers: callersOf(CODE[file], step.code.name), isMoved: thread === event?.thread };
+      });
+      return fileOf(file, CODE[file], kind, standing);
+    });
+    return tag("div", { class: "listings" }, ...parts, ...byRows);
+  }
+
+  // src/page/dom.js
+  var byId = (id) => document.getElementById(id);
+  function redraw(box, html9) {
+    const before = box.contains(document.activeElement) ? document.activeElement : null;
+    const keyOf = (part2) => JSON.stringify({ ...part2.dataset, name: part2.tagName });
+    const key = before === null ? "" : keyOf(before);
+    if (typeof html9 === "string")
+      box.innerHTML = html9;
+    else
+      box.replaceChildren(...html9);
+    if (before === null)
+      return;
+    const same = [...box.querySelectorAll("button, select, input, a, [tabindex]")].find((part2) => keyOf(part2) === key);
+    (same ?? box.querySelector("button, a") ?? box).focus();
+  }
+  var setAble = (id, isAble) => byId(id).setAttribute("aria-disabled", String(!isAble));
+  function setHidden(part2, isHidden, other) {
+    if (part2.hidden === isHidden)
+      return;
+    if (isHidden && part2.contains(document.activeElement))
+      other.focus();
+    part2.hidden = isHidden;
+  }
+  function setHtml(box, html9) {
+    if (texts.get(box) === html9)
+      return false;
+    texts.set(box, html9);
+    box.innerHTML = html9;
+    return true;
+  }
+  var texts = /* @__PURE__ */ new WeakMap();
+
+  // src/engine/answers.js
+  var linesIn = (text) => text.trimEnd().split("\n");
+  function callOfReport(line) {
+    const [, id, thread, operation, key, begun, ended, reply = null] = line.split(" ");
+    const end2 = ended === "open" ? null : Number(ended);
+    return { id: Number(id), thread: Number(thread), operation, key: Number(key), begun: Number(begun), ended: end2, reply };
+  }
+  function callOfRecording(line) {
+    const [, thread, operation, key, begun, ended, reply] = line.split(" ");
+    const isOpen = ended === "-";
+    const moments = { begun: BigInt(begun), ended: isOpen ? null : BigInt(ended) };
+    return { thread: Number(thread), operation, key: Number(key), ...moments, reply: isOpen ? null : reply };
+  }
+  function readReport(text) {
+    const lines = linesIn(text);
+    const linesOf2 = (word) => lines.filter((line) => line.startsWith(`${word} `));
+    const valuesOf = (word) => linesOf2(word).map((line) => line.split(" ").slice(1));
+    return {
+      head: [...lines.slice(0, 4), ...linesOf2("opening")],
+      threads: Number(lines[2].split(" ")[1]),
+      opening: valuesOf("opening").map(([key]) => Number(key)),
+      calls: linesOf2("call").map(callOfReport),
+      callLines: linesOf2("call"),
+      places: valuesOf("place").map(([call, reply]) => ({ call: Number(call), reply })),
+      keys: valuesOf("key").map(([key]) => Number(key)),
+      keyLines: linesOf2("key")
+    };
+  }
+  function callsOfRecording(text, most) {
+    const calls = [];
+    for (const [line] of text.matchAll(/^call .*$/gm)) {
+      if (calls.length === most)
+        break;
+      calls.push(callOfRecording(line));
+    }
+    return calls;
+  }
+  var leavesKey = (text, key) => new RegExp(`^key ${key}$`, "m").test(text);
+  var readExamples = (text) => linesIn(text).map((line) => {
+    const [name, kind] = line.split(/ +/);
+    return { name, kind };
+  });
+  function readFault(text) {
+    const says = text.trim();
+    const [, line = null, cause = null] = /^listset: line (\d+): (\w+)$/.exec(says) ?? [];
+    return { line: line === null ? null : Number(line), cause, says };
+  }
+  function readVerdict({ text }) {
+    const lines = linesIn(text);
+    const find = (word) => lines.find((line) => line.startsWith(`${word} `)) ?? null;
+    const valuesOf = (word) => find(word)?.split(" ").slice(1) ?? [];
+    const [kind = "fault"] = valuesOf("verdict");
+    if (kind === "fault")
+      return { kind, fault: readFault(text), order: null, why: null };
+    const [[count], [cut], [key = null], [moment = null]] = ["calls", "cut", "key", "moment"].map(valuesOf);
+    const [[since = null, there], [hidden, first, last]] = ["since", "hidden"].map(valuesOf);
+    const by = find("by")?.slice("by ".length);
+    const why = {
+      key: key === null ? null : Number(key),
+      moment,
+      // up to which the calls have no order; null: the key is left otherwise
+      since,
+      // from which moment on they have none; 0: from the beginning; null: not known
+      isThere: there === "true",
+      by: by === void 0 ? null : callOfRecording(by),
+      calls: lines.filter((line) => line.startsWith("call ")).map(callOfRecording),
+      hidden: hidden === void 0 ? null : { count: Number(hidden), first, last }
+    };
+    const ofCalls = { count: Number(count), overlapped: Number(valuesOf("overlapped")[0]), isCutOff: cut === "true" };
+    return { kind, ...ofCalls, order: orderIn(valuesOf("order"), valuesOf("set")), why: kind === "none" ? why : null };
+  }
+  var FAULT_VALUES = {
+    HistoryReply: ["call", "reply"],
+    SetReply: ["call", "reply", "place", "answer"],
+    TooEarly: ["call", "begun", "other", "ended"],
+    WrongSet: []
+  };
+  function orderIn([fault, ...values], keys) {
+    if (fault === void 0)
+      return null;
+    return { fault, set: `{${keys.join(", ")}}`, ...Object.fromEntries((FAULT_VALUES[fault] ?? ["call"]).map((name, at) => [name, values[at]])) };
+  }
+  function sentenceOn(ask, cause, ...kinds) {
+    if (!cause)
+      return null;
+    const told2 = ask("listset_faults").text;
+    const parts = kinds.map((kind) => told2.split(`, in ${kind};`)[1]?.split("\n\n")[0] ?? "");
+    const [, said2] = new RegExp(`^  ${cause} +((?:.|
+ {12})+)`, "m").exec(parts.join("\n")) ?? [];
+    return said2 === void 0 ? null : said2[0].toLowerCase() + said2.slice(1).replace(/\n +/g, " ").replace(/\.( .*)?$/, "");
+  }
+
+  // src/run/judged.js
+  var MOST_JUDGED = 60;
+  var LEVELS = {
+    points: { name: "points alone", task: "The replies are shown. Where does each call take effect?", hidden: ["change", "effect"] },
+    replies: {
+      name: "replies and points",
+      task: "What does each call answer, and where does it take effect?",
+      hidden: ["change", "reply", "leftInChain", "effect"]
+    },
+    claim: {
+      name: "any order at all?",
+      task: "Can a set give these replies? Give an order that explains the report, or say that there is none.",
+      hidden: []
+    }
+  };
+  function exerciseOf(text, level, isWhole = true) {
+    const report = readReport(text);
+    const last = Math.max(1, ...report.calls.flatMap((call) => [call.begun, call.ended ?? 0]));
+    return { ...report, level, isWhole, reportText: text, last };
+  }
+  var nameOfCall = (call) => `${callText(call)} of ${letterOf(call.thread)}`;
+  var lastMoment = (exercise, call) => call.ended ?? exercise.last;
+  function repliesOf(exercise, { operation }) {
+    if (operation === "add")
+      return ["true", "false", "full"];
+    if (operation !== "ceiling")
+      return ["true", "false"];
+    const added = exercise.calls.filter((call) => call.operation === "add").map(({ key }) => key);
+    const keys = [.../* @__PURE__ */ new Set([...exercise.opening, ...added])].sort((one, other) => one - other);
+    return ["nothing", ...keys.map((key) => `at-${key}`)];
+  }
+  var OwnAnswer = class {
+    constructor(exercise) {
+      this.exercise = exercise;
+      this.points = /* @__PURE__ */ new Map();
+      this.replies = /* @__PURE__ */ new Map();
+      this.turn = 0;
+      this.isNone = false;
+    }
+    place(call, at) {
+      const within2 = Math.min(Math.max(Math.round(2 * at) / 2, call.begun), lastMoment(this.exercise, call));
+      if (this.points.get(call.id)?.at !== within2)
+        this.points.set(call.id, { at: within2, turn: this.turn++ });
+    }
+    take(call) {
+      this.points.delete(call.id);
+    }
+    say(call, reply) {
+      this.replies.set(call.id, reply);
+    }
+    // The reply of a call in the order: an open call has none in the run, and stands in an order where it has changed the set.
+    replyOf(call) {
+      if (call.ended === null)
+        return openReply;
+      return this.exercise.level === "replies" ? this.replies.get(call.id) ?? null : call.reply;
+    }
+    order() {
+      const calls = this.exercise.calls.filter(({ id }) => this.points.has(id));
+      const placed2 = calls.map((call) => ({ call, ...this.points.get(call.id) }));
+      placed2.sort((one, other) => one.at - other.at || one.turn - other.turn);
+      return placed2.map(({ call, at }) => ({ call, at, reply: this.replyOf(call) }));
+    }
+    unsaid() {
+      const lackOf = (call) => [this.points.has(call.id) ? "" : "point", this.replyOf(call) === null ? "reply" : ""].filter((it) => it !== "");
+      const lacking = this.exercise.calls.filter((call) => call.ended !== null && lackOf(call).length > 0);
+      return lacking.map((call) => `the ${lackOf(call).join(" and the ")} of ${nameOfCall(call)}`);
+    }
+  };
+  function reportOfAnswer(answer2) {
+    const { head: head2, callLines, keyLines } = answer2.exercise;
+    const places = answer2.order().map(({ call, reply }) => `place ${call.id} ${reply}`);
+    return [...head2, ...callLines, ...places, ...keyLines, "end", ""].join("\n");
+  }
+  function verdictOn(ask, answer2) {
+    const unsaid = answer2.unsaid();
+    if (answer2.isNone)
+      return verdictOnClaim(ask, answer2.exercise);
+    const nothing2 = { isRight: null, clash: null, report: null };
+    if (unsaid.length > 0)
+      return { ...nothing2, says: `Still missing: ${unsaid.join(", ")}.` };
+    const report = reportOfAnswer(answer2);
+    const { kind, fault, order } = readVerdict(ask("listset_check_record", report));
+    if (kind === "fault")
+      return { ...nothing2, says: `This order is not judged: ${fault.says}.` };
+    if (order === null)
+      return { isRight: true, clash: null, report, says: rightInWords(answer2) };
+    const clash = order.call === void 0 ? null : Number(order.call);
+    return { isRight: false, clash, report, says: faultInWords(answer2, order) };
+  }
+  function verdictOnClaim(ask, { isWhole, reportText }) {
+    const said2 = (isRight, says) => ({ isRight, clash: null, report: null, says });
+    const there = "There is one: this is a run of a correct list, and each of those has an order (proved). Find it.";
+    if (isWhole)
+      return said2(false, there);
+    const { kind, fault } = readVerdict(ask("listset_check_record", reportText));
+    if (kind === "fault")
+      return said2(null, `Whether there is none is not judged: ${fault.says}.`);
+    if (kind === "none")
+      return said2(true, "Right: no order explains this report (proved). It comes from a broken list.");
+    if (kind === "unknown")
+      return said2(null, "This report comes from a broken list, and whether an order explains it is not known.");
+    return said2(false, "There is one, although this report comes from a broken list. Find it.");
+  }
+  function rightInWords(answer2) {
+    if (!answer2.exercise.isWhole)
+      return "check says ok: this order explains the report, so this schedule does not break the list.";
+    const own = answer2.order().map(({ call, reply }) => `${call.id}-${reply}`);
+    const isSame = own.join() === answer2.exercise.places.map(({ call, reply }) => `${call}-${reply}`).join();
+    const also = isSame ? "It is also the order of the replayer." : "The replayer has another one: both explain the run.";
+    return `check says ok: this order explains the run. ${also}`;
+  }
+  function faultInWords(answer2, { fault, call, place, reply, set, answer: due, begun, other, ended }) {
+    const named = (id) => nameOfCall(answer2.exercise.calls[Number(id)]);
+    if (fault === "SetReply") {
+      const before = Number(place) === 1 ? "before your first call" : `after ${named(answer2.order()[Number(place) - 2].call.id)} in your order`;
+      return `${named(call)} cannot answer ${reply} there: ${before} the set is ${set}, and it would answer ${due}.`;
+    }
+    if (fault === "HistoryReply")
+      return `${named(call)} does not answer ${reply} in this run. Look at what it sees before it answers.`;
+    if (fault === "TooEarly") {
+      return `${named(call)} begins at event ${begun}, and in your order it comes before ${named(other)}, which ended at event ${ended}.`;
+    }
+    if (fault === "WrongSet")
+      return `Your order leaves the set ${set}; at the end of this run it is {${answer2.exercise.keys.join(", ")}}.`;
+    return `This is no order of the calls of this run (${fault}).`;
+  }
+  var wordOfAnswer = (answer2) => answer2.isNone ? "none" : answer2.order().map(({ call, reply }) => `${call.id}-${reply}`).join();
+  function answerOfWord(exercise, word) {
+    const answer2 = new OwnAnswer(exercise);
+    if (word === "none")
+      return Object.assign(answer2, { isNone: true });
+    let at = 0;
+    for (const piece3 of word.split(",")) {
+      const [, id, reply] = /^(\d{1,5})-([a-z0-9-]+)$/.exec(piece3) ?? [];
+      const call = exercise.calls[id];
+      if (call === void 0 || answer2.points.has(call.id))
+        return null;
+      at = Math.max(at, call.begun);
+      answer2.points.set(call.id, { at, turn: answer2.turn++ });
+      answer2.say(call, reply);
+    }
+    return answer2;
+  }
+
   // src/page/state.js
   var NO_TASK_YET = { kind: "own", id: "", work: "", begun: "" };
   var SCENE_AT_FIRST = { stage: "", chosen: null, note: "", text: "", hints: 0, at: 0, branches: [], wrong: [] };
@@ -4482,14 +4605,11 @@ ${END}`) && text.startsWith(before.text.slice(0, -END.length));
   var onStage = (state) => ({ ...state, place: { ...state.place, activity: activityOfRun(state), screen: "stage", id: "", given: {} } });
   var within = (count, { total }) => Math.max(0, Math.min(total, count));
   var MAKES = {
-    // A scene is shown.
     place: (state, { activity, screen, id = "", given: given2 = {} }) => ({ ...state, place: { ...state.place, activity, screen, id, given: given2 }, scene: SCENE_AT_FIRST }),
     scene: (state, { type, ...given2 }) => ({ ...state, scene: { ...state.scene, ...given2 } }),
     view: (state, { view }) => ({ ...state, place: { ...state.place, view } }),
-    // Something is begun: what is run from now on is for this task.
     task: (state, { task, lacks = null }) => onStage({ ...state, task: { ...NO_TASK_YET, ...task }, run: { ...state.run, lacks }, exercise: null }),
-    // A text is going to be run.
-    text: (state, { text }) => ({ ...state, run: { ...state.run, text } }),
+    run: (state, { type, ...given2 }) => ({ ...state, run: { ...state.run, ...given2 } }),
     // A trace is there: the exercise was about the one before.
     trace(state, { trace, state: ofTrace, source, count }) {
       const isGood = trace.refused === null;
@@ -4497,10 +4617,7 @@ ${END}`) && text.startsWith(before.text.slice(0, -END.length));
       const run = { ...state.run, trace, state: ofTrace, source, lacks: trace.lacks, isRun: true, faultLine, count: within(count, trace) };
       return { ...state, run, exercise: null };
     },
-    // The text with which the task began.
     begun: (state, { begun }) => ({ ...state, task: { ...state.task, begun } }),
-    source: (state, { source }) => ({ ...state, run: { ...state.run, source } }),
-    fault: (state, { line, isOld }) => ({ ...state, run: { ...state.run, faultLine: line, isRun: !isOld } }),
     count: (state, { count }) => ({ ...state, run: { ...state.run, count: within(count, state.run.trace) } }),
     exercise: (state, { exercise }) => onStage({ ...state, exercise }),
     prefs: (state, { type, ...given2 }) => ({ ...state, prefs: { ...state.prefs, ...given2 } })
@@ -4512,38 +4629,19 @@ ${END}`) && text.startsWith(before.text.slice(0, -END.length));
     return make(state, action);
   }
   function entryOf({ place, task, exercise }) {
-    const ofRun2 = place.screen === "stage" ? [task.kind, task.id, exercise !== null] : [place.id, JSON.stringify(place.given)];
-    return [place.activity, place.screen, place.view, ...ofRun2].join("\n");
+    const ofRun = place.screen === "stage" ? [task.kind, task.id, exercise !== null] : [place.id, JSON.stringify(place.given)];
+    return [place.activity, place.screen, place.view, ...ofRun].join("\n");
   }
 
   // src/page/now.js
   var NO_ENGINE = "The replayer does not run in this browser: no schedule can be run, no report checked. A file of listset trace can be opened.";
-  var held = { state: stateAtFirst(), engine: null, render: () => {
+  var now = stateAtFirst();
+  var held = { engine: null, render: () => {
   } };
-  var now = {
-    get place() {
-      return held.state.place;
-    },
-    get scene() {
-      return held.state.scene;
-    },
-    get run() {
-      return held.state.run;
-    },
-    get task() {
-      return held.state.task;
-    },
-    get exercise() {
-      return held.state.exercise;
-    },
-    get prefs() {
-      return held.state.prefs;
-    }
-  };
   function change(type, given2 = {}) {
-    held.state = reduce(held.state, { ...given2, type });
+    Object.assign(now, reduce(now, { ...given2, type }));
   }
-  var show = () => held.render(held.state, momentAt(now.run.state, now.run.count));
+  var show = () => held.render();
   function dispatch(type, given2) {
     change(type, given2);
     show();
@@ -4556,7 +4654,7 @@ ${END}`) && text.startsWith(before.text.slice(0, -END.length));
   }
   var isJudging = () => now.exercise !== null;
   var hiddenOutcomes = () => isJudging() ? LEVELS[now.exercise.level].hidden : [];
-  var exampleShown = () => exampleIn(held.state);
+  var exampleShown = () => exampleIn(now);
   function goTo(count) {
     tell("");
     dispatch("count", { count });
@@ -4570,9 +4668,7 @@ ${END}`) && text.startsWith(before.text.slice(0, -END.length));
   var told = { text: "", html: "" };
   function takeTrace(trace, at, source) {
     const { refused } = trace;
-    const state = trace.before !== null && trace.before === now.run.trace ? now.run.state.goOn(trace) : new State(trace);
-    trace.before = null;
-    change("trace", { trace, state, source, count: typeof at === "function" ? at(trace) : at });
+    change("trace", { trace, state: new State(trace), source, count: typeof at === "function" ? at(trace) : at });
     announce("taken", trace);
     tellFault(now.run.faultLine, refused?.cause ?? "", refused === null ? "" : `line ${refused.line}: ${refused.cause}`, false);
     tell("");
@@ -4580,7 +4676,7 @@ ${END}`) && text.startsWith(before.text.slice(0, -END.length));
   }
   function takeScheduleOfTrace() {
     const text = scheduleOfTrace(now.run.trace);
-    change("text", { text });
+    change("run", { text });
     change("begun", { begun: text });
     byId("schedule").value = text;
     byId("opening").value = now.run.trace.opening.join(" ");
@@ -4595,7 +4691,7 @@ ${END}`) && text.startsWith(before.text.slice(0, -END.length));
     }
   }
   function tellFault(line, cause, said2, isOld = true) {
-    change("fault", { line, isOld });
+    change("run", { faultLine: line, isRun: !isOld });
     byId("stage").classList.toggle("old", isOld);
     byId("old").hidden = !isOld;
     const why = sentenceOn(askNow, cause, "a schedule", "a draft");
@@ -4607,88 +4703,177 @@ ${END}`) && text.startsWith(before.text.slice(0, -END.length));
     tellFault(line, cause ?? "", text);
   }
 
-  // src/page/editor.js
-  var LINE_HEIGHT = 21;
-  var editor = { isSeen: false };
-  function watchEditor() {
-    const look = ([{ isIntersecting }]) => {
-      editor.isSeen = isIntersecting;
-      if (!isIntersecting || now.run.trace === null)
-        return;
-      scrollToLine(now.run.count > 0 ? now.run.trace.event(now.run.count) : null);
-      showMarks();
-    };
-    new IntersectionObserver(look).observe(byId("editor"));
+  // src/page/kept.js
+  var KEPT = "listset-page-2";
+  var HERE = "listset-here";
+  var MOST_WORKS = 60;
+  function keptUnder(name) {
+    try {
+      return JSON.parse(localStorage.getItem(name));
+    } catch {
+      return null;
+    }
   }
-  function scrollToLine(event) {
-    const box = byId("schedule");
-    if (!editor.isSeen || event === null || document.activeElement === box || box.value !== now.run.text)
+  function keepUnder(name, value) {
+    try {
+      localStorage.setItem(name, JSON.stringify(value));
+      return true;
+    } catch {
+      return false;
+    }
+  }
+  var isText = (value) => typeof value === "string";
+  var isWork = (kept) => typeof kept?.text === "string" && typeof kept.box === "string" && Number.isInteger(kept.count);
+  var KINDS = ["own", "example", "lesson", "seed"];
+  var isTask = (task) => KINDS.includes(task?.kind) && isText(task.id) && isText(task.course);
+  function taskOfName(name) {
+    const [, lesson, course = BOOK_NAME] = /^lesson ([a-z0-9-]+)(?: of (.+?))?(?: \d+)?$/.exec(name) ?? [];
+    if (lesson !== void 0)
+      return { kind: "lesson", id: lesson, course };
+    const [, example] = /^from ([a-z-]+)(?: \d+)?$/.exec(name) ?? [];
+    if (Object.hasOwn(CLASSICS, example))
+      return { kind: "example", id: example, course: "" };
+    return { kind: "own", id: "", course: "" };
+  }
+  var workOf = ([name, kept]) => [name, { ...kept, task: isTask(kept.task) ? kept.task : taskOfName(name) }];
+  var works = {
+    /** @type {Map<string, any>} */
+    byName: /* @__PURE__ */ new Map(),
+    isKept: true,
+    load() {
+      const kept = keptUnder(KEPT);
+      const entries = Array.isArray(kept) ? kept : [];
+      const isGood = (entry) => Array.isArray(entry) && isText(entry[0]) && isWork(entry[1]);
+      this.byName = new Map(entries.filter(isGood).map(workOf));
+    },
+    set(name, work2) {
+      this.byName.delete(name);
+      this.byName.set(name, work2);
+      const names = [...this.byName.keys()];
+      for (const old of names.slice(0, Math.max(0, names.length - MOST_WORKS)))
+        this.byName.delete(old);
+      this.isKept = keepUnder(KEPT, [...this.byName]);
+    },
+    last(isWanted) {
+      return [...this.byName].findLast(([, work2]) => isWanted(work2))?.[0] ?? null;
+    },
+    nameOf(text, lacks = null) {
+      return this.last((work2) => work2.text === text && (work2.lacks ?? null) === lacks);
+    },
+    newName(word) {
+      for (let number = 1; ; number++) {
+        const name = number === 1 ? word : `${word} ${number}`;
+        if (!this.byName.has(name))
+          return name;
+      }
+    }
+  };
+  function keepWork() {
+    const box = byId("schedule").value;
+    const { run, task } = now;
+    const isLookedAt = box === run.text && run.text === task.begun;
+    if (held.engine === null || run.text === "" || isLookedAt || task.work === "")
       return;
-    const y = LINE_HEIGHT * (event.line - 1);
-    if (y < box.scrollTop || y > box.scrollTop + box.clientHeight - 2 * LINE_HEIGHT)
-      box.scrollTop = y - box.clientHeight / 2;
+    const before = works.byName.get(task.work);
+    if (before?.text === run.text && before.box === box && before.count === run.count)
+      return;
+    const { kind, id } = task;
+    works.set(task.work, { text: run.text, box, count: run.count, lacks: run.lacks, task: { kind, id, course: "" } });
+    announce("kept");
   }
-  function showMarks() {
-    const box = byId("schedule");
-    const isStale = box.value !== now.run.text;
-    const top = editor.isSeen ? box.scrollTop : 0;
-    const mark = (line, kind) => `<div class="${kind}" style="top:${6 + LINE_HEIGHT * (line - 1) - top}px"></div>`;
-    const event = now.run.count > 0 ? now.run.trace.event(now.run.count) : null;
-    const lines = [];
-    if (event !== null && now.run.isRun)
-      lines.push(mark(event.line, "event"));
-    if (now.run.faultLine !== null)
-      lines.push(mark(now.run.faultLine, "bad"));
-    byId("marks").innerHTML = isStale ? "" : lines.join("");
-    byId("run").classList.toggle("stale", isStale);
-    byId("run").textContent = isStale ? "Run the changes" : "Run";
+
+  // src/page/seen.js
+  var isStage = ({ screen }) => screen === "stage";
+  function factsOf(state, { hasEngine }) {
+    const { place, run, task, exercise } = state;
+    const [isJudging2, isClaim, isBroken] = [exercise !== null, exercise?.level === "claim", run.lacks !== null];
+    return { ...place, hasEngine, kind: task.kind, isJudging: isJudging2, isClaim, isBroken };
   }
+  var isFull = ({ view }) => view === null;
+  var isSlide = ({ view }) => view === "lecture";
+  var isFree = ({ isClaim }) => !isClaim;
+  var SEEN = {
+    ...Object.fromEntries(["top", "told", "order"].map((id) => [id, isFull])),
+    leave: ({ view }) => view !== null && view !== "embed",
+    scene: ({ screen }) => screen === "scene",
+    bench: ({ screen }) => screen !== "scene",
+    task: (facts) => isStage(facts) && (isFull(facts) || isSlide(facts)),
+    stage: isStage,
+    workshop: (facts) => isStage(facts) && isFull(facts),
+    "question-box": ({ kind, isJudging: isJudging2 }) => kind === "example" && !isJudging2,
+    "own-head": ({ kind }) => kind === "own",
+    "seed-box": ({ kind }) => kind === "seed",
+    "judge-head": ({ activity }) => activity === "judge",
+    "go-on-here": (facts) => facts.activity !== "judge" && isFull(facts) && facts.hasEngine,
+    past: ({ isJudging: isJudging2, view }) => !isJudging2 && view !== "list",
+    ticks: ({ isJudging: isJudging2 }) => !isJudging2,
+    judge: ({ isJudging: isJudging2 }) => isJudging2,
+    "judge-moments": ({ isClaim }) => isClaim,
+    "judge-levels": ({ isBroken }) => !isBroken,
+    "report-box": ({ isJudging: isJudging2, hasEngine }) => !isJudging2 && hasEngine,
+    dock: (facts) => isStage(facts) && isFree(facts),
+    ...Object.fromEntries(["judge-note", "run-figure", "key-help-box", "threads-box", "table-box"].map((id) => [id, isFree])),
+    "listing-box": (facts) => isFree(facts) && !facts.isBroken,
+    "no-engine": ({ hasEngine }) => hasEngine === false
+  };
+  function showParts(state) {
+    const facts = factsOf(state, { hasEngine: services.hasEngine });
+    for (const [id, isSeen] of Object.entries(SEEN))
+      setHidden(byId(id), !isSeen(facts), byId("skip"));
+    const { activity, screen, view } = state.place;
+    const key = [activity, screen, view, facts.hasEngine].join();
+    if (key === placed.key)
+      return;
+    placed.key = key;
+    for (const part2 of document.querySelectorAll(".of-engine:not([id])"))
+      part2.hidden = !facts.hasEngine;
+    Object.assign(document.body.dataset, { activity, screen, view: view ?? "" });
+    for (const link of document.querySelectorAll("nav [data-to]")) {
+      if (link.dataset.to.split(" ").includes(activity))
+        link.setAttribute("aria-current", "page");
+      else
+        link.removeAttribute("aria-current");
+    }
+  }
+  var placed = { key: "" };
+  var services = { hasEngine: true };
+  var setView = (view) => change("view", { view });
 
   // src/page/play.js
   var SPEEDS = { slow: 1600, medium: 700, fast: 200 };
-  var NO_STOP = { event: Infinity, before: "", there: "" };
-  var play = { timer: null, stop: NO_STOP };
+  var play = { timer: null };
   var wantsLessMotion = () => matchMedia("(prefers-reduced-motion: reduce)").matches;
   var isPlaying = () => play.timer !== null;
   function showPlay() {
     byId("play").textContent = play.timer === null ? "Play" : "Pause";
     byId("play").setAttribute("aria-pressed", String(play.timer !== null));
   }
-  function pausePlay() {
+  function stopPlay() {
     clearInterval(play.timer);
     play.timer = null;
     showPlay();
   }
-  function stopPlay() {
-    play.stop = NO_STOP;
-    pausePlay();
-  }
-  function startPlay(stop = NO_STOP) {
+  function startPlay() {
     const { count, trace } = now.run;
     if (trace.total === 0)
       return;
-    play.stop = stop;
     if (count === trace.total)
       goTo(0);
     play.timer = setInterval(playOn, SPEEDS[byId("speed").value]);
     showPlay();
   }
   function playOn() {
-    const { stop } = play;
     const count = now.run.count + 1;
-    const isThere = count === stop.event || count >= now.run.trace.total;
-    if (isThere)
+    if (count >= now.run.trace.total)
       stopPlay();
-    change("count", { count });
-    tell(count === stop.event ? stop.there : stop.before);
-    show();
+    goTo(count);
   }
-  var togglePlay = () => play.timer === null ? startPlay(play.stop) : pausePlay();
+  var togglePlay = () => play.timer === null ? startPlay() : stopPlay();
   function changeSpeed() {
     if (play.timer === null)
       return;
-    pausePlay();
-    startPlay(play.stop);
+    stopPlay();
+    startPlay();
   }
   function goByHand(count) {
     stopPlay();
@@ -4702,11 +4887,266 @@ ${END}`) && text.startsWith(before.text.slice(0, -END.length));
       count += step;
     goByHand(count);
   }
+  var keysOf = { scene: (event) => event };
+  function pressKey(event) {
+    if (/^(TEXTAREA|INPUT|SELECT)$/.test(event.target.tagName) && event.target.id !== "slider")
+      return;
+    if (event.ctrlKey || event.metaKey || event.altKey || event.target.closest("[role=slider]") !== null)
+      return;
+    if (event.key === "Escape" && now.place.view !== null)
+      return toggleLecture();
+    if (now.place.screen === "scene")
+      return keysOf.scene(event);
+    const { total } = now.run.trace;
+    const far = now.place.view === "lecture" ? 1 : 10;
+    const steps = { ArrowRight: 1, ArrowLeft: -1, PageDown: far, PageUp: -far, Home: -total, End: total };
+    if (event.key in steps) {
+      event.preventDefault();
+      if (event.shiftKey && event.key.startsWith("Arrow"))
+        goToTurn(steps[event.key]);
+      else
+        goByHand(now.run.count + steps[event.key]);
+    } else if (event.key === " " && !/^(BUTTON|SUMMARY|A)$/.test(event.target.tagName)) {
+      event.preventDefault();
+      togglePlay();
+    } else if (event.key === "?" || event.key === "p" && now.prefs.letters)
+      ({ "?": toggleKeys, p: togglePlay })[event.key]();
+  }
+  function toggleKeys() {
+    byId("key-help").hidden = !byId("key-help").hidden;
+    byId("keys").setAttribute("aria-expanded", String(!byId("key-help").hidden));
+  }
+  function toggleLecture() {
+    const isLeft = document.activeElement === byId("leave");
+    setView(now.place.view === null ? "lecture" : null);
+    show();
+    if (isLeft)
+      (byId("sides-lecture") ?? byId("lecture")).focus();
+  }
+
+  // src/data/levels.js
+  var BREAK_LEVELS = {
+    lock: {
+      story: "One thread at a time, they say. Let two of them meet.",
+      hints: [
+        "Two adds of different keys, both between 3 and 7.",
+        "Let both threads walk to the same place: pred is the node of 3, curr that of 7.",
+        "Stop A just before it writes pred.next. Let B do its whole add. Then let A end."
+      ],
+      lacks: "It continues although another thread holds the lock.",
+      others: {
+        "It releases the lock before it writes the arrow.": "it releases the lock only after that",
+        "It writes the arrow of pred before that of its own node.": "it writes the arrow of its own node first"
+      },
+      start: [["add", 5], ["add", 4]],
+      shortest: [20, 2],
+      missing: [{ row: 1, part: "lock the list" }]
+    },
+    "mark-in-remove": {
+      story: "Two threads remove one key. One of them should answer that it came too late.",
+      hints: [
+        "Two removes of the same key, 3.",
+        "Let both threads find the node of 3 before either of them marks it.",
+        "Stop A before the step that sets the mark; let B set its own; then let both end."
+      ],
+      lacks: "A remove marks a node that is marked already.",
+      others: {
+        "A remove takes its node out before it marks it.": "it marks the node first",
+        "A remove does not look whether its key is there.": "it compares curr.key with its key"
+      },
+      start: [["remove", 3], ["remove", 3]],
+      shortest: [14, 2],
+      missing: [{ row: 9, part: "no mark" }]
+    },
+    mark: {
+      story: "Removing a node is one compare-and-set here. Fast. Too fast?",
+      hints: [
+        "An add of 5, and a remove of the node in front of it.",
+        "The pred of the add must be the node of 3, which the other thread removes.",
+        "Stop A before the step that links 5 in. Let B remove 3. Then one step of A."
+      ],
+      lacks: "A remove unlinks its node without marking it first.",
+      others: {
+        "A remove marks a node that is marked already.": "it marks no node at all",
+        "An add writes its arrow without comparing.": "it compares with what it saw"
+      },
+      start: [["add", 5], ["remove", 3]],
+      shortest: [15, 2],
+      missing: [{ row: 9, part: "CAS curr.next: succ, no mark → mark" }]
+    },
+    "new-slot": {
+      story: "Each key that is added needs a node of its own. Does it get one?",
+      hints: ["One thread is enough. It adds.", "Two adds of different keys, one after the other.", "Let A add 4, and then 5. Where is 4?"],
+      lacks: "An add writes into the node of its last key.",
+      others: {
+        "An add does not look whether its key is there.": "it compares curr.key with its key",
+        "An add writes its arrow without comparing.": "it compares with what it saw"
+      },
+      start: [["add", 4], ["add", 5]],
+      shortest: [20, 2],
+      missing: [{ row: 5, part: "new " }]
+    },
+    "second-lock": {
+      story: "Hand over hand means two locks at a time. Here one hand stays in the pocket.",
+      hints: [
+        "An add of 5 beside a remove of 3, its neighbour.",
+        "The add must hold the lock of 3 while the other thread removes that node.",
+        "Let B step through its add until just before it writes pred.next, with 3 as its pred. Then try a remove of 3 by A."
+      ],
+      lacks: "A remove locks only pred, and not the node that it unlinks.",
+      others: {
+        "A remove does not lock pred.": "it locks pred, and keeps that lock until it has written",
+        "A remove releases its lock before it writes.": "it releases its lock only after that"
+      },
+      start: [["remove", 3], ["add", 5]],
+      shortest: [21, 2],
+      missing: [{ row: 3, part: "lock curr," }]
+    },
+    "hand-over-hand": {
+      story: "A walk should never be without a lock, not for one moment.",
+      hints: [
+        "An add of 5 beside a remove of 3, its neighbour.",
+        "There is a moment in which the walk of the add holds no lock. Find it.",
+        "Stop B on its way from the node of 3 to that of 7. Let A remove 3. Then let B end."
+      ],
+      lacks: "A walk releases one lock before it has the next.",
+      others: {
+        "It releases its locks before it writes.": "it releases them only after that",
+        "A walk does not lock the head.": "it locks the head first of all"
+      },
+      start: [["remove", 3], ["add", 5]],
+      shortest: [24, 2],
+      missing: [{ row: 3, part: "pred still locked" }]
+    },
+    "second-walk": {
+      story: "It locks two nodes, and looks again. But what does it look at?",
+      hints: [
+        "An add of 5 beside a remove of 3, its neighbour.",
+        "The node that the add has found as pred may be unlinked before it is locked.",
+        "Stop A before it locks pred, which is the node of 3. Let B remove 3. Then let A end."
+      ],
+      lacks: "With the locks it does not walk again: pred may not be in the list any more.",
+      others: {
+        "It does not lock curr.": "it locks pred and curr",
+        "It does not look whether pred still leads to curr.": "it looks at that, with both locks"
+      },
+      start: [["add", 5], ["remove", 3]],
+      shortest: [23, 2],
+      missing: [{ row: 6, part: "walk from the head again" }, { row: 7, part: "until pred is met, else not valid" }]
+    },
+    "marks-in-validation": {
+      story: "Marks are set here. Does everybody read them?",
+      hints: [
+        "An add of 5 beside a remove of 3, its neighbour.",
+        "The node that the add has found as pred may be removed before it is locked.",
+        "Stop A before it locks pred, which is the node of 3. Let B remove 3. Then let A end."
+      ],
+      lacks: "The validation does not look at the marks.",
+      others: {
+        "The validation does not look whether pred still leads to curr.": "it looks at that, with both locks",
+        "A remove does not mark its node.": "it marks the node before it unlinks it"
+      },
+      start: [["add", 5], ["remove", 3]],
+      shortest: [25, 2],
+      missing: [{ row: 6, part: "pred unmarked," }, { row: 7, part: "and curr unmarked" }]
+    },
+    "mark-in-add": {
+      story: "A marked arrow must not change. Somebody changes it all the same.",
+      hints: [
+        "An add of 5, and a remove of the node in front of it.",
+        "The remove must have marked the node of 3, and done no more.",
+        "Stop A before its last step. Let B remove 3 until it has set the mark. Then let A end."
+      ],
+      lacks: "An add inserts its node behind a marked one.",
+      others: {
+        "A remove does not mark its node.": "it marks the node before it unlinks it",
+        "An add does not look whether its key is there.": "it compares curr.key with its key"
+      },
+      start: [["add", 5], ["remove", 3]],
+      shortest: [17, 2],
+      missing: [{ row: 7, part: "no mark" }]
+    },
+    "same-node": {
+      story: "The second walk looks for pred. It meets something that looks like it.",
+      hints: [
+        "Three calls: an add of 5, and of the other thread a remove and an add of one key.",
+        "The node of 3 is unlinked, and another node of 3 is inserted.",
+        "Stop A before it locks pred, the old node of 3. Let B remove 3 and add 3 again. Then let A end."
+      ],
+      lacks: "The second walk looks for the key of pred, and not for the node itself.",
+      others: {
+        "It does not walk a second time.": "it walks from the head again, with its locks",
+        "It does not lock pred.": "it locks pred and curr"
+      },
+      start: [["add", 5], ["remove", 3]],
+      shortest: [36, 3],
+      missing: [{ row: 7, part: "pred is met" }]
+    },
+    "mark-at-key": {
+      story: "A marked node can stay in the chain for a while. Who reads it there?",
+      hints: [
+        "Three calls: an add of 5, a remove of 7, and then a contains of 7.",
+        "A remove whose last compare-and-set fails leaves its node in the chain, marked.",
+        "Stop A before it links 5 in. Let B remove 7 up to its last step. Link 5 in, let B end. Then call contains(7)."
+      ],
+      lacks: "A contains does not look at the mark of the node with its key.",
+      others: {
+        "A remove does not mark its node.": "it marks the node before it unlinks it",
+        "A contains stops before it comes to its key.": "it walks on while curr.key is below its key"
+      },
+      start: [["add", 5], ["remove", 7]],
+      shortest: [26, 3],
+      missing: [{ row: 22, part: "and unmarked" }]
+    },
+    "mark-in-ceiling": {
+      story: "ceiling(2) asks for the smallest key from 2 on. It takes the first node that it finds. Any node?",
+      hints: [
+        "A remove of 3, and a ceiling of 2. Let something end in between.",
+        "The remove has marked the node of 3 and has not ended. A contains of 3 answers false. And then the ceiling?",
+        "Stop A after it set the mark. Let B call contains(3), and then ceiling(2)."
+      ],
+      lacks: "A ceiling does not look at the mark of its node.",
+      others: {
+        "A ceiling stops before it comes to its key.": "it walks on while curr.key is below its key",
+        "A remove does not mark its node.": "it marks the node before it unlinks it"
+      },
+      start: [["remove", 3], ["contains", 3]],
+      shortest: [16, 3],
+      missing: [{ row: 25, part: "if marked: start again;" }]
+    },
+    "mark-in-contains": {
+      story: "Here contains does not look at the mark. No schedule is known after which no order explains the calls. Why not?",
+      hints: [
+        "A remove of 3, and a contains of 3 by the other thread.",
+        "The remove has set its mark and is still pending. So it may come after the contains.",
+        "When the remove has ended, can a new contains still reach its node? In this list a remove ends after the node is unlinked."
+      ],
+      lacks: "A contains does not look at the mark of its node.",
+      others: {},
+      start: [["remove", 3], ["contains", 3]],
+      shortest: null,
+      missing: [{ row: 22, part: "and unmarked" }]
+    }
+  };
+  var TEN = [
+    "lock",
+    "second-lock",
+    "hand-over-hand",
+    "second-walk",
+    "same-node",
+    "marks-in-validation",
+    "mark-in-remove",
+    "mark",
+    "mark-in-add",
+    "mark-at-key"
+  ];
+  var THREE_MORE = ["new-slot", "mark-in-ceiling", "mark-in-contains"];
+  var NUMBERED = Object.keys(BREAK_LEVELS);
+  var numberOfLevel = (name) => NUMBERED.indexOf(name) + 1;
+  var levelOfNumber = (number) => NUMBERED[Number(number) - 1];
+  var whyWrong = (name, sentence) => `No: ${BREAK_LEVELS[name].others[sentence]}. Look for the line that this list makes differently.`;
 
   // src/run/broken.js
-  var LACKING_THREADS = 2;
-  var LACKING_QUOTA = 2;
-  var LACKING_OPENING = [3, 7];
   var EXPLAINED = "Not broken yet: some order explains this run.";
   var BY_POINTS2 = "Not by its linearization points: check refuses that order.";
   var OTHER = "Another order explains these replies.";
@@ -4716,10 +5156,7 @@ ${END}`) && text.startsWith(before.text.slice(0, -END.length));
   var NO_TASK = "mark-in-contains";
   var isTaskDone = (lacks, { kind }) => kind === "broken" && lacks !== NO_TASK;
   var askList = (ask, name, lacks, text) => lacks === null ? ask(name, text) : ask("listset_lacking", lacks, text, name.slice("listset_".length));
-  function startOfLacking(name) {
-    const set = [titleOf(2), `list ${LACKING[name]}`, `threads ${LACKING_THREADS}`, `quota ${LACKING_QUOTA}`];
-    return [...set, ...LACKING_OPENING.map((key) => `opening ${key}`), ""].join("\n");
-  }
+  var startOfLacking = (name) => scheduleText({ list: LACKING[name], threads: 2, quota: 2, opening: [3, 7] });
   function verdictOnLacking(ask, lacks, schedule) {
     const { status, text } = askList(ask, "listset_replay", lacks, schedule);
     if (status !== 0)
@@ -4759,287 +5196,1392 @@ ${END}`) && text.startsWith(before.text.slice(0, -END.length));
   }
   function departureOf(ask, trace) {
     const { text } = ask("listset_trace", scheduleOfTrace(trace));
-    if (!isTrace(text))
-      return null;
-    const whole = new Trace(text, trace.version);
-    const event = eventsInCommon(trace, whole) + 1;
-    if (event > trace.total)
-      return null;
-    const rows = [trace, whole].map((one) => event > one.total ? null : one.event(event).changes.pc);
-    const told2 = (one) => {
-      if (event > one.total)
-        return "makes no such event.";
-      const goesOn2 = rows[0] === rows[1] ? "" : rowInWords(one, event);
-      return `${sentenceOf(momentAt(new State(one), event))}${goesOn2}`;
-    };
-    return { event, here: told2(trace), whole: told2(whole) };
-  }
-  function rowInWords(trace, number) {
-    const event = trace.event(number);
-    const row = event.changes.pc;
-    const { step } = LISTS[trace.kind].rows[row] ?? { step: "which the correct list does not have" };
-    const isSaid = event.deed === "exchange" && isFailed(event) && isLock(event.word);
-    return row === 0 || isSaid ? "" : ` It continues at row ${row}, ${escaped(step)}.`;
+    const event = isTrace(text) ? eventsInCommon(trace, new Trace(text, trace.version)) + 1 : Infinity;
+    return event > trace.total ? null : event;
   }
 
-  // src/run/draft.js
-  var MOST_TRIED = 1e3;
-  var DRAFT_LINE = /^go \d+ (?:out|to \d+)$/m;
-  function scheduleOfDraft(ask, text, lacks = null) {
-    if (!DRAFT_LINE.test(text))
-      return { text, fault: null };
-    if (lacks !== null)
-      return scheduleOfLackingDraft(ask, lacks, text);
-    const made2 = ask("listset_draft", text.replace(/^listset-(?:schedule|draft) [12]$/m, "listset-draft 2"));
-    return made2.status === 0 ? { text: made2.text, fault: null } : { text: null, fault: made2.text.trim() };
+  // src/page/visit.js
+  var MOMENT = 400;
+  var visit = { timer: 0, entry: null, isRead: false, course: null };
+  var addressHere = () => addressIn(now, visit);
+  function keepSoon() {
+    clearTimeout(visit.timer);
+    visit.timer = setTimeout(keepNow, MOMENT);
   }
-  function stepsOfLacking(ask, lacks, lines, thread, row) {
-    const fault = (cause) => ({ count: null, fault: `listset: line ${lines.length + 1}: ${cause}` });
-    const { text } = ask("listset_lacking", lacks, `${[...lines, `go ${thread} ${MOST_TRIED}`].join("\n")}
-`, "trace");
-    if (!isTrace(text))
-      return { count: null, fault: text.trim() };
-    const steps = new Trace(text).events().filter(({ line }) => line === lines.length + 1);
-    const end3 = steps.findIndex(({ answer: answer2 }) => answer2 !== void 0);
-    const at = row === void 0 ? end3 : steps.findIndex(({ answer: answer2, changes }) => answer2 === void 0 && changes.pc === Number(row));
-    if (at !== -1)
-      return { count: at + 1, fault: null };
-    return fault(end3 !== -1 || steps.length === 0 ? "Idle" : "Waits");
+  function keepNow() {
+    clearTimeout(visit.timer);
+    keepWork();
+    if (visit.isRead)
+      setAddress();
   }
-  function scheduleOfLackingDraft(ask, lacks, text) {
+  function setAddress() {
+    const address = addressHere();
+    const entry = entryOf(now);
+    const isNew = visit.entry !== null && visit.entry !== entry;
+    visit.entry = entry;
+    if (now.place.view !== "embed")
+      keepUnder(HERE, address);
+    if (!isNew && location.hash === (address ?? ""))
+      return;
+    const { text, count, lacks } = now.run;
+    const kept = address === null ? { text, count, lacks } : null;
+    const how = isNew ? "pushState" : "replaceState";
+    const place = address ?? location.pathname + location.search;
+    try {
+      history[how](kept, "", place);
+    } catch {
+      history[how](null, "", place);
+    }
+  }
+  var linkTo = (address) => location.href.replace(/#.*$/, "") + address;
+  async function copyLink() {
+    const address = now.run.isRun ? addressHere() : null;
+    if (address === null)
+      return tell("This schedule has no link: it is refused, or too long for an address. Save it as a file.");
+    const link = linkTo(address);
+    const shown4 = `<code>${escaped(link)}</code>${warningOf(link)}`;
+    tell(`Copy this link: ${shown4}`);
+    if (await copied(link))
+      tell(`The link is copied: ${shown4}`);
+  }
+  var copied = async (text) => navigator.clipboard?.writeText(text).then(() => true, () => false) ?? false;
+  var SCENES = ["assignment", "story", "ask", "code", "teachers"];
+  var SCENE_VIEWS = ["lecture", "embed"];
+  function sceneOfHash(hash) {
+    const { view = null, ...parts } = Object.fromEntries(new URLSearchParams(hash.replace(/^#/, "")));
+    const activity = SCENES.find((name) => name in parts);
+    if (activity === void 0)
+      return null;
+    if (view !== null && !SCENE_VIEWS.includes(view))
+      throw new AddressFault(`"${view.slice(0, 60)}" is no view of a page`);
+    const { [activity]: id, ...given2 } = parts;
+    return { activity, id, given: given2, view };
+  }
+  var START_OF_CODE = [3, 7];
+  var linesOfCode = (s) => s.split(",").filter((line) => /^(b\d+\.[a-z]+\.\d+|g\d+\.\d+)$/.test(line)).map(longLine);
+  var SET_OF_CODE = { threads: 2, quota: 9 };
+  function addressOfCode(list, opening, lines, set = SET_OF_CODE) {
+    const ofOpening = opening.join() === START_OF_CODE.join() && lines.length === 0 ? "" : `&opening=${opening.join(".")}`;
+    const ofSet = ["threads", "quota"].map((name) => set[name] === SET_OF_CODE[name] ? "" : `&${name}=${set[name]}`).join("");
+    return `#code=${list}${ofSet}${ofOpening}${lines.length > 0 ? `&s=${lines.map(shortLine).join()}` : ""}`;
+  }
+  function addressOfLevel({ id }, { text }) {
+    const name = levelOfNumber(id);
+    if (id === "" || text === "" || text === startOfLacking(name))
+      return id === "" ? "#break" : `#break=${id}`;
+    return `#break=${id}&${addressOf(text, eventsAsked(text))?.slice(1) ?? ""}`;
+  }
+  function addressOfLesson({ id }, { text }, { course }) {
+    const named = `${course === null ? "#" : `${course}&`}learn${id === "" ? "" : `=${id}`}`;
+    const own = text === "" ? null : addressOf(text, eventsAsked(text));
+    const whole = own === null ? named : `${named}&${own.slice(1)}`;
+    return whole.length <= LONGEST_ADDRESS ? whole : named;
+  }
+  var addressOfAssignment = ({ id, given: given2 }) => `#${new URLSearchParams({ assignment: id, ...given2 })}`.replaceAll("%2C", ",");
+  var plainAddress = ({ activity, id }) => `#${activity}${id === "" ? "" : `=${id}`}`;
+  var ADDRESSES = {
+    code: ({ id, given: given2 }, { text }) => text || `#${new URLSearchParams({ code: id, ...given2 })}`,
+    compare: (place, { text }) => text || plainAddress(place),
+    break: addressOfLevel,
+    learn: addressOfLesson,
+    assignment: addressOfAssignment
+  };
+  function addressIn(state, given2) {
+    const { place, task, run, exercise } = state;
+    const view = place.view === null ? "" : `&view=${place.view}`;
+    if (place.screen === "scene")
+      return (ADDRESSES[place.activity] ?? plainAddress)(place, state.scene, given2) + view;
+    const address = task.kind === "own" ? addressOf(run.text, run.count, run.lacks) : `#${task.kind}=${task.id}&event=${run.count}`;
+    return address === null ? null : `${address}${exercise === null ? "" : "&judge"}${view}`;
+  }
+  function titleIn(state, titleOfScene2) {
+    const { place, task, run, exercise } = state;
+    if (place.screen === "scene")
+      return titleOfScene2(place);
+    const list = run.trace === null ? "" : LISTS[run.trace.kind].name;
+    const ofTask = {
+      example: () => inLetters(CLASSICS[task.id].question),
+      seed: () => `Run ${partsOfSeed(task.id).number} of ${list}`,
+      own: () => `${task.work}: ${list}`
+    };
+    return `${exercise === null ? "" : "Judge: "}${ofTask[task.kind]()} · Why not just one lock?`;
+  }
+
+  // src/engine/engine.js
+  var FIRST_ROOM = 1 << 22;
+  var LARGE_MEMORY = 1 << 28;
+  var Engine = class {
+    // `read` puts bytes of an input of the host at the front of a piece of the memory, and tells how many, or -1.
+    /** @param {(input: bigint, room: Uint8Array) => number} read */
+    constructor(module, read = () => -1) {
+      this.module = module;
+      this.instance = null;
+      this.host = { env: { read: (input, at, count) => BigInt(read(input, this.piece(Number(at), Number(count)))) } };
+    }
+    piece(at, count) {
+      return new Uint8Array(this.instance.exports.memory.buffer, at, count);
+    }
+    static async start() {
+      const bytes = await engineBytes();
+      return new Engine(await WebAssembly.compile(bytes));
+    }
+    ask(name, ...texts2) {
+      const encoder = new TextEncoder();
+      return this.askBytes(name, ...texts2.map((text) => encoder.encode(text)));
+    }
+    askBytes(name, ...given2) {
+      return this.answered((exports) => answerOf(exports, name, given2));
+    }
+    // What the judge says of a recording of any length, which it reads from an input in pieces.
+    judgeFrom(input) {
+      return this.answered((exports) => answerInRoom(exports, "listset_judge_from", [[input]], FIRST_ROOM));
+    }
+    answered(answer2) {
+      if (this.instance === null || this.instance.exports.memory.buffer.byteLength > LARGE_MEMORY) {
+        this.instance = new WebAssembly.Instance(this.module, this.host);
+      }
+      try {
+        return answer2(this.instance.exports);
+      } catch (fault) {
+        this.instance = null;
+        throw new Error(`the engine stopped: ${fault.message}`);
+      }
+    }
+  };
+  async function engineBytes() {
+    if (typeof ENGINE === "undefined" && location.protocol === "file:")
+      await loadScript("engine.js");
+    if (typeof ENGINE !== "undefined")
+      return Uint8Array.from(atob(ENGINE), (letter) => letter.charCodeAt(0));
+    const answer2 = await fetch("listset.wasm");
+    if (!answer2.ok)
+      throw new Error(`listset.wasm: ${answer2.status} ${answer2.statusText}`);
+    return answer2.arrayBuffer();
+  }
+  function loadScript(src) {
+    return new Promise((done2, fail) => {
+      const onerror = () => fail(new Error(`${src} is not beside the page`));
+      document.head.append(Object.assign(document.createElement("script"), { src, onload: done2, onerror }));
+    });
+  }
+  function answerOf(engine, name, given2) {
+    const texts2 = textsOf(engine, engine[name].length, given2);
+    let answer2 = answerInRoom(engine, name, texts2, FIRST_ROOM);
+    if (answer2.bytes === null)
+      answer2 = answerInRoom(engine, name, texts2, answer2.length);
+    texts2.forEach(([block]) => engine.page_free(block));
+    if (answer2.bytes === null)
+      throw new Error("two answers to one text");
+    return { status: answer2.status, text: new TextDecoder().decode(answer2.bytes), bytes: answer2.bytes };
+  }
+  function textsOf(engine, parameters, given2) {
+    return Array.from({ length: (parameters - 3) / 2 }, (_, at) => {
+      const text = given2[at] ?? new Uint8Array(0);
+      const block = blockOf(engine, text.length);
+      new Uint8Array(engine.memory.buffer, Number(block), text.length).set(text);
+      return [block, BigInt(text.length)];
+    });
+  }
+  function answerInRoom(engine, name, texts2, room) {
+    const out = blockOf(engine, room);
+    const status = blockOf(engine, 1);
+    const count = Number(engine[name](...texts2.flat(), out, BigInt(room), status));
+    const memory = engine.memory.buffer;
+    const bytes = count <= room ? new Uint8Array(memory, Number(out), count).slice() : null;
+    const said2 = new Uint8Array(memory, Number(status), 1)[0];
+    engine.page_free(out);
+    engine.page_free(status);
+    return { bytes, length: count, status: said2 };
+  }
+  function blockOf(engine, length) {
+    const block = engine.page_alloc(BigInt(Math.max(length, 1)));
+    if (!block)
+      throw new Error("no memory");
+    return block;
+  }
+
+  // src/page/long_run.js
+  var MANY_EVENTS = 2e4;
+  var LONG_TEXT = 2e5;
+  var longRun = { worker: null, timer: 0 };
+  async function askLong(name, text, isOfRun = true) {
+    const events = eventsAsked(text);
+    if (text.length < LONG_TEXT && events < MANY_EVENTS)
+      return askNow(name, text);
+    try {
+      const { worker, answer: answer2 } = askInWorker(held.engine.module, name, text, events);
+      if (isOfRun)
+        longRun.worker = worker;
+      const came = await answer2;
+      if (came !== null)
+        return came;
+    } catch {
+    }
+    await new Promise((done2) => requestAnimationFrame(() => setTimeout(done2)));
+    return askNow(name, text);
+  }
+  async function runLong(text, asked2, take2) {
+    stopLong();
+    const begun = Date.now();
+    const tellTime = () => {
+      const seconds = Math.round((Date.now() - begun) / 1e3);
+      byId("long-said").textContent = `running ${asked2.toLocaleString("en")} events: ${seconds} s`;
+    };
+    tellTime();
+    longRun.timer = setInterval(tellTime, 1e3);
+    byId("long").hidden = false;
+    const answer2 = await askLong("listset_trace", text);
+    if (now.run.text !== text || byId("long").hidden)
+      return;
+    stopLong();
+    take2(answer2);
+  }
+  function stopLong() {
+    clearInterval(longRun.timer);
+    longRun.worker?.terminate();
+    longRun.worker = null;
+    if (byId("long").contains(document.activeElement))
+      byId("slider").focus();
+    byId("long").hidden = true;
+  }
+  function cancelLong() {
+    stopLong();
+    tellFault(null, "", "The run was cancelled. Run begins it again.");
+  }
+  var EVENT_ROOM = 96;
+  var workerText = (room) => `"use strict";
+const FIRST_ROOM = ${room};
+const LARGE_MEMORY = ${LARGE_MEMORY};
+${Object.entries({ Engine, answerOf, textsOf, answerInRoom, blockOf }).map(([name, it]) => `const ${name} = ${it};`).join("\n")}
+onmessage = ({ data: { module, name, given } }) => {
+  try {
+    const { status, bytes } = new Engine(module).askBytes(name, given);
+    postMessage({ status, bytes }, [bytes.buffer]);
+  } catch (fault) {
+    postMessage({ status: 1, bytes: new TextEncoder().encode(fault.message) });
+  }
+};`;
+  function askInWorker(module, name, text, events) {
+    const place = URL.createObjectURL(new Blob([workerText(FIRST_ROOM + EVENT_ROOM * events)], { type: "text/javascript" }));
+    const worker = new Worker(place);
+    const came = new Promise((done2) => {
+      worker.onerror = () => done2(null);
+      worker.onmessage = ({ data }) => done2({ status: data.status, text: new TextDecoder().decode(data.bytes) });
+      worker.postMessage({ module, name, given: new TextEncoder().encode(text) });
+    });
+    const answer2 = came.finally(() => {
+      worker.terminate();
+      URL.revokeObjectURL(place);
+    });
+    return { worker, answer: answer2 };
+  }
+
+  // src/page/work.js
+  function beginTask(task, lacks = null) {
+    keepWork();
+    change("task", { task, lacks });
+  }
+  function openTask(task, text, at, told2 = "", lacks = null) {
+    beginTask({ begun: text, ...task }, lacks);
+    runText(text, at, told2);
+  }
+  var ownTask = (name) => ({ kind: "own", id: "", work: works.newName(name) });
+  function openWork(name, at = null) {
+    const { text, box, count, lacks = null, task } = works.byName.get(name);
+    const begun = task.kind === "example" ? exampleText(task.id) : "";
+    openTask({ ...task, work: name, begun }, text, at ?? count, "", lacks);
+    if (box !== text)
+      byId("schedule").value = box;
+    showMarks();
+  }
+  var openExample = (name, count) => openTask({ kind: "example", id: name, work: works.newName(`from ${name}`) }, exampleText(name), count);
+  var newSchedule = (list, threads, quota) => openTask(ownTask("my schedule"), scheduleText({ list, threads, quota }), 0);
+  function runBox() {
+    const box = byId("schedule").value;
+    const { text, fault } = scheduleOfDraft(askNow, box === "" || box.endsWith("\n") ? box : `${box}
+`, now.run.lacks);
+    if (fault !== null)
+      return tellLine(fault);
+    const { trace, count } = now.run;
+    if (now.task.kind !== "own" && text !== now.run.text)
+      leaveTask(text);
+    const at = (made2) => made2.refused === null ? Math.min(count, eventsInCommon(trace, made2)) : made2.total;
+    runText(text, at);
+  }
+  function leaveTask(text) {
+    byId("schedule").value = now.run.text;
+    beginTask({ ...ownTask("my schedule"), begun: text }, now.run.lacks);
+  }
+  function runWithOpening() {
+    const keys = byId("opening").value.split(/[\s,]+/).filter((key) => key !== "");
+    byId("schedule").value = withOpening(byId("schedule").value, keys);
+    runBox();
+  }
+  function showHeader(trace) {
+    byId("new-list").value = trace.kind;
+    byId("new-threads").value = trace.threads;
+    byId("new-quota").value = trace.quota;
+  }
+  function runText(text, at, told2 = "") {
+    stopPlay();
+    change("run", { text });
+    byId("schedule").value = text;
+    byId("opening").value = openingIn(text).join(" ");
+    if (held.engine === null)
+      return tellFault(null, "", NO_ENGINE);
+    const asked2 = eventsAsked(text);
+    if (asked2 >= MANY_EVENTS && now.run.lacks === null)
+      return runLong(text, asked2, (answer2) => takeAnswer(answer2, text, at, told2));
+    stopLong();
+    takeAnswer(askList(askNow, "listset_trace", now.run.lacks, text), text, at, told2);
+  }
+  function takeAnswer(answer2, text, at, told2) {
+    const source = now.run.lacks === null ? "run by the proved replayer" : "a run of a broken list";
+    if (isTrace(answer2.text))
+      takeTrace(new Trace(answer2.text, versionOf(text)), at, source);
+    else
+      tellLine(answer2.text.trim());
+    tell(works.isKept ? told2 : `${told2} This browser keeps nothing: save the schedule before you leave the page.`);
+    announce("ran");
+  }
+  var KEPT_BESIDE = "a trace that is kept beside the page";
+  var known = { examples: null };
+  function examples() {
+    if (held.engine === null)
+      return readExamples(EXAMPLES);
+    known.examples ??= readExamples(askNow("listset_examples", "").text);
+    return known.examples;
+  }
+  var isExample = (name) => examples().some((one) => one.name === name);
+  function exampleText(name) {
+    if (held.engine === null || name === "")
+      return null;
+    const answer2 = askNow("listset_example", name);
+    return answer2.status === 0 ? answer2.text : null;
+  }
+  function openKept(name, count) {
+    change("task", { task: { kind: "example", id: name, work: "" } });
+    takeTrace(new Trace(TRACES[name]), count, KEPT_BESIDE);
+    takeScheduleOfTrace();
+    showMarks();
+  }
+  var LINE_HEIGHT = 21;
+  var editor = { isSeen: false };
+  function watchEditor() {
+    const look = ([{ isIntersecting }]) => {
+      editor.isSeen = isIntersecting;
+      if (!isIntersecting || now.run.trace === null)
+        return;
+      scrollToLine(now.run.count > 0 ? now.run.trace.event(now.run.count) : null);
+      showMarks();
+    };
+    new IntersectionObserver(look).observe(byId("editor"));
+  }
+  function scrollToLine(event) {
+    const box = byId("schedule");
+    if (!editor.isSeen || event === null || document.activeElement === box || box.value !== now.run.text)
+      return;
+    const y = LINE_HEIGHT * (event.line - 1);
+    if (y < box.scrollTop || y > box.scrollTop + box.clientHeight - 2 * LINE_HEIGHT)
+      box.scrollTop = y - box.clientHeight / 2;
+  }
+  function showMarks() {
+    const box = byId("schedule");
+    const isStale = box.value !== now.run.text;
+    const top = editor.isSeen ? box.scrollTop : 0;
+    const mark = (line, kind) => `<div class="${kind}" style="top:${6 + LINE_HEIGHT * (line - 1) - top}px"></div>`;
+    const event = now.run.count > 0 ? now.run.trace.event(now.run.count) : null;
     const lines = [];
-    for (const line of text.split("\n").slice(0, -1)) {
-      const asked2 = /^go (\d+) (?:out|to (\d+))$/.exec(line);
-      const { count, fault } = asked2 === null ? { count: null, fault: null } : stepsOfLacking(ask, lacks, lines, asked2[1], asked2[2]);
-      if (fault !== null)
-        return { text: null, fault };
-      lines.push(asked2 === null ? line : `go ${asked2[1]} ${count}`);
-    }
-    return { text: [...lines, ""].join("\n"), fault: null };
+    if (event !== null && now.run.isRun)
+      lines.push(mark(event.line, "event"));
+    if (now.run.faultLine !== null)
+      lines.push(mark(now.run.faultLine, "bad"));
+    byId("marks").innerHTML = isStale ? "" : lines.join("");
+    byId("run").classList.toggle("stale", isStale);
+    byId("run").textContent = isStale ? "Run the changes" : "Run";
   }
 
-  // src/story/phases.js
-  var walkers = (...rows) => Object.fromEntries(rows.map((row) => [row, "walk"]));
-  var PHASES = {
-    plain: { ...walkers(1, 2, 3, 4), 5: "make", 6: "make", 7: "link", 8: "unlink", 9: "unlink", 10: "answer" },
-    coarse: { 1: "lock", ...walkers(2, 3, 4), 5: "make", 6: "make", 7: "link", 8: "unlink", 9: "unlink", 10: "unlock" },
-    fine: {
-      1: "first",
-      2: "next",
-      3: "next",
-      4: "next",
-      5: "letgo",
-      6: "next",
-      7: "make",
-      8: "make",
-      9: "link",
-      10: "unlink",
-      11: "unlink",
-      12: "unlock",
-      13: "unlock"
-    },
-    optimistic: {
-      ...walkers(1, 2, 3),
-      4: "locks",
-      5: "locks",
-      6: "again",
-      7: "again",
-      8: "again",
-      9: "make",
-      10: "make",
-      11: "link",
-      12: "unlink",
-      13: "unlink",
-      14: "unlock",
-      15: "unlock"
-    },
-    lazy: {
-      ...walkers(1, 2, 3, 20, 21, 23, 24),
-      25: "look",
-      4: "locks",
-      5: "locks",
-      6: "check",
-      7: "check",
-      8: "make",
-      9: "make",
-      10: "link",
-      11: "mark",
-      12: "tidy",
-      13: "unlock",
-      14: "unlock",
-      22: "look"
-    },
-    "lock-free": {
-      ...walkers(1, 2, 4, 8, 20, 21, 23, 24),
-      25: "look",
-      3: "snip",
-      5: "make",
-      6: "make",
-      7: "swing",
-      9: "marktry",
-      10: "tidytry",
-      22: "look"
+  // src/course/goal_words.js
+  var GoalFault = class extends Error {
+    constructor(line, fault) {
+      super(fault);
+      this.line = line;
     }
   };
-  var phaseAt = (list, row, plain) => PHASES[plain ? "plain" : list][row] ?? "answer";
-  var joinedRows = (list, plain) => plain ? [10] : list === "lock-free" || list === "lazy" ? [22, 25] : [];
-  var WORDS = {
-    walk: ({ key }) => `walk to the place of ${key}`,
-    make: ({ key }) => `make a node for ${key}`,
-    link: ({ key }) => `hang ${key} in`,
-    unlink: ({ key }) => `point past ${key}`,
-    answer: () => "answer",
-    lock: () => "take the lock",
-    unlock: () => "let go, and answer",
-    first: () => "lock the head",
-    next: () => "lock the next node",
-    letgo: () => "let go of the one behind",
-    locks: () => "lock pred and curr",
-    again: () => "look once more",
-    check: () => "look at the marks",
-    mark: ({ key }) => `mark ${key}: removed`,
-    tidy: ({ key }) => `take ${key} out of the chain`,
-    look: () => "look at the mark",
-    snip: () => "take the marked node out",
-    swing: ({ key }) => `try to hang ${key} in`,
-    marktry: ({ key }) => `try to mark ${key}`,
-    tidytry: ({ key }) => `try to take ${key} out`
+  var isRising = (one, other) => one !== null && other !== null && one < other;
+  var endOf = (found) => found.event ? found.event.number : found.ended ?? Infinity;
+  var answeredKey = (call) => Number(call.reply?.slice("at-".length));
+  var hasSmaller = (call, { keys }) => [...keys].some((key) => call.key <= key && key < answeredKey(call));
+  var CALL_CLAUSES = [
+    [/^(add|remove|contains|ceiling)$/, (call, [operation]) => call.operation === operation],
+    [/^key (\d+)$/, (call, [key]) => call.key === Number(key)],
+    [/^answers a key$/, (call) => call.reply?.startsWith("at-") === true],
+    [/^answers (true|false|full|nothing|at-\d+)$/, (call, [reply]) => call.reply === reply],
+    [/^ended$/, (call) => call.ended !== null],
+    [/^open$/, (call) => call.ended === null],
+    [/^begins after ([A-Z]\w*)$/, (call, [other]) => other.begun < call.begun],
+    [/^takes effect after ([A-Z]\w*)$/, (call, [other]) => isRising(other.at, call.at)],
+    [/^ends during ([A-Z]\w*)$/, (call, [other]) => other.begun < endOf(call) && endOf(call) < (other.ended ?? Infinity)],
+    [/^within ([A-Z]\w*)$/, (call, [{ step, others }]) => call.begun > step.event.number && endOf(call) <= step.event.number + others.length],
+    [/^its key always in the set$/, (call, _, run) => run.ofCall(call).every(({ keys }) => keys.has(call.key))],
+    [/^a smaller key always in the set$/, (call, _, run) => run.ofCall(call).every((moment) => hasSmaller(call, moment))],
+    [/^its node in the chain at its end$/, (call, _, run) => run.lastOf(call)?.chain.includes(run.nodeOf(call)) === true]
+  ];
+  var STEP_CLAUSES = [
+    [/^row (\d+)$/, (step, [row]) => step.row === Number(row)],
+    [/^to row (\d+)$/, (step, [row]) => step.thread.pc === Number(row)],
+    [/^without a reply$/, (step) => step.thread.reply === "none"],
+    [/^fails$/, ({ event }) => isFailed(event)],
+    [/^tries in vain a lock of (\d+)$/, ({ event }, [thread]) => isFailed(event) && isLock(event.word) && event.saw === `t${thread}`],
+    [/^sees a mark$/, ({ event }) => event.saw?.endsWith("*") === true],
+    [/^reads a link$/, ({ event }) => event.deed === "load" && event.word.endsWith(".link")],
+    [/^in the chain$/, (step) => isInChain(step)],
+    [/^out of the chain$/, (step) => !isInChain(step)],
+    [/^holding (\d+)$/, (step, [count]) => locksHeld(step) === Number(count)],
+    [/^last$/, (step) => step.event.answer !== void 0],
+    [/^pred leads to curr$/, (step) => step.linkOfPred === step.thread.curr],
+    [/^at another node than ([A-Z]\w*)$/, (step, [other]) => nodeOf(step.event) !== nodeOf(other.event)],
+    [/^after ([A-Z]\w*)$/, (step, [other]) => step.event.number > endOf(other)],
+    [/^by another thread than ([A-Z]\w*)$/, (step, [other]) => step.event.thread !== (other.event ?? other).thread],
+    [/^in ([A-Z]\w*)$/, (step, [rest]) => rest.others.includes(step)],
+    [/^takes out the node of ([A-Z]\w*)$/, (step, [call], run) => run.isTakenOut(run.nodeOf(call), step)]
+  ];
+  var REST_CLAUSES = [[/^holding (\d+)$/, (rest, [count]) => locksHeld(rest.step) === Number(count)]];
+  var CLAUSES = { call: CALL_CLAUSES, step: STEP_CLAUSES, rest: REST_CLAUSES };
+  var NAMED = {
+    "begins after": "call",
+    "takes effect after": "call",
+    "ends during": "call",
+    within: "rest",
+    in: "rest",
+    "at another node than": "step",
+    "takes out the node of": "call"
   };
-  var phaseText = (phase, call) => WORDS[phase](call);
+  var GOAL_FORMS = '"call C of 0: ..", "step S in C: ..", "rest R of 0", "3 steps of 1: ..", "all calls ended", "say .."';
+  var GOAL_LINE = /^(?:(call|step|rest) ([A-Z]\w*)|(\d+) (call|step)s?)(?: (of|in) (\w+))?(?:: (.+))?$/;
+  function readGoalLine(text, number, names) {
+    const fail = (fault) => {
+      throw new GoalFault(number, fault);
+    };
+    if (text.startsWith("say "))
+      return { says: text.slice("say ".length).trim() };
+    if (text === "all calls ended")
+      return { isWhole: (run) => run.calls.every((call) => call.ended !== null) };
+    const parts = GOAL_LINE.exec(text) ?? fail(`"${text}" is no line of a goal, as ${GOAL_FORMS}`);
+    const [, kind, name, count, kinds, join, whose, clauses = ""] = parts;
+    const sort = kind ?? kinds;
+    const known3 = (word) => names.get(word) ?? fail(`nothing above is named ${word}`);
+    if (join === "in" && known3(whose) !== "call")
+      fail(`${whose} is no call`);
+    if (join === "of" && !/^\d+$/.test(whose))
+      fail(`${whose} is no thread`);
+    const isNew = name !== void 0 && !names.has(name);
+    if (name !== void 0 && !isNew && names.get(name) !== sort)
+      fail(`${name} is a ${names.get(name)}`);
+    if (name !== void 0 && !isNew && join !== void 0)
+      fail(`${name} is found above: "${kind} ${name}: .." asks for more of it`);
+    if (sort === "rest" && isNew && join !== "of")
+      fail('a rest is that of a thread: "rest R of 0"');
+    if (sort !== "step" && join === "in")
+      fail(`a ${sort} is "of" a thread`);
+    const wanted = clauses.split(",").map((clause) => clause.trim()).filter((clause) => clause !== "");
+    const tests = wanted.map((clause) => readClause(sort, clause, known3, fail));
+    if (isNew)
+      names.set(name, sort);
+    return { sort, name, isNew, count: count === void 0 ? null : Number(count), join, whose, tests };
+  }
+  function formOf2([pattern]) {
+    const bare2 = pattern.source.replace(/^\^|\$$/g, "").replaceAll("([A-Z]\\w*)", "X").replace(/\\d\+/g, "N");
+    return bare2.replace(/\(([^)]*)\)/g, "$1");
+  }
+  var formsOf = (sort) => CLAUSES[sort].map(formOf2).join(", ");
+  function readClause(sort, clause, known3, fail) {
+    const isOf = ([pattern]) => pattern.test(clause);
+    const [words, test] = CLAUSES[sort].find(isOf) ?? fail(`"${clause}" is no clause of a ${sort}, which are ${formsOf(sort)}`);
+    const given2 = words.exec(clause).slice(1);
+    for (const word of given2.filter((one) => /^[A-Z]/.test(one))) {
+      const [found, wanted] = [known3(word), NAMED[clause.slice(0, clause.lastIndexOf(" "))]];
+      if (wanted !== void 0 && found !== wanted)
+        fail(`${word} is a ${found}, and a ${wanted} is due there`);
+    }
+    return (found, run, bound) => test(found, given2.map((word) => bound.get(word) ?? word), run);
+  }
+  function readGoal(lines) {
+    const names = /* @__PURE__ */ new Map();
+    const read = lines.map((line, index) => readGoalLine(line, index + 1, names));
+    if (read.at(-1)?.says === void 0)
+      throw new GoalFault(lines.length, 'a goal ends with a line "say .."');
+    return read;
+  }
+  function foundBy(line, run, bound) {
+    if (line.name !== void 0 && !line.isNew)
+      return [bound.get(line.name)];
+    const thread = line.join === "of" ? Number(line.whose) : null;
+    if (line.sort === "rest")
+      return run.restsOf(thread);
+    if (line.sort === "call")
+      return run.calls.filter((call) => thread === null || call.thread === thread);
+    const steps = line.join === "in" ? run.ofCall(bound.get(line.whose)) : run.moments;
+    return steps.filter(({ event }) => event.deed !== "begin" && (thread === null || event.thread === thread));
+  }
+  var MOST_WAYS = 1e5;
+  var TooManyWays = class extends Error {
+  };
+  function canMeet(lines, run) {
+    let left = MOST_WAYS;
+    const from = (at, bound) => {
+      if (at === lines.length)
+        return true;
+      if (left-- === 0)
+        throw new TooManyWays();
+      const line = lines[at];
+      if (line.says !== void 0)
+        return from(at + 1, bound);
+      if (line.isWhole !== void 0)
+        return line.isWhole(run) && from(at + 1, bound);
+      const fits2 = foundBy(line, run, bound).filter((found) => line.tests.every((test) => test(found, run, bound)));
+      if (line.count !== null)
+        return fits2.length >= line.count && from(at + 1, bound);
+      return fits2.some((found) => from(at + 1, new Map(bound).set(line.name, found)));
+    };
+    return from(0, /* @__PURE__ */ new Map());
+  }
+  function conditionsOf(goal, run) {
+    const ends = goal.map(({ says }, index) => ({ says, index })).filter(({ says }) => says !== void 0);
+    return ends.map(({ says, index }) => ({ says, isMet: canMeet(goal.slice(0, index), run) }));
+  }
+  var Run = class {
+    constructor(trace) {
+      const state = new State(trace);
+      const keys = new Set(trace.opening);
+      this.calls = trace.calls;
+      this.moments = trace.events().map((event) => momentAfter(state, keys, event));
+    }
+    ofCall(call) {
+      return this.moments.filter(({ event }) => event.call === call);
+    }
+    lastOf(call) {
+      return this.moments[call.ended - 1];
+    }
+    // The stretches in which a thread makes no step: the moment of its step before, and those of the others up to its next.
+    restsOf(thread) {
+      const steps = this.moments.filter(({ event }) => event.thread === thread);
+      return steps.map((step, at) => {
+        const next = steps[at + 1]?.event.number ?? this.moments.length + 1;
+        return { step, others: this.moments.slice(step.event.number, next - 1) };
+      });
+    }
+    nodeOf(call) {
+      return call.changes ? nodeOf(this.moments[call.at - 1].event) : null;
+    }
+    isTakenOut(node, { event, chain }) {
+      return this.moments[event.number - 2]?.chain.includes(node) === true && !chain.includes(node);
+    }
+  };
+  function momentAfter(state, keys, event) {
+    const row = state.threads[event.thread].pc;
+    state.moveTo(event.number);
+    if (event.put !== void 0)
+      keys.add(event.put);
+    if (event.took !== void 0)
+      keys.delete(event.took);
+    const thread = { ...state.threads[event.thread] };
+    const linkOfPred = state.nodes[thread.pred]?.link;
+    return { event, row, thread, linkOfPred, chain: state.chain(), locks: state.locks(), keys: new Set(keys) };
+  }
+  var locksHeld = ({ locks, event }) => locks[`t${event.thread}`]?.length ?? 0;
+  var nodeOf = (event) => ownerIn(event.word);
+  var isInChain = (moment) => moment.chain.includes(nodeOf(moment.event));
 
-  // src/story/live_run.js
-  var MOST_STEPS2 = 80;
-  var linesOf = (schedule) => schedule.split("\n").filter((line) => /^(begin|go) /.test(line));
-  function runOfText(text) {
-    const valueOf = (word) => new RegExp(`^${word} (.*)$`, "m").exec(text)?.[1];
+  // src/course/course_text.js
+  var COURSE_TITLE = "listset-course 1";
+  var MOST_COURSE = 1e6;
+  var LESSON_WORDS = {
+    lesson: { form: /^[a-z][a-z0-9-]{0,40}$/, says: "a name of small letters, digits and -" },
+    title: { form: /^.{1,80}$/, says: "a title of 1 to 80 letters" },
+    list: { form: /^(coarse|fine|optimistic|lazy|lock-free)$/, says: "coarse, fine, optimistic, lazy or lock-free" },
+    lacks: { form: /^[a-z][a-z-]{0,40}$/, says: "the name of a broken list", isOptional: true },
+    threads: { form: /^([1-9]|[1-5]\d|6[0-4])$/, says: "a number from 1 to 64" },
+    quota: { form: /^(0|[1-9]\d{0,4})$/, says: "a number, the keys that a thread can add" },
+    opening: { form: /^\d+( \d+)*$/, says: "keys, rising, with a space between", isOptional: true },
+    start: { isBlock: true, isOptional: true },
+    question: { isBlock: true },
+    teaches: { isBlock: true, isOptional: true },
+    hint: { isBlock: true, isOptional: true },
+    answer: { isBlock: true, isOptional: true },
+    goal: { isBlock: true },
+    "dead-ends": { isBlock: true, isOptional: true }
+  };
+  var WORDS = Object.keys(LESSON_WORDS);
+  function withoutIndent(text) {
+    const lines = text.replace(/^\ufeff/, "").split("\n").map((line) => line.replaceAll("	", "  ").trimEnd());
+    const first = lines.findIndex((line) => line !== "");
+    const indents = lines.filter((line, index) => index > first && line !== "").map((line) => line.search(/\S/));
+    const most = Math.min(...indents);
+    return lines.map((line, index) => index === first ? line.trimStart() : line.slice(Math.min(most, line.search(/\S|$/))));
+  }
+  var CourseReader = class {
+    constructor(text) {
+      this.faults = [];
+      this.name = "";
+      this.lessons = [];
+      this.block = null;
+      const lines = withoutIndent(text).map((line, index) => ({ line, number: index + 1 }));
+      const [title2, ...rest] = lines.filter(({ line }) => line !== "" && !line.startsWith("#"));
+      if (title2?.line !== COURSE_TITLE)
+        this.fault(title2?.number ?? 1, `expected "${COURSE_TITLE}" here`);
+      else
+        this.takeAll(title2, rest);
+    }
+    takeAll(title2, rest) {
+      rest.forEach(({ line, number }) => this.take(line, number));
+      if (this.name === "")
+        this.fault(title2.number, 'expected the line "course NAME" below it');
+      if (this.lessons.length === 0)
+        this.fault(title2.number, "there is no lesson below");
+    }
+    fault(line, fault) {
+      this.faults.push({ line, fault });
+    }
+    take(line, number) {
+      if (line.startsWith("  ")) {
+        if (this.block === null)
+          this.fault(number, "this line belongs to no word: expected a word alone in a line above it");
+        else
+          this.block.lines.push({ line: line.trim(), number });
+        return;
+      }
+      const word = line.split(" ")[0];
+      const value = line.slice(word.length).trim();
+      this.block = null;
+      if (word === "course" && this.lessons.length === 0)
+        this.name = value.slice(0, 80);
+      else if (Object.hasOwn(LESSON_WORDS, word))
+        this.takeWord(word, value, number);
+      else
+        this.fault(number, `"${word.slice(0, 40)}" is no word of a lesson: one of ${WORDS.join(", ")}`);
+    }
+    takeWord(word, value, number) {
+      const { form, says, isBlock } = LESSON_WORDS[word];
+      const part2 = { number, value, lines: [] };
+      if (isBlock)
+        this.block = part2;
+      if (isBlock && value !== "")
+        this.fault(number, `expected what "${word}" says in the lines below it, each after two spaces`);
+      if (!isBlock && !form.test(value))
+        this.fault(number, `"${value.slice(0, 60)}" is no ${word}: it is ${says}`);
+      if (word === "lesson")
+        return this.lessons.push({ lesson: part2 });
+      const parts = this.lessons[this.lessons.length - 1];
+      if (parts === void 0)
+        return this.fault(number, `expected "lesson NAME" above "${word}"`);
+      const before = Object.keys(parts).pop();
+      if (word in parts)
+        return this.fault(number, `"${word}" is in this lesson already, at line ${parts[word].number}`);
+      if (WORDS.indexOf(word) < WORDS.indexOf(before))
+        this.fault(number, `expected "${word}" above "${before}"`);
+      parts[word] = part2;
+    }
+    lessonOf(parts) {
+      const isDue = (word) => !LESSON_WORDS[word].isOptional && !(word === "goal" && "lacks" in parts);
+      const missing = WORDS.filter((word) => !(word in parts) && isDue(word));
+      if (missing.length > 0) {
+        this.fault(parts.lesson.number, `the lesson lacks ${missing.map((word) => `"${word}"`).join(", ")}`);
+        return null;
+      }
+      const linesOf2 = (word) => (parts[word]?.lines ?? []).map(({ line }) => line);
+      const events = ["start", "answer"].flatMap((word) => parts[word]?.lines ?? []);
+      const lacks = parts.lacks?.value ?? null;
+      if (lacks !== null && LACKING[lacks] !== parts.list.value) {
+        const own = Object.keys(LACKING).filter((name) => LACKING[name] === parts.list.value);
+        const there = own.length === 0 ? "none is broken" : `the broken ones lack ${own.join(", ")}`;
+        this.fault(parts.lacks.number, `there is no ${parts.list.value} list that lacks "${lacks}": ${there}`);
+        return null;
+      }
+      const goal = "goal" in parts ? this.goalOf(parts.goal) : [];
+      const deadEnds = this.deadEndsOf(parts["dead-ends"]);
+      if (goal === null || deadEnds === null)
+        return null;
+      const lesson = { name: parts.lesson.value, line: parts.lesson.number, lacks, goal, deadEnds };
+      for (const word of ["title", "list"])
+        lesson[word] = parts[word].value;
+      for (const word of ["threads", "quota"])
+        lesson[word] = Number(parts[word].value);
+      for (const word of ["question", "teaches", "hint"])
+        lesson[word] = linesOf2(word).join(" ");
+      const opening = parts.opening?.value.split(" ") ?? [];
+      return { ...lesson, opening, start: linesOf2("start"), answer: linesOf2("answer"), events };
+    }
+    goalOf({ number, lines }) {
+      try {
+        return readGoal(lines.map(({ line }) => line));
+      } catch (found) {
+        if (!(found instanceof GoalFault))
+          throw found;
+        this.fault(lines[found.line - 1]?.number ?? number, found.message);
+        return null;
+      }
+    }
+    deadEndsOf(part2) {
+      if (part2 === void 0)
+        return [];
+      const ends = [[]];
+      for (const line of part2.lines) {
+        ends[ends.length - 1].push(line);
+        if (line.line.startsWith("say "))
+          ends.push([]);
+      }
+      const goals = ends.filter((lines) => lines.length > 0).map((lines) => this.goalOf({ number: part2.number, lines }));
+      return goals.includes(null) ? null : goals;
+    }
+  };
+  function readCourse(text) {
+    const reader = new CourseReader(text.slice(0, MOST_COURSE));
+    if (text.length > MOST_COURSE)
+      reader.fault(1, `a course has at most ${MOST_COURSE} letters`);
+    const lessons = reader.lessons.map((parts) => reader.lessonOf(parts)).filter((lesson) => lesson !== null);
+    const twice = lessons.filter((lesson, index) => lessons.findIndex(({ name }) => name === lesson.name) < index);
+    for (const { name, line } of twice)
+      reader.fault(line, `there is a lesson ${name} above`);
+    return { name: reader.name, lessons, faults: reader.faults };
+  }
+  async function passed(bytes, stream) {
+    return new Uint8Array(await new Response(new Blob([bytes]).stream().pipeThrough(stream)).arrayBuffer());
+  }
+  async function courseAddress(text) {
+    const lines = text.split("\n").filter((line) => line.trim() !== "" && !line.startsWith("#"));
+    const bytes = await passed(new TextEncoder().encode(`${lines.join("\n")}
+`), new CompressionStream("deflate-raw"));
+    const letters = btoa(Array.from(bytes, (byte) => String.fromCharCode(byte)).join(""));
+    const address = `#course=${letters.replaceAll("+", "-").replaceAll("/", "_").replace(/=+$/, "")}`;
+    return address.length <= LONGEST_ADDRESS ? address : null;
+  }
+  async function courseOfAddress(letters) {
+    try {
+      const bytes = Uint8Array.from(atob(letters.replaceAll("-", "+").replaceAll("_", "/")), (letter) => letter.charCodeAt(0));
+      return new TextDecoder().decode(await passed(bytes, new DecompressionStream("deflate-raw")));
+    } catch {
+      throw new AddressFault("the course of the address cannot be unpacked: the link is cut");
+    }
+  }
+
+  // src/course/lesson.js
+  var MOST_EVENTS = 1e3;
+  var OTHER_SET = "The list, the number of threads, the quota and the opening keys are to be those of the lesson.";
+  var setOf = (schedule) => schedule.split("\n").slice(1).filter((line) => !/^(begin|go) /.test(line)).join("\n");
+  function runOfSchedule(ask, schedule, lacks) {
+    const made2 = askList(ask, "listset_trace", lacks, schedule).text;
+    if (!isTrace(made2))
+      return { trace: null, fault: { ...readFault(made2), says: `The schedule is refused: ${made2.trim()}.` } };
+    const trace = new Trace(made2, versionOf(schedule));
+    const { refused } = trace;
+    if (refused === null)
+      return { trace, fault: null };
+    const why = sentenceOn(ask, refused.cause, "a schedule") ?? refused.cause;
+    return { trace: null, fault: { ...refused, says: `Line ${refused.line} of the schedule is refused: ${why}.` } };
+  }
+  var unjudged = (reason, fault = null) => ({ isSolved: false, reason, fault, conditions: [], deadEnd: null });
+  function judged(ask, lesson, schedule) {
+    if (setOf(schedule) !== setOf(lesson.begun))
+      return unjudged(OTHER_SET);
+    if (eventsAsked(schedule) > MOST_EVENTS)
+      return unjudged(`A solution has at most ${MOST_EVENTS} events.`);
+    const { trace, fault } = runOfSchedule(ask, schedule, lesson.lacks);
+    if (trace === null)
+      return unjudged(fault.says, fault);
+    const run = new Run(trace);
+    const conditions = withinBound(() => conditionsOfLesson(ask, lesson, schedule, run));
+    if (conditions === null)
+      return unjudged("This run is not judged: there are too many ways in which it could meet the goal.");
+    const isSolved = conditions.every(({ isMet }) => isMet);
+    const deadEnd = withinBound(() => lesson.deadEnds.map((lines) => conditionsOf(lines, run)[0]).find(({ isMet }) => isMet));
+    return { isSolved, reason: null, fault: null, conditions, deadEnd: isSolved ? null : deadEnd?.says ?? null };
+  }
+  function withinBound(search) {
+    try {
+      return search();
+    } catch (fault) {
+      if (!(fault instanceof TooManyWays))
+        throw fault;
+      return null;
+    }
+  }
+  function isBounded(ask, { list, threads, goal }) {
+    const { text, status } = ask("listset_gen", [list, Math.max(threads, 2), 4, 6, 3, 1].join("\0"));
+    const { trace } = status === 0 ? runOfSchedule(ask, text, null) : { trace: null };
+    return trace === null || withinBound(() => conditionsOf(goal, new Run(trace))) !== null;
+  }
+  var conditionTexts = ({ goal, lacks }) => [...goal.map(({ says }) => says), lacks === null ? void 0 : TO_BREAK].filter((says) => says !== void 0);
+  function conditionsOfLesson(ask, { goal, lacks }, schedule, run) {
+    const conditions = conditionsOf(goal, run);
+    if (lacks === null)
+      return conditions;
+    return [...conditions, { says: TO_BREAK, isMet: verdictOnLacking(ask, lacks, schedule).kind === "broken" }];
+  }
+  function missingIn({ reason, conditions }) {
+    const missing = conditions.find(({ isMet }) => !isMet);
+    return reason ?? (missing === void 0 ? null : `missing: ${missing.says}`);
+  }
+  function troubleOf(ask, lesson) {
+    const start = scheduleOfDraft(ask, scheduleText(lesson, lesson.start), lesson.lacks);
+    if (start.fault !== null)
+      return refusedLine(ask, lesson, "start", readFault(start.fault));
+    lesson.begun = start.text;
+    const begin9 = runOfSchedule(ask, start.text, lesson.lacks);
+    if (begin9.trace === null)
+      return refusedLine(ask, lesson, "start", begin9.fault);
+    if (!isBounded(ask, lesson)) {
+      return { line: lesson.line, says: "there are too many ways to meet its goal: name fewer steps, or say more of each" };
+    }
+    const met = withinBound(() => conditionsOfLesson(ask, lesson, start.text, new Run(begin9.trace))) ?? [{ isMet: false }];
+    if (met.every(({ isMet }) => isMet))
+      return { line: lesson.line, says: "its start meets the goal already" };
+    lesson.solution = null;
+    if (lesson.answer.length === 0)
+      return null;
+    const answer2 = scheduleOfDraft(ask, scheduleText(lesson, [...lesson.start, ...lesson.answer]), lesson.lacks);
+    if (answer2.fault !== null)
+      return refusedLine(ask, lesson, "answer", readFault(answer2.fault));
+    lesson.solution = answer2.text;
+    const verdict = judged(ask, lesson, answer2.text);
+    if (verdict.isSolved)
+      return null;
+    if (verdict.reason !== null)
+      return refusedLine(ask, lesson, "answer", verdict.fault ?? { line: null, cause: null, says: verdict.reason });
+    return { line: lesson.line, says: `its answer does not solve it: ${missingIn(verdict)}` };
+  }
+  function refusedLine(ask, lesson, part2, { line, cause, says }) {
+    const given2 = lesson.events[line - HEADER_LINES - lesson.opening.length - 1];
+    const why = sentenceOn(ask, cause, "a schedule", "a draft");
+    if (given2 === void 0 || why === null)
+      return { line: lesson.line, says: `its ${part2} is refused: ${says}` };
+    return { line: given2.number, says: `its ${part2} is refused at "${given2.line}": ${why}` };
+  }
+  function triedCourse(ask, text) {
+    const { name, lessons, faults } = readCourse(text);
+    for (const lesson of faults.length === 0 ? lessons : []) {
+      const fault = troubleOf(ask, lesson);
+      if (fault !== null)
+        faults.push({ line: fault.line, fault: `${lesson.name}: ${fault.says}` });
+    }
+    return { name, lessons, text, faults: faults.sort((one, other) => one.line - other.line) };
+  }
+
+  // src/course/hand_in.js
+  var HAND_IN_TITLE = "listset-lessons 2";
+  function handInText(course, student, solutions, otherLines) {
+    const lines = solutions.map(({ name, schedule }) => `${name} ${addressOf(schedule, eventsAsked(schedule))}`);
+    return [HAND_IN_TITLE, `course ${course}`, `student ${student}`, ...lines, ...otherLines, "end", ""].join("\n");
+  }
+  function unmailed(text) {
+    const isCoded = /=3D/i.test(text);
+    const lines = [];
+    let goesOn = false;
+    text.split(/\r\n|\r|\n/).forEach((given2, index) => {
+      const bare2 = given2.replace(/[\u200b\ufeff]/g, "").replaceAll(" ", " ").replace(/^[\s>|]+/, "").trimEnd();
+      const line = isCoded ? bare2.replace(/=$/, "") : bare2;
+      if (goesOn)
+        lines[lines.length - 1].line += line;
+      else
+        lines.push({ line, number: index + 1 });
+      goesOn = isCoded && bare2.endsWith("=");
+    });
+    const letterOf2 = (_, code) => String.fromCharCode(parseInt(code, 16));
+    const decoded = (line) => isCoded ? line.replace(/=([0-9A-F]{2})/gi, letterOf2) : line;
+    return lines.map(({ line, number }) => ({ line: decoded(line).replaceAll("&amp;", "&"), number }));
+  }
+  function textsIn(text) {
+    const found = [];
+    const given2 = text.split(/\r\n|\r|\n/);
+    for (const { line, number } of unmailed(text)) {
+      const last = found.at(-1);
+      if (line === COURSE_TITLE)
+        found.push({ kind: "course", number, lines: [] });
+      else if (line === HAND_IN_TITLE)
+        found.push({ kind: "hand-in", number, lines: [] });
+      else if (last?.kind === "hand-in" && !last.isEnded && line === "end")
+        last.isEnded = true;
+      else if (last?.kind === "hand-in" && !last.isEnded && line !== "")
+        last.lines.push({ line, number });
+    }
+    for (const [index, course] of found.entries()) {
+      if (course.kind !== "course")
+        continue;
+      course.text = given2.slice(course.number - 1, (found[index + 1]?.number ?? given2.length + 1) - 1).join("\n");
+    }
+    return found;
+  }
+  var isBegin = (line) => /^(student|course|judge|break) /.test(line) || /^[a-z][a-z0-9-]* +(\S*#|<?https?:)/.test(line);
+  var lacksWords = (line) => /^judge /.test(line) ? line.split(" ").length < 4 : !/^(student|course) /.test(line) && !line.includes("#");
+  var isPiece = (line) => !line.includes(" ") || /^\S*[.,=&]\S* /.test(line);
+  function readHandIn({ lines, isEnded, number }) {
+    const parts = [];
+    const faults = [];
+    for (const given2 of lines) {
+      const last = parts.at(-1);
+      const isName = /^[a-z][a-z0-9-]*$/.test(given2.line) && (last === void 0 || !lacksWords(last.line));
+      if (isBegin(given2.line) || isName)
+        parts.push({ ...given2 });
+      else if (last !== void 0 && lacksWords(last.line))
+        last.line += ` ${given2.line}`;
+      else if (last !== void 0 && isPiece(given2.line))
+        last.line += given2.line;
+      else
+        faults.push({ line: given2.number, fault: `"${given2.line.slice(0, 40)}" is no line of a solution` });
+    }
+    const valueOf = (word) => parts.find(({ line }) => line.startsWith(`${word} `))?.line.slice(word.length + 1) ?? null;
+    if (!isEnded)
+      faults.push({ line: number, fault: 'the text is cut: the line "end" is missing' });
+    const solutions = parts.filter(({ line }) => !/^(student|course) /.test(line));
+    return { course: valueOf("course"), student: valueOf("student"), solutions, faults };
+  }
+  function readSchedule(link) {
+    try {
+      const { text } = readAddress(link.slice(link.indexOf("#")).replace(/>$/, ""));
+      return text === null ? { fault: "the address is not that of a schedule" } : { schedule: text };
+    } catch (fault) {
+      if (!(fault instanceof AddressFault))
+        throw fault;
+      return { fault: fault.message };
+    }
+  }
+  function judgedPart(ask, lessons, line) {
+    const [word, ...words] = line.split(/ +/);
+    if (word === "judge")
+      return judgedOrder(ask, words);
+    if (word === "break")
+      return judgedBreak(ask, words);
+    const lesson = lessons.find(({ name }) => name === word);
+    const not = (says) => ({ task: lesson?.name ?? null, isSolved: false, says });
+    if (lesson === void 0)
+      return not(`there is no lesson ${JSON.stringify(word.slice(0, 60))}`);
+    if (words.length === 0 || !words[0].includes("#"))
+      return not("the address of a schedule is missing, from # on");
+    if (words.length > 1)
+      return not("there is more behind the address");
+    const { schedule, fault } = readSchedule(words[0]);
+    if (fault !== void 0)
+      return not(fault);
+    const verdict = judged(ask, lesson, schedule);
+    if (!verdict.isSolved)
+      return not(missingIn(verdict));
+    return { task: lesson.name, isSolved: true, says: "", schedule, isVeryAnswer: schedule === lesson.solution };
+  }
+  function judgedOrder(ask, [run = "", level = "", word = "", ...more]) {
+    const task = `judge ${run} ${level}`;
+    const not = (says2) => ({ task, isSolved: false, says: says2 });
+    if (!Object.hasOwn(LEVELS, level))
+      return not(`a level is due, one of ${Object.keys(LEVELS).join(", ")}`);
+    if (more.length > 0)
+      return not("there is more behind the order");
+    const { schedule, fault } = run.includes("#") ? readSchedule(run) : scheduleOfExample(ask, run);
+    if (fault !== void 0)
+      return not(fault);
+    const report = ask("listset_replay", schedule);
+    if (report.status !== 0)
+      return not(`the schedule is refused: ${report.text.trim()}`);
+    const answer2 = answerOfWord(exerciseOf(report.text, level), word);
+    if (answer2 === null)
+      return not("the order is due, as 0-true,2-true,1-false");
+    const { isRight, says } = verdictOn(ask, answer2);
+    return { task, isSolved: isRight === true, says: isRight === true ? "" : says };
+  }
+  function judgedBreak(ask, [name = "", link = "", ...more]) {
+    const task = `break ${name}`;
+    const not = (says) => ({ task, isSolved: false, says });
+    if (!Object.hasOwn(LACKING, name) || name === NO_TASK)
+      return not("there is no such list to break");
+    if (!link.includes("#"))
+      return not("the address of a schedule is due, from # on");
+    if (more.length > 0)
+      return not("there is more behind the address");
+    const { schedule, fault } = readSchedule(link);
+    if (fault !== void 0)
+      return not(fault);
+    if (eventsAsked(schedule) > MOST_EVENTS)
+      return not(`at most ${MOST_EVENTS} events are due`);
+    const verdict = verdictOnLacking(ask, name, schedule);
+    if (!isTaskDone(name, verdict))
+      return not(verdict.says);
+    return { task, isSolved: true, says: "", schedule, ofExample: exampleBy(ask, name, schedule) };
+  }
+  function exampleBy(ask, name, schedule) {
+    const shown4 = (example) => {
+      const text = ask("listset_example", example).text;
+      return scheduleOfTrace(new Trace(askList(ask, "listset_trace", name, text).text, versionOf(text)));
+    };
+    return Object.keys(CLASSICS).find((example) => CLASSICS[example].lacks.includes(name) && shown4(example) === schedule) ?? null;
+  }
+  function scheduleOfExample(ask, name) {
+    const { status, text } = ask("listset_example", name);
+    return status === 0 ? { schedule: text } : { fault: `there is no example ${JSON.stringify(name.slice(0, 60))}` };
+  }
+
+  // src/run/check_trace.js
+  var NUMBER2 = "(?:0|[1-9]\\d{0,9})";
+  var NODE = `(?:head|tail|n${NUMBER2})`;
+  var KEY = `(?:[-+]inf|${NUMBER2})`;
+  var REPLY = `(?:true|false|full|nothing|at-${NUMBER2})`;
+  var VALUES = { lock: `(?:free|t${NUMBER2})`, key: KEY, link: `${NODE}\\*?`, threads: NUMBER2, quota: NUMBER2 };
+  function accessOf([field, value]) {
+    const word = `(?:list|${NODE})\\.${field}`;
+    return `load ${word} saw ${value}|store ${word} ${value}|exchange ${word} from ${value} to ${value} saw ${value}`;
+  }
+  var ACCESS = Object.entries(VALUES).map(accessOf).join("|");
+  var registers = (names, value) => names.map((name) => `(?: ${name} ${value})?`).join("");
+  var CHANGES = `${registers(NODE_REGISTERS, NODE)}${registers(KEY_REGISTERS, KEY)}(?: used ${NUMBER2})?(?: reply (?:none|${REPLY}))?`;
+  var BEGIN = `begin (?:${CALL_WORDS.join("|")}) ${NUMBER2} call ${NUMBER2} pc ${NUMBER2}`;
+  var STEP = `(?:${ACCESS}) pc ${NUMBER2}${CHANGES}(?: (?:put|took) ${NUMBER2})?(?: answer ${REPLY} call ${NUMBER2} at ${NUMBER2})?`;
+  var EVENT = new RegExp(`^event (${NUMBER2}) line ${NUMBER2} thread (${NUMBER2}) (?:${BEGIN}|${STEP})$`);
+  var CHAIN = new RegExp(`^chain(?: ${NUMBER2}\\*?)*$`);
+  var LAST = new RegExp(`^(?:end|refused line ${NUMBER2} (?:NoThread|Busy|Idle|Lost))$`);
+  var HEAD = [
+    (line) => line === "listset-trace 1",
+    (line) => line.startsWith("list ") && Object.hasOwn(LISTS, line.slice("list ".length)),
+    (line, list) => !line.startsWith("lacks ") || LACKING[line.slice("lacks ".length)] === list.slice("list ".length),
+    (line) => /^threads ([1-9]|[1-5]\d|6[0-4])$/.test(line),
+    (line) => /^quota (0|[1-9]\d{0,4})$/.test(line)
+  ];
+  function wrongLine(lines) {
+    const head2 = lines[2]?.startsWith("lacks ") ? HEAD : HEAD.filter((_, at2) => at2 !== 2);
+    const wrong = head2.findIndex((isLine, at2) => !isLine(lines[at2] ?? "", lines[1]));
+    if (wrong !== -1)
+      return wrong;
+    const threads = Number(lines[head2.length - 2].split(" ")[1]);
+    let [at, events] = [head2.length, 0];
+    while (/^opening \d+$/.test(lines[at]))
+      at++;
+    for (; !LAST.test(lines[at]); at++) {
+      const [, number, thread] = EVENT.exec(lines[at]) ?? [];
+      if (number === void 0 ? !CHAIN.test(lines[at]) : Number(number) !== ++events || Number(thread) >= threads)
+        return at;
+    }
+    return lines.length === at + 2 && lines[at + 1] === "" ? -1 : at + 1;
+  }
+  function wrongEvent(text) {
+    let count = 0;
+    try {
+      const trace = new Trace(text);
+      const state = new State(trace);
+      for (; count < trace.total; count++) {
+        state.moveTo(count + 1);
+        if (state.threads[trace.event(count + 1).thread].call === null)
+          return count + 1;
+      }
+      return null;
+    } catch {
+      return count + 1;
+    }
+  }
+  function faultOfTrace(text) {
+    const lines = text.split("\n");
+    const at = wrongLine(lines);
+    if (at !== -1)
+      return `line ${at + 1}: "${(lines[at] ?? "").slice(0, 80)}" is no line of a trace here`;
+    const event = wrongEvent(text);
+    return event === null ? null : `event ${event} cannot come here`;
+  }
+
+  // src/run/recorded.js
+  var RECORDED_EXAMPLE = `listset-calls 1
+opening 8
+call 0 add 5 1 4 true
+call 1 add 5 2 3 true
+call 2 remove 8 5 6 true
+key 5
+end
+`;
+  var MOST_DRAWN = 40;
+  var withNewline = (text) => text === "" || text.endsWith("\n") ? text : `${text}
+`;
+  var recordedInWords = (call) => call.ended === null ? `${nameOfCall(call)}, begun at ${call.begun}, is pending` : `${nameOfCall(call)} answers ${call.reply}, from ${call.begun} to ${call.ended}`;
+  function okInWords({ count, isCutOff }) {
+    const calls = count === 1 ? "this one call" : `these ${count.toLocaleString("en")} calls`;
+    const keys = isCutOff ? ", whatever keys it leaves" : " and leaves the keys";
+    return `Linearizable: an order explains ${calls}${keys}. It says nothing of other runs.`;
+  }
+  function remarksOn({ count, overlapped, isCutOff }) {
+    const few = "That is few, and a bug shows only if calls meet: take fewer keys, more threads, or pauses in the set.";
+    return [
+      `${overlapped} of them overlap a change of their key.`,
+      ...20 * overlapped < count ? [few] : [],
+      ...isCutOff ? ["The recording was cut off: some keys left fit, and those that were left are not known."] : [],
+      ...count > MOST_DRAWN ? [`The first ${MOST_DRAWN} calls are drawn.`] : []
+    ];
+  }
+  var isInWords = (isThere) => `the key is ${isThere ? "there" : "not there"}`;
+  function reasonsOf({ key, moment, since, isThere, by, calls, hidden }) {
+    if (key === null)
+      return ["No order leaves these keys, which do not increase."];
+    const isLeft = moment === null;
+    const said2 = [`No order explains the calls of key ${key} ${isLeft ? "and leaves it as it was left" : `up to moment ${moment}`}.`];
+    if (since === null)
+      return said2;
+    const from = since === "0" ? "At first" : `After the calls that ended by moment ${since}`;
+    said2.push(`${from} ${isInWords(isThere)}${by === null ? "" : `, by this change: ${recordedInWords(by)}`}.`);
+    const these = `From there these calls have no order${isLeft ? " that leaves the key as it was left" : ""}`;
+    said2.push(calls.length === 0 ? "No later call changes it." : `${these}: ${calls.map(recordedInWords).join("; ")}.`);
+    if (hidden === null)
+      return said2;
+    const { count, first, last } = hidden;
+    const more = count === 1 ? `1 more call of the key that began at moment ${first} is` : `${count} more calls of the key that began at moments ${first} to ${last} are`;
+    return [...said2, `${more} not shown: whatever ${count === 1 ? "it" : "they"} did, these have no order.`];
+  }
+  function verdictOfOk(judged2, text) {
+    return { kind: "ok", says: okInWords(judged2), reasons: remarksOn(judged2), calls: callsOfRecording(text, MOST_DRAWN), from: null };
+  }
+  function verdictOfRefusal(why, text) {
+    const { key, moment, since, isThere, by, calls } = why;
+    const atEnd = moment === null ? [`At the end the set ${leavesKey(text, key) ? "has it" : "does not have it"}.`] : [];
     return {
-      threads: Number(valueOf("threads")),
-      quota: Number(valueOf("quota")),
-      opening: openingIn(text).map(Number),
-      lines: linesOf(text)
+      kind: "none",
+      says: `Not linearizable: no order at all explains these calls${moment === null ? " and leaves the keys" : ""}.`,
+      reasons: [...reasonsOf(why), ...atEnd],
+      calls: [...by === null ? [] : [by], ...calls].slice(-MOST_DRAWN),
+      from: since === null || since === "0" ? null : { moment: BigInt(since), says: isInWords(isThere) }
     };
   }
-  var ShownRun = class {
-    /** @param {any} trace @param {any} state */
-    constructor(trace, state, count = 0) {
-      this.trace = trace;
-      this.state = state;
-      this.count = count;
+  function troubleInWords(ask, { cause, says }) {
+    const why = sentenceOn(ask, cause, "recorded calls");
+    return why === null ? says : `${says}: ${why}.`;
+  }
+  function verdictOnCalls(ask, answer2, text) {
+    const judged2 = readVerdict(answer2);
+    if (judged2.kind === "ok")
+      return verdictOfOk(judged2, text);
+    if (judged2.kind === "none")
+      return verdictOfRefusal(judged2.why, text);
+    return { kind: "fault", says: troubleInWords(ask, judged2.fault), reasons: [], calls: [], from: null };
+  }
+
+  // src/page/files.js
+  var REPLY_WIDTH = 60;
+  function saveText(name, text, type = "text/plain") {
+    const link = document.createElement("a");
+    link.href = URL.createObjectURL(new Blob([text], { type }));
+    link.download = name;
+    link.click();
+    URL.revokeObjectURL(link.href);
+  }
+  function onFile(input, take2) {
+    input.onchange = async () => {
+      const [file] = input.files;
+      await take2(await file.text(), file.name);
+      input.value = "";
+    };
+  }
+  function kindOfFile(text) {
+    if (text.startsWith("listset-trace"))
+      return "trace";
+    if (text.startsWith("listset-calls"))
+      return "calls";
+    if (text.startsWith("listset-course"))
+      return "course";
+    return text.startsWith("listset-report") ? "report" : "schedule";
+  }
+  function comparedTrace(ask, trace) {
+    if (ask === null)
+      return "a trace from a file; its grammar was checked";
+    if (trace.refused !== null)
+      return "a trace from a file; its grammar was checked, and it ends with a refused event";
+    const own = askList(ask, "listset_trace", trace.lacks, scheduleOfTrace(trace));
+    const engines = trace.lacks === null ? "the proved replayer" : "the engine";
+    if (!isTrace(own.text))
+      return `a trace from a file; ${engines} does not run its schedule: ${own.text.trim()}`;
+    const given2 = trace.text.split("\n").filter((line2) => !/^chain( |$)/.test(line2));
+    const line = own.text.split("\n").findIndex((text, index) => text !== given2[index]);
+    if (line === -1)
+      return `a trace from a file, and ${engines} gives the same for its schedule`;
+    const event = Math.max(line + 1 - trace.text.split("\n").findIndex((text) => text.startsWith("event ")), 1);
+    return `a trace from a file; ${engines} gives another, from its event ${event} on`;
+  }
+  async function openFile(text, name) {
+    const kind = kindOfFile(text);
+    const isJudged = kind === "report" || kind === "calls";
+    tellTrouble("");
+    if ((isJudged || kind === "course") && held.engine === null)
+      return tellTrouble(NO_ENGINE);
+    if (kind === "course")
+      return announce("course", text);
+    if (kind === "calls")
+      return announce("recorded", text);
+    if (kind === "report") {
+      await openReportBox();
+      return showReport(text, `The report in ${name}:`);
     }
-    isIdle(thread) {
-      return this.state.threads[thread].pc === 0;
-    }
-    // The keys that the answers promise, and those that a walk over the list finds.
-    promised() {
-      return promisedKeys(this.trace);
-    }
-    has() {
-      return keysInChain(this.state);
-    }
-  };
-  var LiveRun = class extends ShownRun {
-    /** @param {RunSpec} spec */
-    constructor(spec) {
-      super(null, null);
-      this.spec = { lacks: null, threads: 2, quota: 2, opening: [], plain: false, version: 2, ...spec };
-      this.first = this.expanded(spec.lines ?? []);
-      this.take(this.first);
-    }
-    // Lines in which `go T out` and `go T to ROW` may stand, as the schedule that the engine makes of them.
-    expanded(lines) {
-      const { text, fault } = scheduleOfDraft(askNow, this.textOf(lines), this.spec.lacks);
-      if (fault !== null)
-        throw new Error(fault);
-      return linesOf(text);
-    }
-    textOf(lines) {
-      const { list, threads, quota, opening, version } = this.spec;
-      const head2 = [titleOf(version), `list ${list}`, `threads ${threads}`, `quota ${quota}`];
-      return `${[...head2, ...opening.map((key) => `opening ${key}`), ...lines].join("\n")}
+    const task = ownTask(`from ${name}`);
+    if (kind === "schedule")
+      return openTask(task, text, 0);
+    openTrace(text, task);
+  }
+  function openTrace(text, task) {
+    const fault = faultOfTrace(text);
+    if (fault !== null)
+      return tellTrouble(`this is no trace: ${fault}`);
+    beginTask(task);
+    takeTrace(new Trace(text), 0, "a trace from a file");
+    takeScheduleOfTrace();
+    dispatch("run", { source: comparedTrace(held.engine === null ? null : askNow, now.run.trace) });
+  }
+  async function openReportBox() {
+    const box = byId("report-box");
+    if (box.open)
+      return;
+    await new Promise((done2) => {
+      box.addEventListener("toggle", done2, { once: true });
+      box.open = true;
+    });
+  }
+  async function showReport(text, whose) {
+    byId("report").textContent = text;
+    byId("report-of").textContent = whose;
+    const checked = (await askLong("listset_check", text)).text.trim();
+    if (byId("report").textContent !== text)
+      return;
+    byId("checked").textContent = checked;
+    if (text.length < LONG_TEXT)
+      drawPicture(text);
+    else
+      byId("picture-box").hidden = true;
+  }
+  function drawPicture(text) {
+    const drawn2 = askNow("listset_show_svg", text).text;
+    byId("picture-box").hidden = !drawn2.startsWith("<svg ");
+    if (byId("picture-box").hidden)
+      return;
+    byId("picture").innerHTML = drawn2;
+    const said2 = refusalIn(text);
+    byId("picture-says").textContent = said2;
+    const svg = byId("picture").firstElementChild;
+    svg.setAttribute("role", "img");
+    svg.setAttribute("aria-label", `the calls of the report${said2 === "" ? "" : `; ${said2}`}`);
+    scrollToClash();
+  }
+  function refusalIn(text) {
+    const refused = askNow("listset_show", text).text.split("\n").filter((line) => line.startsWith("refused "));
+    const { why } = readVerdict(askNow("listset_check_record", text));
+    return [...refused.slice(0, 1), ...why === null ? [] : reasonsOf(why)].join("; ");
+  }
+  function scrollToClash() {
+    const box = byId("picture");
+    const clash = box.querySelector(".bar.clash");
+    const left = box.getBoundingClientRect().left - box.scrollLeft;
+    box.scrollLeft = clash === null ? 0 : clash.getBoundingClientRect().right + REPLY_WIDTH - left - box.clientWidth;
+  }
+  async function showOwnReport(schedule) {
+    const { lacks } = now.run;
+    const answer2 = lacks === null ? await askLong("listset_replay", schedule) : askList(askNow, "listset_replay", lacks, schedule);
+    if (now.run.text !== schedule)
+      return;
+    if (answer2.status === 0)
+      return showReport(answer2.text, "The report of this schedule:");
+    byId("report").textContent = answer2.text;
+    byId("report-of").textContent = "There is no report:";
+    byId("checked").textContent = "—";
+    if (lacks === null)
+      drawPicture(schedule);
+    else
+      byId("picture-box").hidden = true;
+  }
+  function refreshReport() {
+    if (byId("report-box").open && held.engine !== null)
+      showOwnReport(now.run.text);
+  }
+  var DRAWN_BY = [
+    "fill",
+    "stroke",
+    "stroke-width",
+    "stroke-dasharray",
+    "fill-opacity",
+    "stroke-opacity",
+    "opacity",
+    "font-family",
+    "font-size",
+    "font-weight",
+    "font-style",
+    "text-anchor",
+    "paint-order",
+    "text-decoration-line"
+  ];
+  function drawnOut(svg) {
+    const copy = svg.cloneNode(true);
+    const parts = [...svg.querySelectorAll("*")];
+    [...copy.querySelectorAll("*")].forEach((part2, index) => {
+      const style = getComputedStyle(parts[index]);
+      for (const name of DRAWN_BY)
+        part2.style.setProperty(name, style.getPropertyValue(name));
+    });
+    return copy;
+  }
+  function wholePicture() {
+    const drawings = [...byId("stage").querySelectorAll(":is(.list, .strip, #judge-bars) svg")].filter((svg) => svg.clientWidth > 0);
+    const boxes = drawings.map((svg) => ({ svg, width: svg.clientWidth, height: svg.clientHeight }));
+    const width = Math.max(...boxes.map((box) => box.width));
+    let y = 0;
+    const placed2 = boxes.map(({ svg, width: own, height }) => {
+      const copy = drawnOut(svg);
+      Object.entries({ x: 0, y, width: own, height }).forEach(([name, value]) => copy.setAttribute(name, value));
+      y += height + 8;
+      return new XMLSerializer().serializeToString(copy);
+    });
+    const ground = `<rect width="100%" height="100%" fill="${getComputedStyle(document.body).backgroundColor}"/>`;
+    const frame = `width="${width}" height="${y}" viewBox="0 0 ${width} ${y}"`;
+    return `<svg xmlns="http://www.w3.org/2000/svg" ${frame}>${ground}${placed2.join("")}</svg>
 `;
+  }
+  var savePicture = () => saveText("page.svg", wholePicture());
+
+  // src/story/kept.js
+  var STORY = "listset-story";
+  var BROKEN = "listset-broken";
+  var NAMED2 = "listset-named-checks";
+  var NOTHING = { at: 1, done: {}, asks: {}, student: "", number: "", homework: null };
+  var keptStory = () => ({ ...NOTHING, ...keptUnder(STORY) });
+  var keepStory = (change2) => keepUnder(STORY, { ...keptStory(), ...change2 });
+  var isBrokenLine = ([name, line]) => Object.hasOwn(LACKING, name) && isText(line);
+  var brokenLines = () => Object.entries(keptUnder(BROKEN) ?? {}).filter(isBrokenLine);
+  var isBrokenOnce = (name) => brokenLines().some(([one]) => one === name);
+  var keepBrokenLine = (name, line) => keepUnder(BROKEN, { ...keptUnder(BROKEN), [name]: line });
+  var isNamed = (name) => (keptUnder(NAMED2) ?? []).includes(name);
+  var keepNamed = (name) => keepUnder(NAMED2, [.../* @__PURE__ */ new Set([...keptUnder(NAMED2) ?? [], name])]);
+  function startAfresh(button) {
+    if (button.dataset.isSure !== "yes") {
+      button.dataset.isSure = "yes";
+      button.textContent = "Press again: answers, solutions and names kept here go";
+      return;
     }
-    traceOf(lines) {
-      const { text } = askList(askNow, "listset_trace", this.spec.lacks, this.textOf(lines));
-      if (!isTrace(text))
-        throw new Error(text.trim());
-      return new Trace(text, this.spec.version);
+    change("run", { text: "" });
+    try {
+      for (const name of Object.keys(localStorage))
+        if (name.startsWith("listset-"))
+          localStorage.removeItem(name);
+    } catch {
     }
-    take(lines) {
-      this.lines = [...lines];
-      this.trace = this.traceOf(this.lines);
-      this.state = new State(this.trace);
-      this.moveTo(this.trace.total);
+    location.hash = "#story=1&gone=yes";
+    location.reload();
+  }
+  var LESSONS_KEPT = "listset-lessons-2";
+  var textsKept = (kept) => Object.entries(kept ?? {}).filter(([, text]) => isText(text));
+  var namesKept = (kept) => Array.isArray(kept) ? kept.filter(isText) : [];
+  var KeptLessons = class {
+    constructor() {
+      const kept = keptUnder(LESSONS_KEPT) ?? {};
+      this.course = isText(kept.course) ? kept.course : BOOK_NAME;
+      this.courses = new Map(textsKept(kept.courses));
+      this.of = new Map(Object.entries(kept.of ?? {}).map(([name, own]) => [name, ownOf(own)]));
     }
-    // The lines that lead to the moment that is shown.
-    linesHere() {
-      return linesOf(scheduleOfTrace(this.trace, this.count));
+    ofCourse(name) {
+      if (!this.of.has(name))
+        this.of.set(name, ownOf({}));
+      return this.of.get(name);
     }
-    get schedule() {
-      return this.textOf(this.lines);
-    }
-    moveTo(count) {
-      this.count = Math.max(0, Math.min(this.trace.total, count));
-      this.state.moveTo(this.count);
-    }
-    // What a thread would do next, up to where something else begins: the number of its steps, its phase, and whether it waits.
-    nextOf(thread, call = null) {
-      const isBegin2 = this.isIdle(thread);
-      const lines = isBegin2 ? [...this.lines, `begin ${thread} ${call.join(" ")}`] : this.lines;
-      const trace = this.traceOf([...lines, `go ${thread} ${MOST_STEPS2}`]);
-      const begun = this.trace.total + lines.length - this.lines.length;
-      const row = isBegin2 ? trace.event(begun).changes.pc : this.state.threads[thread].pc;
-      return { ...this.chunk(trace, begun, row), thread, row, isBegin: isBegin2 };
-    }
-    chunk(trace, begun, row) {
-      const { list, plain } = this.spec;
-      const phase = phaseAt(list, row, plain);
-      const joined2 = this.spec.free && !plain ? [] : joinedRows(list, plain);
-      let steps = 0;
-      let before = row;
-      for (let number = begun + 1; number <= trace.total; number++) {
-        const event = trace.event(number);
-        steps++;
-        if (event.answer !== void 0)
-          break;
-        const after = event.changes.pc;
-        const ofLock = isFailed(event) && isLock(event.word);
-        const waits = ofLock && after === before;
-        if (waits || isFailed(event) && !ofLock)
-          return { steps, phase, waits };
-        before = after;
-        if (phaseAt(list, after, plain) !== phase && !joined2.includes(after))
-          break;
-      }
-      return { steps, phase, waits: false };
-    }
-    // How many steps lead a thread to where this is so, end its call, or lead to a lock for which it waits.
-    stepsUntil(thread, isThere) {
-      const { total } = this.trace;
-      const trace = this.traceOf([...this.lines, `go ${thread} ${MOST_STEPS2}`]);
-      for (let number = total + 1; number <= trace.total; number++) {
-        const event = trace.event(number);
-        if (event.answer !== void 0 || isThere(event) || this.waitsAt(event))
-          return number - total;
-      }
-      return 1;
-    }
-    waitsAt(event) {
-      return isFailed(event) && isLock(event.word) && this.spec.lacks !== "lock";
-    }
-    begin(thread, [operation, key]) {
-      this.take([...this.lines, `begin ${thread} ${operation} ${key}`]);
-    }
-    go(thread, steps) {
-      this.take([...this.lines, `go ${thread} ${steps}`]);
-    }
-    // What the proved judge says of the run: whether some order of the calls explains their answers and what is left.
-    verdict() {
-      return verdictOnLacking(askNow, this.spec.lacks, this.schedule);
-    }
-    isBroken() {
-      return this.spec.lacks !== null && this.verdict().kind === "broken";
+    save() {
+      const toObject = ({ solutions, looked: looked4 }) => ({ solutions: Object.fromEntries(solutions), looked: [...looked4] });
+      const of = Object.fromEntries([...this.of].map(([name, own]) => [name, toObject(own)]));
+      return keepUnder(LESSONS_KEPT, { course: this.course, courses: Object.fromEntries(this.courses), of });
     }
   };
+  var ownOf = (kept) => ({ solutions: new Map(textsKept(kept?.solutions)), looked: new Set(namesKept(kept?.looked)) });
 
   // src/draw/glide.js
   var TIME = 260;
@@ -5325,7 +6867,7 @@ ${END}`) && text.startsWith(before.text.slice(0, -END.length));
       drawKey(node, (x + side) / 2, y + 34, isRead),
       label({ class: "name", x: x + 2, y: y - 10 }, name),
       isMarked ? label({ class: "cross", x: side + LINK_WIDTH / 2, y: y + 34 }, "✗") : "",
-      node.lock === "free" ? "" : drawLock(node.lock, x + width - 38, y - 28)
+      node.lock === "free" ? "" : drawLock(node.lock, x + Math.max(width - 38, 44), y - 28)
     );
   }
   var drawHot = ({ x, y, width }) => tag("rect", { "data-hot": x, class: "hot", x: x - 6, y: y - 6, width: width + 12, height: NODE_HEIGHT + 12, rx: 9 });
@@ -5368,17 +6910,8 @@ ${END}`) && text.startsWith(before.text.slice(0, -END.length));
     return label({ class: "name", x: 16, y: 20 }, "the list's lock") + lock;
   }
   var HATCH = { id: "hatch", width: 7, height: 7, patternUnits: "userSpaceOnUse", patternTransform: "rotate(45)" };
-  var DEFINITIONS = tag(
-    "defs",
-    {},
-    tag(
-      "pattern",
-      HATCH,
-      tag("rect", { class: "ground", width: 7, height: 7 }),
-      tag("line", { class: "stripe", x1: 0, x2: 0, y1: 0, y2: 7 })
-    ),
-    ...["in", "out", "hot"].map(drawTip)
-  );
+  var STRIPES = tag("rect", { class: "ground", width: 7, height: 7 }) + tag("line", { class: "stripe", x1: 0, x2: 0, y1: 0, y2: 7 });
+  var DEFINITIONS = tag("defs", {}, tag("pattern", HATCH, STRIPES), ...["in", "out", "hot"].map(drawTip));
   function drawList(state, event, { chain, items, places, labels, names, more, width, height: high }, least = 0, own = "") {
     const above = state.trace.kind === "coarse" ? -4 : TOP - LOCK_HEIGHT;
     const height = Math.max(high, least) - above;
@@ -5411,8 +6944,49 @@ ${END}`) && text.startsWith(before.text.slice(0, -END.length));
     return `${letterOf(thread)} ${callText(held2.call)} at row ${held2.pc}${at === "" ? "" : `: ${at}`}${has}`;
   }
 
-  // src/data/book_code.js
-  var CHANGES = ["add", "remove"];
+  // src/story/code.js
+  var WORDS2 = /\b(while|if|else|return|start again|loop|until|unlock|lock|find|validate|CAS|mark|new)\b/g;
+  function linesShown({ list, operations, plain, hides = [], instead = {} }) {
+    const isShown3 = ({ of, rows = [0] }) => (of === void 0 || of.some((name) => operations.includes(name))) && !rows.every((row) => hides.includes(row));
+    const lines = BOOK_CODE[list].filter(isShown3).map((line) => ({ ...line, text: instead[line.rows?.[0]] ?? line.text }));
+    if (!plain)
+      return lines;
+    return lines.filter(({ rows }) => rows?.[0] !== 1).map((line) => line.rows?.includes(10) ? { text: "return", rows: [10] } : line);
+  }
+  function wordsOf(text, rows, struck) {
+    const inBold = (words) => escaped(words).replace(WORDS2, "<b>$1</b>");
+    const part2 = struck.find(({ row }) => rows.includes(row))?.part;
+    if (part2 === void 0 || !text.includes(part2))
+      return inBold(text);
+    const at = text.indexOf(part2);
+    const missing = tag("del", {}, tag("span", { class: "unseen" }, "missing: "), escaped(part2));
+    return `${inBold(text.slice(0, at))}${missing}${inBold(text.slice(at + part2.length))}`;
+  }
+  var drawHere = (threads) => threads.length < 3 ? threads.map(chipOf).join("") : `${chipOf(threads[0])}<small>+${threads.length - 1}</small>`;
+  function drawOwnLine({ text, rows = [], isPlain = false }, { next, made: made2, fresh = [], struck = [], canStep, active }) {
+    const here3 = next.filter(({ row }) => rows.includes(row)).map(({ thread }) => thread);
+    const isMade = made2 !== null && rows.includes(made2.row);
+    const isHead = rows.length === 0 && !isPlain;
+    const kinds = [
+      "line",
+      isHead ? "of" : "",
+      isMade ? `made ${colourOf(made2.thread)}` : "",
+      here3.length > 0 ? `lit ${colourOf(here3[0])}` : "",
+      rows.some((row) => fresh.includes(row)) ? "fresh" : ""
+    ];
+    const words = isHead ? escaped(text.trim()) : wordsOf(text.trim(), rows, struck);
+    const depth = text.match(/^ */)[0].length;
+    const gutter = tag("span", { class: "gutter", "data-run": letterOf(active) }, drawHere(here3));
+    const inside = gutter + tag("code", { style: `padding-left:${depth * 0.4}em` }, words);
+    const given2 = { class: kinds.filter((kind) => kind !== "").join(" "), "data-rows": rows.join(" ") };
+    if (rows.length === 0 || !canStep)
+      return tag("li", given2, tag("span", { class: "row" }, inside));
+    const what = here3.length > 0 ? `next line of ${here3.map(letterOf).join(" and ")}: press to step` : `${letterOf(active)} runs to this line`;
+    const button = { class: "row", title: what, "aria-label": `${text.trim()}; ${what}`, "data-threads": here3.join(" ") };
+    return tag("li", given2, tag("button", button, inside));
+  }
+  var drawOwnCode = (spec) => tag("ol", { class: "steps" }, ...linesShown(spec).map((line) => drawOwnLine(line, spec)));
+  var CHANGES2 = ["add", "remove"];
   var READS = [
     { of: ["contains"], text: "contains(key):  no lock, no retry" },
     { of: ["contains"], text: "  curr = curr.next, from the head", rows: [20] },
@@ -5470,27 +7044,27 @@ ${END}`) && text.startsWith(before.text.slice(0, -END.length));
       { text: "if not valid: start again; return", isPlain: true }
     ],
     lazy: [
-      { of: CHANGES, text: "pred = head; curr = pred.next", rows: [1] },
-      { of: CHANGES, text: "while curr.key < key:", rows: [2] },
-      { of: CHANGES, text: "    pred = curr; curr = curr.next", rows: [3] },
-      { of: CHANGES, text: "lock pred; lock curr", rows: [4, 5] },
-      { of: CHANGES, text: "validate: pred unmarked, leads to curr", rows: [6] },
-      { of: CHANGES, text: "    and curr unmarked", rows: [7] },
+      { of: CHANGES2, text: "pred = head; curr = pred.next", rows: [1] },
+      { of: CHANGES2, text: "while curr.key < key:", rows: [2] },
+      { of: CHANGES2, text: "    pred = curr; curr = curr.next", rows: [3] },
+      { of: CHANGES2, text: "lock pred; lock curr", rows: [4, 5] },
+      { of: CHANGES2, text: "validate: pred unmarked, leads to curr", rows: [6] },
+      { of: CHANGES2, text: "    and curr unmarked", rows: [7] },
       { of: ["add"], text: "add, if curr.key ≠ key:" },
       { of: ["add"], text: "    node = new Node(key, next = curr)", rows: [8, 9] },
       { of: ["add"], text: "    pred.next = node", rows: [10] },
       { of: ["remove"], text: "remove, if curr.key = key:" },
       { of: ["remove"], text: "    mark curr", rows: [11] },
       { of: ["remove"], text: "    pred.next = curr.next", rows: [12] },
-      { of: CHANGES, text: "unlock curr; unlock pred", rows: [13, 14] },
-      { of: CHANGES, text: "if not valid: start again; return", isPlain: true },
+      { of: CHANGES2, text: "unlock curr; unlock pred", rows: [13, 14] },
+      { of: CHANGES2, text: "if not valid: start again; return", isPlain: true },
       ...READS
     ],
     "lock-free": [
-      { of: CHANGES, text: "find: pred = head; curr = pred.next", rows: [1] },
-      { of: CHANGES, text: "    succ, marked = curr.next", rows: [2] },
-      { of: CHANGES, text: "    marked? CAS pred.next: curr → succ", rows: [3] },
-      { of: CHANGES, text: "    if curr.key < key: go one node on", rows: [4] },
+      { of: CHANGES2, text: "find: pred = head; curr = pred.next", rows: [1] },
+      { of: CHANGES2, text: "    succ, marked = curr.next", rows: [2] },
+      { of: CHANGES2, text: "    marked? CAS pred.next: curr → succ", rows: [3] },
+      { of: CHANGES2, text: "    if curr.key < key: go one node on", rows: [4] },
       { of: ["add"], text: "add, if curr.key ≠ key:" },
       { of: ["add"], text: "    node = new Node(key, next = curr)", rows: [5, 6] },
       { of: ["add"], text: "    CAS pred.next: curr, no mark → node", rows: [7] },
@@ -5504,50 +7078,94 @@ ${END}`) && text.startsWith(before.text.slice(0, -END.length));
     ]
   };
 
-  // src/story/code.js
-  var WORDS2 = /\b(while|if|else|return|start again|loop|until|unlock|lock|find|validate|CAS|mark|new)\b/g;
-  function linesShown({ list, operations, plain, hides = [], instead = {} }) {
-    const isShown3 = ({ of, rows = [0] }) => (of === void 0 || of.some((name) => operations.includes(name))) && !rows.every((row) => hides.includes(row));
-    const lines = BOOK_CODE[list].filter(isShown3).map((line) => ({ ...line, text: instead[line.rows?.[0]] ?? line.text }));
-    if (!plain)
-      return lines;
-    return lines.filter(({ rows }) => rows?.[0] !== 1).map((line) => line.rows?.includes(10) ? { text: "return", rows: [10] } : line);
-  }
-  function wordsOf(text, rows, struck) {
-    const inBold = (words) => escaped(words).replace(WORDS2, "<b>$1</b>");
-    const part2 = struck.find(({ row }) => rows.includes(row))?.part;
-    if (part2 === void 0 || !text.includes(part2))
-      return inBold(text);
-    const at = text.indexOf(part2);
-    const missing = tag("del", {}, tag("span", { class: "unseen" }, "missing: "), escaped(part2));
-    return `${inBold(text.slice(0, at))}${missing}${inBold(text.slice(at + part2.length))}`;
-  }
-  var drawHere = (threads) => threads.length < 3 ? threads.map(chipOf).join("") : `${chipOf(threads[0])}<small>+${threads.length - 1}</small>`;
-  function drawOwnLine({ text, rows = [], isPlain = false }, { next, made: made2, fresh = [], struck = [], canStep, active }) {
-    const here3 = next.filter(({ row }) => rows.includes(row)).map(({ thread }) => thread);
-    const isMade = made2 !== null && rows.includes(made2.row);
-    const isHead = rows.length === 0 && !isPlain;
-    const kinds = [
-      "line",
-      isHead ? "of" : "",
-      isMade ? `made ${colourOf(made2.thread)}` : "",
-      here3.length > 0 ? `lit ${colourOf(here3[0])}` : "",
-      rows.some((row) => fresh.includes(row)) ? "fresh" : ""
-    ];
-    const words = isHead ? escaped(text.trim()) : wordsOf(text.trim(), rows, struck);
-    const depth = text.match(/^ */)[0].length;
-    const gutter = tag("span", { class: "gutter", "data-run": letterOf(active) }, drawHere(here3));
-    const inside = gutter + tag("code", { style: `padding-left:${depth * 0.4}em` }, words);
-    const given2 = { class: kinds.filter((kind) => kind !== "").join(" "), "data-rows": rows.join(" ") };
-    if (rows.length === 0 || !canStep)
-      return tag("li", given2, tag("span", { class: "row" }, inside));
-    const what = here3.length > 0 ? `next line of ${here3.map(letterOf).join(" and ")}: press to step` : `${letterOf(active)} runs to this line`;
-    const button = { class: "row", title: what, "aria-label": `${text.trim()}; ${what}`, "data-threads": here3.join(" ") };
-    return tag("li", given2, tag("button", button, inside));
-  }
-  var drawOwnCode = (spec) => tag("ol", { class: "steps" }, ...linesShown(spec).map((line) => drawOwnLine(line, spec)));
-
   // src/story/tale.js
+  var walkers = (...rows) => Object.fromEntries(rows.map((row) => [row, "walk"]));
+  var PHASES = {
+    plain: { ...walkers(1, 2, 3, 4), 5: "make", 6: "make", 7: "link", 8: "unlink", 9: "unlink", 10: "answer" },
+    coarse: { 1: "lock", ...walkers(2, 3, 4), 5: "make", 6: "make", 7: "link", 8: "unlink", 9: "unlink", 10: "unlock" },
+    fine: {
+      1: "first",
+      2: "next",
+      3: "next",
+      4: "next",
+      5: "letgo",
+      6: "next",
+      7: "make",
+      8: "make",
+      9: "link",
+      10: "unlink",
+      11: "unlink",
+      12: "unlock",
+      13: "unlock"
+    },
+    optimistic: {
+      ...walkers(1, 2, 3),
+      4: "locks",
+      5: "locks",
+      6: "again",
+      7: "again",
+      8: "again",
+      9: "make",
+      10: "make",
+      11: "link",
+      12: "unlink",
+      13: "unlink",
+      14: "unlock",
+      15: "unlock"
+    },
+    lazy: {
+      ...walkers(1, 2, 3, 20, 21, 23, 24),
+      25: "look",
+      4: "locks",
+      5: "locks",
+      6: "check",
+      7: "check",
+      8: "make",
+      9: "make",
+      10: "link",
+      11: "mark",
+      12: "tidy",
+      13: "unlock",
+      14: "unlock",
+      22: "look"
+    },
+    "lock-free": {
+      ...walkers(1, 2, 4, 8, 20, 21, 23, 24),
+      25: "look",
+      3: "snip",
+      5: "make",
+      6: "make",
+      7: "swing",
+      9: "marktry",
+      10: "tidytry",
+      22: "look"
+    }
+  };
+  var phaseAt = (list, row, plain) => PHASES[plain ? "plain" : list][row] ?? "answer";
+  var joinedRows = (list, plain) => plain ? [10] : list === "lock-free" || list === "lazy" ? [22, 25] : [];
+  var WORDS3 = {
+    walk: ({ key }) => `walk to the place of ${key}`,
+    make: ({ key }) => `make a node for ${key}`,
+    link: ({ key }) => `hang ${key} in`,
+    unlink: ({ key }) => `point past ${key}`,
+    answer: () => "answer",
+    lock: () => "take the lock",
+    unlock: () => "let go, and answer",
+    first: () => "lock the head",
+    next: () => "lock the next node",
+    letgo: () => "let go of the one behind",
+    locks: () => "lock pred and curr",
+    again: () => "look once more",
+    check: () => "look at the marks",
+    mark: ({ key }) => `mark ${key}: removed`,
+    tidy: ({ key }) => `take ${key} out of the chain`,
+    look: () => "look at the mark",
+    snip: () => "take the marked node out",
+    swing: ({ key }) => `try to hang ${key} in`,
+    marktry: ({ key }) => `try to mark ${key}`,
+    tidytry: ({ key }) => `try to take ${key} out`
+  };
+  var phaseText = (phase, call) => WORDS3[phase](call);
   var bold = (text) => `<b>${text}</b>`;
   var nodeName = (state, name) => {
     if (name === "head")
@@ -5713,20 +7331,22 @@ ${END}`) && text.startsWith(before.text.slice(0, -END.length));
     const reply = last === void 0 ? "" : `<small>${callText(last)}: <b class="reply ${last.reply}">${answerText(last.reply)}</b></small>`;
     return threadRow2(thread, `<span class="choose">${fields}<button data-begin="${thread}">begin</button></span> ${reply}`);
   }
-  function showStrip(figure, given2) {
+  function showStrip(figure) {
     const { run } = figure;
-    const box = figure.part("strip");
-    const wide = Math.max(280, given2);
+    const wide = Math.max(280, figure.stripWide);
     const room = 26 + 9 * `{${run.promised().join(", ")}}`.length;
     const scale = scaleOf(run.trace, run.count, wide - room, figure.hides);
     Object.assign(scale, { edge: scale.edge + room, width: wide });
     figure.scale = scale;
-    setHtml(box, tag("div", { class: "calls" }, drawCalls(run.trace, scale)) + drawContents(run.trace, scale));
-    if (scale.height > MOST_CALLS && run.count > 0)
-      scrollToLane(box.firstElementChild, scale.y(run.trace.event(run.count).thread));
+    setHtml(figure.part("strip"), tag("div", { class: "calls" }, drawCalls(run.trace, scale)) + drawContents(run.trace, scale));
   }
   var MOST_CALLS = 400;
-  function scrollToLane(box, y) {
+  function scrollToLane(figure) {
+    const { run, scale } = figure;
+    if (scale.height <= MOST_CALLS || run.count === 0)
+      return;
+    const box = figure.part("calls");
+    const y = scale.y(run.trace.event(run.count).thread);
     if (y < box.scrollTop + 20 || y > box.scrollTop + box.clientHeight - 20)
       box.scrollTop = y - box.clientHeight / 2;
   }
@@ -5745,6 +7365,61 @@ ${END}`) && text.startsWith(before.text.slice(0, -END.length));
     slider.setAttribute("aria-valuetext", `step ${count} of ${trace.total}: ${figure.part("tale").textContent}`);
     box.querySelector(".count").textContent = `${count} of ${trace.total}`;
     box.hidden = !figure.isOpen;
+  }
+  var MOST_KEY = 999;
+  function pressed(figure, event) {
+    const button = event.target.closest("button");
+    if (button === null || !figure.box.contains(button))
+      return;
+    const { step, move, begin: begin9, active } = button.dataset;
+    if (step !== void 0)
+      figure.step(Number(step));
+    else if (button.closest("[data-rows]") !== null)
+      pressLine(figure, button);
+    else if (active !== void 0)
+      figure.set({ active: Number(active) });
+    else if ("again" in button.dataset)
+      figure.again();
+    else if ("undo" in button.dataset)
+      figure.undo();
+    else if (move !== void 0)
+      figure.moveTo(figure.run.count + Number(move));
+    else if (begin9 !== void 0)
+      beginOwn(figure, Number(begin9));
+  }
+  function pressLine(figure, button) {
+    if (figure.isBusy || !figure.canStep)
+      return;
+    const rows = button.closest("[data-rows]").dataset.rows.split(" ").map(Number);
+    const here3 = (button.dataset.threads ?? "").split(" ").filter((text) => text !== "").map(Number);
+    const thread = here3.length === 0 || here3.includes(figure.active) ? figure.active : here3[0];
+    const isIdle = figure.run.isIdle(thread);
+    if (isIdle && figure.left(thread).length === 0)
+      return figure.tell(`${chipOf(thread)} has no call under way.`);
+    figure.leaves();
+    const from = figure.run.trace.total;
+    if (isIdle)
+      figure.run.begin(thread, figure.left(thread)[0]);
+    const isThere = ({ changes }) => rows.includes(changes.pc);
+    const isOff = (event) => !isThere(event) || event.deed === "exchange";
+    figure.play(thread, figure.run.stepsUntil(thread, here3.length > 0 ? isOff : isThere), from);
+  }
+  function chooseCall(figure, row) {
+    const call = [row.querySelector("select").value, row.querySelector("input").value];
+    figure.chosen = { ...figure.chosen, [row.dataset.thread]: call };
+  }
+  function beginOwn(figure, thread) {
+    if (figure.isBusy || !figure.canStep)
+      return;
+    chooseCall(figure, figure.box.querySelector(`[data-thread="${thread}"]`));
+    const [operation, key] = figure.chosen[thread];
+    if (!/^\d+$/.test(key) || Number(key) > MOST_KEY)
+      return figure.tell(`A number from 0 to ${MOST_KEY}, please.`);
+    figure.leaves();
+    figure.active = thread;
+    figure.run.begin(thread, [operation, Number(key)]);
+    figure.draw(true);
+    figure.onStep?.(figure);
   }
 
   // src/story/figure_parts.js
@@ -5767,8 +7442,6 @@ ${END}`) && text.startsWith(before.text.slice(0, -END.length));
   }
   function drawFigure(figure, moment, isNear) {
     const { run, spec, box } = figure;
-    figure.wide = figure.part("list").clientWidth;
-    const [wide, scrolled] = [figure.part("strip").clientWidth, figure.part("lines")?.scrollTop];
     placeTheList(figure, moment, isNear);
     const tale = figure.told ?? taleHere(figure, moment);
     const words = tale === "" ? spec.tale ?? "" : tale;
@@ -5776,12 +7449,24 @@ ${END}`) && text.startsWith(before.text.slice(0, -END.length));
       figure.part("tale").innerHTML = words;
     box.classList.toggle("at-end", run.count === run.trace.total);
     box.classList.toggle("shut", !figure.canStep);
-    showCode(figure, moment, scrolled);
+    showCode(figure, moment);
     showDock(figure);
     if (spec.strip)
-      showStrip(figure, wide);
+      showStrip(figure);
     if (spec.scrub)
       showScrub(figure);
+    scrollSoon(figure, moment.event?.thread ?? figure.active);
+  }
+  function scrollSoon(figure, moved) {
+    cancelAnimationFrame(figure.scroll);
+    figure.scroll = requestAnimationFrame(() => {
+      if (figure.isEnded)
+        return;
+      scrollToTouched(figure);
+      scrollToLit(figure, moved);
+      if (figure.spec.strip)
+        scrollToLane(figure);
+    });
   }
   function taleHere({ run, spec }, moment) {
     if (spec.sentence)
@@ -5820,7 +7505,6 @@ ${END}`) && text.startsWith(before.text.slice(0, -END.length));
           name.remove();
     };
     glide(box, draw6, isNear);
-    scrollToTouched(box, room);
   }
   function fitList({ spec, most: { width } }, svg, room, own) {
     const [, top, , high] = svg.getAttribute("viewBox").split(" ").map(Number);
@@ -5830,11 +7514,12 @@ ${END}`) && text.startsWith(before.text.slice(0, -END.length));
     svg.setAttribute("width", width * scale);
     svg.setAttribute("height", high * scale);
   }
-  function scrollToTouched(box, room) {
+  function scrollToTouched(figure) {
+    const [box, room] = [figure.part("list"), figure.wide];
     const drawn2 = box.firstElementChild;
-    const wide = Number(drawn2.getAttribute("width"));
+    const wide = Number(drawn2?.getAttribute("width"));
     const touched = wide <= room ? null : box.querySelector("[data-hot]");
-    if (touched === null)
+    if (touched == null)
       return;
     const [x, , width] = drawn2.getAttribute("viewBox").split(" ").map(Number);
     const at = (Number(touched.getAttribute("x")) - x) * (wide / width);
@@ -5864,7 +7549,7 @@ ${END}`) && text.startsWith(before.text.slice(0, -END.length));
     const hidden = isGuess ? spec.hidden?.operations ?? [] : [];
     return [.../* @__PURE__ */ new Set([...spec.operations ?? [], ...planned, ...begun])].filter((name) => !hidden.includes(name));
   }
-  function showCode(figure, { state, event, before }, scrolled) {
+  function showCode(figure, { state, event, before }) {
     const box = figure.part("lines");
     if (box === null)
       return;
@@ -5877,79 +7562,149 @@ ${END}`) && text.startsWith(before.text.slice(0, -END.length));
     const made2 = event === null || event.deed === "begin" ? null : { row: before.pc, thread: event.thread };
     const next = state.threads.map((own, thread) => ({ thread, row: own.pc })).filter(({ row }) => row !== 0);
     const hides = (figure.isGuess ? spec.hidden?.hides : void 0) ?? spec.hides;
-    box.innerHTML = drawOwnCode({ list, plain, fresh, struck, hides, instead, operations: operationsOf(figure), next, made: made2, canStep, active });
-    box.scrollTop = scrolled;
+    setHtml(box, drawOwnCode({ list, plain, fresh, struck, hides, instead, operations: operationsOf(figure), next, made: made2, canStep, active }));
     const toggles = figure.shown.filter(isAble).map((thread) => toggleOf(thread, active));
-    figure.part("runs").innerHTML = canStep && toggles.length > 1 ? toggles.join("") : "";
-    scrollToLit(box, event?.thread ?? active);
+    setHtml(figure.part("runs"), canStep && toggles.length > 1 ? toggles.join("") : "");
   }
   var toggleOf = (thread, active) => `<button class="who ${colourOf(thread)}" data-active="${thread}" aria-pressed="${thread === active}"
   title="${letterOf(thread)} runs to another line that is pressed">${letterOf(thread)}</button>`;
-  function scrollToLit(box, moved) {
-    const line = box.querySelector(`.lit.${colourOf(moved)}`) ?? box.querySelector(".made") ?? box.querySelector(".lit");
-    if (line === null || box.scrollHeight <= box.clientHeight)
+  function scrollToLit(figure, moved) {
+    const box = figure.part("lines");
+    const line = box?.querySelector(`.lit.${colourOf(moved)}`) ?? box?.querySelector(".made") ?? box?.querySelector(".lit");
+    if (line == null || box.scrollHeight <= box.clientHeight)
       return;
     const y = line.offsetTop - box.offsetTop;
     if (y < box.scrollTop + 10 || y > box.scrollTop + box.clientHeight - 50)
       box.scrollTop = y - box.clientHeight / 2;
   }
 
-  // src/story/figure_press.js
-  var MOST_KEY = 999;
-  function pressed(figure, event) {
-    const button = event.target.closest("button");
-    if (button === null || !figure.box.contains(button))
-      return;
-    const { step, move, begin: begin11, active } = button.dataset;
-    if (step !== void 0)
-      figure.step(Number(step));
-    else if (button.closest("[data-rows]") !== null)
-      pressLine(figure, button);
-    else if (active !== void 0)
-      figure.set({ active: Number(active) });
-    else if ("again" in button.dataset)
-      figure.again();
-    else if ("undo" in button.dataset)
-      figure.undo();
-    else if (move !== void 0)
-      figure.moveTo(figure.run.count + Number(move));
-    else if (begin11 !== void 0)
-      beginOwn(figure, Number(begin11));
+  // src/story/live_run.js
+  var MOST_STEPS = 80;
+  var linesOf = (schedule) => schedule.split("\n").filter((line) => /^(begin|go) /.test(line));
+  function runOfText(text) {
+    const valueOf = (word) => new RegExp(`^${word} (.*)$`, "m").exec(text)?.[1];
+    return {
+      threads: Number(valueOf("threads")),
+      quota: Number(valueOf("quota")),
+      opening: openingIn(text).map(Number),
+      lines: linesOf(text)
+    };
   }
-  function pressLine(figure, button) {
-    if (figure.isBusy || !figure.canStep)
-      return;
-    const rows = button.closest("[data-rows]").dataset.rows.split(" ").map(Number);
-    const here3 = (button.dataset.threads ?? "").split(" ").filter((text) => text !== "").map(Number);
-    const thread = here3.length === 0 || here3.includes(figure.active) ? figure.active : here3[0];
-    const isIdle = figure.run.isIdle(thread);
-    if (isIdle && figure.left(thread).length === 0)
-      return figure.tell(`${chipOf(thread)} has no call under way.`);
-    figure.leaves();
-    const from = figure.run.trace.total;
-    if (isIdle)
-      figure.run.begin(thread, figure.left(thread)[0]);
-    const isThere = ({ changes }) => rows.includes(changes.pc);
-    const isOff = (event) => !isThere(event) || event.deed === "exchange";
-    figure.play(thread, figure.run.stepsUntil(thread, here3.length > 0 ? isOff : isThere), from);
-  }
-  function chooseCall(figure, row) {
-    const call = [row.querySelector("select").value, row.querySelector("input").value];
-    figure.chosen = { ...figure.chosen, [row.dataset.thread]: call };
-  }
-  function beginOwn(figure, thread) {
-    if (figure.isBusy || !figure.canStep)
-      return;
-    chooseCall(figure, figure.box.querySelector(`[data-thread="${thread}"]`));
-    const [operation, key] = figure.chosen[thread];
-    if (!/^\d+$/.test(key) || Number(key) > MOST_KEY)
-      return figure.tell(`A number from 0 to ${MOST_KEY}, please.`);
-    figure.leaves();
-    figure.active = thread;
-    figure.run.begin(thread, [operation, Number(key)]);
-    figure.draw(true);
-    figure.onStep?.(figure);
-  }
+  var ShownRun = class {
+    /** @param {any} trace @param {any} state */
+    constructor(trace, state, count = 0) {
+      this.trace = trace;
+      this.state = state;
+      this.count = count;
+    }
+    isIdle(thread) {
+      return this.state.threads[thread].pc === 0;
+    }
+    // The keys that the answers promise, and those that a walk over the list finds.
+    promised() {
+      return promisedKeys(this.trace);
+    }
+    has() {
+      return keysInChain(this.state);
+    }
+  };
+  var LiveRun = class extends ShownRun {
+    /** @param {RunSpec} spec */
+    constructor(spec) {
+      super(null, null);
+      this.spec = { lacks: null, threads: 2, quota: 2, opening: [], plain: false, version: 2, ...spec };
+      this.first = this.expanded(spec.lines ?? []);
+      this.take(this.first);
+    }
+    expanded(lines) {
+      const { text, fault } = scheduleOfDraft(askNow, this.textOf(lines), this.spec.lacks);
+      if (fault !== null)
+        throw new Error(fault);
+      return linesOf(text);
+    }
+    textOf(lines) {
+      return scheduleText(this.spec, lines);
+    }
+    traceOf(lines) {
+      const { text } = askList(askNow, "listset_trace", this.spec.lacks, this.textOf(lines));
+      if (!isTrace(text))
+        throw new Error(text.trim());
+      return new Trace(text, this.spec.version);
+    }
+    take(lines) {
+      this.lines = [...lines];
+      this.trace = this.traceOf(this.lines);
+      this.state = new State(this.trace);
+      this.moveTo(this.trace.total);
+    }
+    linesHere() {
+      return linesOf(scheduleOfTrace(this.trace, this.count));
+    }
+    get schedule() {
+      return this.textOf(this.lines);
+    }
+    moveTo(count) {
+      this.count = Math.max(0, Math.min(this.trace.total, count));
+      this.state.moveTo(this.count);
+    }
+    // What a thread would do next, up to where something else begins: the number of its steps, its phase, and whether it waits.
+    nextOf(thread, call = null) {
+      const isBegin2 = this.isIdle(thread);
+      const lines = isBegin2 ? [...this.lines, `begin ${thread} ${call.join(" ")}`] : this.lines;
+      const trace = this.traceOf([...lines, `go ${thread} ${MOST_STEPS}`]);
+      const begun = this.trace.total + lines.length - this.lines.length;
+      const row = isBegin2 ? trace.event(begun).changes.pc : this.state.threads[thread].pc;
+      return { ...this.chunk(trace, begun, row), thread, row, isBegin: isBegin2 };
+    }
+    chunk(trace, begun, row) {
+      const { list, plain } = this.spec;
+      const phase = phaseAt(list, row, plain);
+      const joined2 = this.spec.free && !plain ? [] : joinedRows(list, plain);
+      let steps = 0;
+      let before = row;
+      for (let number = begun + 1; number <= trace.total; number++) {
+        const event = trace.event(number);
+        steps++;
+        if (event.answer !== void 0)
+          break;
+        const after = event.changes.pc;
+        const ofLock = isFailed(event) && isLock(event.word);
+        const waits = ofLock && after === before;
+        if (waits || isFailed(event) && !ofLock)
+          return { steps, phase, waits };
+        before = after;
+        if (phaseAt(list, after, plain) !== phase && !joined2.includes(after))
+          break;
+      }
+      return { steps, phase, waits: false };
+    }
+    // How many steps lead a thread to where this is so, end its call, or lead to a lock for which it waits.
+    stepsUntil(thread, isThere) {
+      const { total } = this.trace;
+      const trace = this.traceOf([...this.lines, `go ${thread} ${MOST_STEPS}`]);
+      for (let number = total + 1; number <= trace.total; number++) {
+        const event = trace.event(number);
+        if (event.answer !== void 0 || isThere(event) || this.waitsAt(event))
+          return number - total;
+      }
+      return 1;
+    }
+    waitsAt(event) {
+      return isFailed(event) && isLock(event.word) && this.spec.lacks !== "lock";
+    }
+    begin(thread, [operation, key]) {
+      this.take([...this.lines, `begin ${thread} ${operation} ${key}`]);
+    }
+    go(thread, steps) {
+      this.take([...this.lines, `go ${thread} ${steps}`]);
+    }
+    verdict() {
+      return verdictOnLacking(askNow, this.spec.lacks, this.schedule);
+    }
+    isBroken() {
+      return this.spec.lacks !== null && this.verdict().kind === "broken";
+    }
+  };
 
   // src/story/figure.js
   var BIT = 300;
@@ -5958,8 +7713,11 @@ ${END}`) && text.startsWith(before.text.slice(0, -END.length));
   var sleep = (time) => new Promise((done2) => setTimeout(done2, time));
   var drawn = { count: 0 };
   var tellBusy = (isBusy) => document.body.dataset.busy = isBusy ? "yes" : "no";
+  var STILL = { dock: false, names: true, strip: true, short: true, again: false };
   var Figure = class {
     id = `f${drawn.count++}`;
+    active = 0;
+    // the thread that runs to a line of the code
     past = [];
     // what stood there before each deed
     isBusy = false;
@@ -5978,16 +7736,18 @@ ${END}`) && text.startsWith(before.text.slice(0, -END.length));
     hides = true;
     // of the history, what comes later
     wide = 0;
+    // of the list, in pixels
+    stripWide = 0;
+    scroll = 0;
     told = null;
     onStep = null;
     onFork = null;
-    /** @param {any} box @param {FigureSpec} spec */
+    /** @param {any} box @param {import("./live_run.js").RunSpec & { [name: string]: any }} spec */
     constructor(box, spec) {
       this.box = box;
       this.spec = spec;
       this.run = spec.run ?? new LiveRun(spec);
       this.shown = spec.shown ?? this.run.state.threads.map((_, thread) => thread);
-      this.active = spec.active ?? 0;
       this.chosen = spec.chosen ?? {};
       this.most = { width: 0, height: spec.tall && !isNarrow() ? 262 : 0 };
       frameOf(this);
@@ -5995,9 +7755,13 @@ ${END}`) && text.startsWith(before.text.slice(0, -END.length));
       box.addEventListener("input", ({ target }) => target.closest(".choose") !== null && chooseCall(this, target.closest("[data-thread]")));
       this.stretch = new ResizeObserver(() => {
         if (this.part("list").clientWidth !== this.wide)
-          requestAnimationFrame(() => this.isEnded || this.draw());
+          requestAnimationFrame(() => this.isEnded || this.fit());
       });
       this.stretch.observe(this.part("list"));
+      this.fit();
+    }
+    fit() {
+      [this.wide, this.stripWide] = ["list", "strip"].map((name) => this.part(name).clientWidth);
       this.draw();
     }
     end() {
@@ -6008,7 +7772,6 @@ ${END}`) && text.startsWith(before.text.slice(0, -END.length));
     part(name) {
       return this.box.querySelector(`.${name}`);
     }
-    // Sets what can be pressed and what is hidden, and draws that.
     set(given2) {
       Object.assign(this, given2);
       this.draw();
@@ -6016,15 +7779,9 @@ ${END}`) && text.startsWith(before.text.slice(0, -END.length));
     get canStep() {
       return this.isOpen && !this.hidesDock && this.spec.dock !== false;
     }
-    // The calls that a thread has not begun yet.
     left(thread) {
       const own = this.spec.calls?.[thread] ?? [];
       return own.slice(this.run.trace.calls.filter((call) => call.thread === thread).length);
-    }
-    reset() {
-      this.run.take(this.run.first);
-      Object.assign(this, { past: [], told: null, isLost: false });
-      this.draw();
     }
     // What is shown now is left by a deed: it may be taken back.
     leaves() {
@@ -6056,7 +7813,6 @@ ${END}`) && text.startsWith(before.text.slice(0, -END.length));
       else
         this.step(thread);
     }
-    // Makes the steps, and shows what came since a moment one after the other.
     async play(thread, steps, from) {
       this.active = thread;
       this.run.go(thread, steps);
@@ -6073,7 +7829,8 @@ ${END}`) && text.startsWith(before.text.slice(0, -END.length));
       for (let count = Math.min(from + 1, total); count <= total; count++) {
         if (this.isEnded)
           return;
-        if (count < total && (this.isHurried || wantsStill2() || this.isHidden(count)))
+        const isOfLock = this.spec.plain === true && this.run.trace.event(count).word === "list.lock";
+        if (count < total && (this.isHurried || wantsStill2() || isOfLock))
           continue;
         this.run.moveTo(count);
         this.part("tale").setAttribute("aria-live", count < total ? "off" : "polite");
@@ -6085,17 +7842,12 @@ ${END}`) && text.startsWith(before.text.slice(0, -END.length));
       this.isBusy = false;
       tellBusy(this.isActing);
     }
-    // Plays the whole run, or the part of it behind a moment, once more.
     async replay(from = 0) {
       if (this.isBusy)
         return;
       this.run.moveTo(from);
       this.draw();
       await this.show(from);
-    }
-    // Whether an event is passed over in silence, since it is of the lock that this list ignores.
-    isHidden(count) {
-      return this.spec.plain === true && this.run.trace.event(count).word === "list.lock";
     }
     // Plays what a list of deeds makes: [thread] is its next bit, [thread, n] are n bits, [thread, "out"] is all of its call.
     async act(deeds) {
@@ -6112,7 +7864,6 @@ ${END}`) && text.startsWith(before.text.slice(0, -END.length));
       Object.assign(this, { onStep, isActing: false });
       tellBusy(false);
     }
-    // Takes the last press back; or all of them.
     undo() {
       if (this.isBusy || this.past.length === 0)
         return;
@@ -6124,8 +7875,16 @@ ${END}`) && text.startsWith(before.text.slice(0, -END.length));
     again() {
       if (this.isBusy)
         return;
-      this.reset();
+      this.run.take(this.run.first);
+      Object.assign(this, { past: [], told: null, isLost: false });
+      this.draw();
       this.onStep?.(this);
+    }
+    // Shows a run that is made elsewhere; where it is the same run one event on or back, what moves glides.
+    showRun(run, moment = momentAt(run.state, run.count), hides = true) {
+      const isNear = run.trace.kind === this.run.trace.kind && Math.abs(run.count - this.run.count) === 1;
+      Object.assign(this, { run, hides });
+      this.draw(isNear, moment);
     }
     tell(text) {
       this.told = text;
@@ -6138,922 +7897,12 @@ ${END}`) && text.startsWith(before.text.slice(0, -END.length));
       if (this.isLost && this.run.count === this.run.trace.total)
         markLostNodes(this);
     }
-    // Shows another moment of the run.
     moveTo(count) {
       if (this.isBusy)
         return;
       const isNear = Math.abs(count - this.run.count) <= 1;
       this.run.moveTo(count);
       this.draw(isNear);
-    }
-  };
-
-  // src/story/still_figure.js
-  var StillFigure = class extends Figure {
-    constructor(box, spec) {
-      super(box, { dock: false, names: true, strip: true, short: true, again: false, ...spec });
-    }
-    // Shows a run at its moment; where it is the same run one event on or back, what moves glides.
-    take(run, moment = momentAt(run.state, run.count), hides = true) {
-      const isNear = run.trace.kind === this.run.trace.kind && Math.abs(run.count - this.run.count) === 1;
-      Object.assign(this, { run, hides });
-      this.draw(isNear, moment);
-    }
-  };
-
-  // src/activities/bench.js
-  var bench = { key: "", figure: null };
-  var LACKING2 = "The code of the correct list. The list that runs here lacks one of its checks.";
-  function figureOfTask(run) {
-    const { kind, lacks } = run.trace;
-    const key = [now.task.kind, now.task.id, now.task.work, kind, lacks].join();
-    if (bench.figure !== null && bench.key === key)
-      return bench.figure;
-    bench.figure?.end();
-    bench.key = key;
-    const box = document.createElement("div");
-    byId("run-figure").replaceChildren(box);
-    const codeNote = lacks === null ? "" : LACKING2;
-    const sentence = (moment) => sentenceOf(moment, hiddenOutcomes());
-    bench.figure = new StillFigure(box, { list: kind, run, sentence, codeTitle: LISTS[kind].name, codeNote, roomFor: 560 });
-    return bench.figure;
-  }
-  function showRun(moment) {
-    const { trace, state, count } = now.run;
-    const run = new ShownRun(trace, state, count);
-    const figure = figureOfTask(run);
-    figure.box.classList.toggle("judged", isJudging());
-    figure.part("tale").setAttribute("aria-live", isPlaying() ? "off" : "polite");
-    figure.spec.high = isJudging() ? 0.24 : now.place.view === "lecture" ? 0.3 : 0.36;
-    figure.take(run, moment, now.prefs.hides);
-    setHtml(byId("order"), drawOrder(trace, count, now.prefs.hides));
-    showThreads(moment.event);
-    showTable(moment);
-    showListing(moment);
-    scrollToLine(moment.event);
-  }
-  function showBar() {
-    const { trace, count, source } = now.run;
-    const { total } = trace;
-    const name = `${LISTS[trace.kind].name}${trace.lacks === null ? "" : " without one check"}`;
-    byId("title").textContent = `${name}, ${trace.threads} thread${trace.threads > 1 ? "s" : ""}`;
-    byId("source").textContent = source;
-    const where = `event ${count} of ${total}`;
-    Object.assign(byId("slider"), { max: total, value: count });
-    byId("slider").setAttribute("aria-valuetext", where);
-    byId("where").textContent = where;
-    setAble("back", count > 0);
-    setAble("next", count < total);
-  }
-  function showThreads(event) {
-    if (!byId("threads-box").open)
-      return;
-    byId("threads").innerHTML = drawThreads(now.run.state, event, now.prefs.allThreads, hiddenOutcomes().includes("reply"));
-    byId("all-threads").hidden = now.run.trace.threads <= MOST_ROWS;
-    byId("all-threads").textContent = now.prefs.allThreads ? "show only those with a pending call" : `show all ${now.run.trace.threads}`;
-  }
-  function showTable(moment) {
-    const which = now.run.lacks === null ? "" : "the correct ";
-    byId("table-title").textContent = `Step table of ${which}${LISTS[now.run.trace.kind].name}`;
-    if (byId("table-box").open)
-      byId("table").innerHTML = drawTable(moment);
-  }
-  function showListing(moment) {
-    if (!byId("listing-box").open)
-      return;
-    const box = byId("listing");
-    box.innerHTML = drawListing(moment);
-    const line = box.querySelector(".moved") ?? box.querySelector(".here");
-    if (line === null)
-      return;
-    const y = line.offsetTop - box.offsetTop;
-    if (y < box.scrollTop + 40 || y > box.scrollTop + box.clientHeight - 80)
-      box.scrollTop = y - box.clientHeight / 2;
-  }
-  function pressPicture({ target, clientX }) {
-    const calls = target.closest(".calls svg");
-    const said2 = target.closest("g, svg")?.querySelector(":scope > title")?.textContent ?? "";
-    if (calls !== null) {
-      const { first, step } = bench.figure.scale;
-      goByHand(first - 1 + Math.ceil((clientX - calls.getBoundingClientRect().left - HISTORY_LEFT) / step));
-    }
-    if (said2 !== "")
-      tell(escaped(said2));
-  }
-  function listenToBench() {
-    byId("run-figure").addEventListener("click", pressPicture);
-    byId("turns").onclick = ({ target }) => target.dataset.event && goByHand(Number(target.dataset.event));
-    for (const name of ["table-box", "listing-box", "threads-box", "turns-box"])
-      byId(name).ontoggle = show;
-  }
-
-  // src/page/seen.js
-  var isStage = ({ screen }) => screen === "stage";
-  function factsOf(state, { hasEngine }) {
-    const { place, run, task, exercise } = state;
-    return {
-      ...place,
-      hasEngine,
-      kind: task.kind,
-      isJudging: exercise !== null,
-      isClaim: exercise?.level === "claim",
-      isBroken: run.lacks !== null
-    };
-  }
-  var isFull = ({ view }) => view === null;
-  var isSlide = ({ view }) => view === "lecture";
-  var isFree = ({ isClaim }) => !isClaim;
-  var SEEN = {
-    top: isFull,
-    leave: ({ view }) => view !== null && view !== "embed",
-    scene: ({ screen }) => screen === "scene",
-    bench: ({ screen }) => screen !== "scene",
-    task: (facts) => isStage(facts) && (isFull(facts) || isSlide(facts)),
-    stage: isStage,
-    workshop: (facts) => isStage(facts) && isFull(facts),
-    "question-box": ({ kind, isJudging: isJudging2 }) => kind === "example" && !isJudging2,
-    "own-head": ({ kind }) => kind === "own",
-    "seed-box": ({ kind }) => kind === "seed",
-    "judge-head": ({ activity }) => activity === "judge",
-    "go-on-here": (facts) => facts.activity !== "judge" && isFull(facts) && facts.hasEngine,
-    past: ({ isJudging: isJudging2, view }) => !isJudging2 && view !== "list",
-    ticks: ({ isJudging: isJudging2 }) => !isJudging2,
-    judge: ({ isJudging: isJudging2 }) => isJudging2,
-    "judge-moments": ({ isClaim }) => isClaim,
-    "judge-note": isFree,
-    "judge-levels": ({ isBroken }) => !isBroken,
-    "report-box": ({ isJudging: isJudging2, hasEngine }) => !isJudging2 && hasEngine,
-    dock: (facts) => isStage(facts) && isFree(facts),
-    "run-figure": isFree,
-    "key-help-box": isFree,
-    "threads-box": isFree,
-    "table-box": isFree,
-    "listing-box": (facts) => isFree(facts) && !facts.isBroken,
-    told: isFull,
-    order: isFull,
-    "no-engine": ({ hasEngine }) => hasEngine === false
-  };
-
-  // src/page/places.js
-  function showParts(state) {
-    const facts = factsOf(state, { hasEngine: services.hasEngine });
-    for (const [id, isSeen] of Object.entries(SEEN))
-      setHidden(byId(id), !isSeen(facts), byId("skip"));
-    const { activity, screen, view } = state.place;
-    const key = [activity, screen, view, facts.hasEngine].join();
-    if (key === placed.key)
-      return;
-    placed.key = key;
-    for (const part2 of document.querySelectorAll(".of-engine:not([id])"))
-      part2.hidden = !facts.hasEngine;
-    Object.assign(document.body.dataset, { activity, screen, view: view ?? "" });
-    for (const link of document.querySelectorAll("nav [data-to]")) {
-      if (link.dataset.to.split(" ").includes(activity))
-        link.setAttribute("aria-current", "page");
-      else
-        link.removeAttribute("aria-current");
-    }
-  }
-  var placed = { key: "" };
-  var services = { hasEngine: true };
-  var setView = (view) => change("view", { view });
-
-  // src/page/keys.js
-  var keysOf = { scene: (event) => event };
-  function pressKey(event) {
-    if (/^(TEXTAREA|INPUT|SELECT)$/.test(event.target.tagName) && event.target.id !== "slider")
-      return;
-    if (event.ctrlKey || event.metaKey || event.altKey || event.target.closest("[role=slider]") !== null)
-      return;
-    if (event.key === "Escape" && now.place.view !== null)
-      return toggleLecture();
-    if (now.place.screen === "scene")
-      return keysOf.scene(event);
-    const { total } = now.run.trace;
-    const far = now.place.view === "lecture" ? 1 : 10;
-    const steps = { ArrowRight: 1, ArrowLeft: -1, PageDown: far, PageUp: -far, Home: -total, End: total };
-    if (event.key in steps) {
-      event.preventDefault();
-      if (event.shiftKey && event.key.startsWith("Arrow"))
-        goToTurn(steps[event.key]);
-      else
-        goByHand(now.run.count + steps[event.key]);
-    } else if (event.key === " " && !/^(BUTTON|SUMMARY|A)$/.test(event.target.tagName)) {
-      event.preventDefault();
-      togglePlay();
-    } else if (event.key === "?" || event.key === "p" && now.prefs.letters)
-      ({ "?": toggleKeys, p: togglePlay })[event.key]();
-  }
-  function toggleKeys() {
-    byId("key-help").hidden = !byId("key-help").hidden;
-    byId("keys").setAttribute("aria-expanded", String(!byId("key-help").hidden));
-  }
-  function toggleLecture() {
-    const isLeft = document.activeElement === byId("leave");
-    setView(now.place.view === null ? "lecture" : null);
-    show();
-    if (isLeft)
-      (byId("sides-lecture") ?? byId("lecture")).focus();
-  }
-
-  // src/run/address.js
-  var LONGEST_ADDRESS = 3e4;
-  var SHORT_WORDS = { begin: "b", go: "g" };
-  var LONG_WORDS = { b: "begin", g: "go" };
-  var SHORT_EVENT = String.raw`(b\d+\.[a-z]+\.\d+|g\d+\.\d+)`;
-  var ADDRESS_PARTS = {
-    example: /^[a-z-]+$/,
-    list: /^[A-Za-z-]+$/,
-    threads: /^\d+$/,
-    quota: /^\d+$/,
-    version: /^\d+$/,
-    opening: /^\d+(\.\d+)*$/,
-    s: new RegExp(`^(${SHORT_EVENT}(,${SHORT_EVENT})*)?$`),
-    event: /^\d+$/,
-    lacks: /^(\d+|[A-Za-z-]+)$/,
-    view: /^(lecture|list|history)$/,
-    course: /^[A-Za-z0-9_-]+$/,
-    sides: /^(coarse|fine|optimistic|lazy|lock-free)\.(coarse|fine|optimistic|lazy|lock-free)$/,
-    calls: /^(\d\d?\.[a-z]+\.\d+(,|$))+$/,
-    turns: /^(\d\d?(\.\d\d?)*)?$/,
-    watch: /^[a-z-]*$/,
-    learn: /^[a-z0-9-]*$/,
-    judge: /^$/,
-    break: /^\d*$/,
-    compare: /^$/,
-    read: /^$/,
-    seed: /^(coarse|fine|optimistic|lazy|lock-free)\.\d{1,2}\.\d{1,2}\.\d{1,2}\.\d{1,9}$/
-  };
-  var AddressFault = class extends Error {
-  };
-  var neededVersion = (lines) => lines.some((line) => /^(opening |begin \d+ ceiling )/.test(line)) ? 2 : 1;
-  function addressOf(text, event, lacks = null) {
-    if (text.length > 2 * LONGEST_ADDRESS)
-      return null;
-    const [title2, list, threads, quota, ...lines] = text.split("\n").slice(0, -1);
-    const isOpening = (line) => line.startsWith("opening ");
-    const opening = lines.filter(isOpening).map((line) => line.slice("opening ".length));
-    const events = lines.filter((line) => !isOpening(line)).map(shortLine);
-    const version = title2?.split(" ")[1];
-    const parts = [`list=${list?.split(" ")[1]}`, `threads=${threads?.split(" ")[1]}`, `quota=${quota?.split(" ")[1]}`];
-    if (version !== String(neededVersion(lines)))
-      parts.push(`version=${version}`);
-    if (opening.length > 0)
-      parts.push(`opening=${opening.join(".")}`);
-    parts.push(`s=${events.join()}`, `event=${event}`);
-    if (lacks !== null)
-      parts.push(`lacks=${Object.keys(LACKING).indexOf(lacks) + 1}`);
-    const address = `#${parts.join("&")}`;
-    return address.length <= LONGEST_ADDRESS && isAddressOf(address, text) ? address : null;
-  }
-  var shortLine = (line) => {
-    const [word, ...values] = line.split(" ");
-    return `${SHORT_WORDS[word] ?? word}${values.join(".")}`;
-  };
-  var longLine = (short) => `${LONG_WORDS[short[0]]} ${short.slice(1).replaceAll(".", " ")}`;
-  function isAddressOf(address, text) {
-    try {
-      return readAddress(address).text === text;
-    } catch (fault) {
-      if (!(fault instanceof AddressFault))
-        throw fault;
-      return false;
-    }
-  }
-  function readAddress(hash) {
-    const { view = null, course = null, lacks: which, seed = null, ...rest } = partsOf(hash);
-    const { place, isJudged, parts } = placeOf(rest, seed);
-    const lacks = which === void 0 ? null : lackingNamed(which, parts);
-    const own = { view, course, sides: null, lacks, place, seed, isJudged };
-    const named = { example: parts.example ?? null, text: null, event: Number(parts.event ?? 0), ...own };
-    if (parts.sides !== void 0)
-      return { ...named, sides: parts };
-    const ofSchedule = Object.keys(parts).filter((name) => name !== "event" && name !== "example");
-    if (named.example !== null && ofSchedule.length > 0) {
-      throw new AddressFault(`the address names an example, and has "${ofSchedule[0]}" too`);
-    }
-    if (ofSchedule.length > 0)
-      named.text = textOfParts(parts);
-    return named;
-  }
-  function lackingNamed(which, { list, example }) {
-    const names = Object.keys(LACKING);
-    const lacks = names.includes(which) ? which : names[which - 1];
-    if (lacks === void 0) {
-      throw new AddressFault(`there is no broken list "${which}": expected 1 to ${names.length}, or a name that "listset show --help" prints`);
-    }
-    if (list === LACKING[lacks])
-      return lacks;
-    const named = list !== void 0 ? `list=${list}` : example !== void 0 ? `example=${example}` : "no list";
-    throw new AddressFault(`lacks=${which} is a broken ${LISTS[LACKING[lacks]].name}, and the address has ${named}`);
-  }
-  function placeOf(parts, seed) {
-    const isRun = seed !== null || parts.example !== void 0 || parts.list !== void 0;
-    const name = ["watch", "learn", "judge", "break", "compare", "read"].find((one) => parts[one] !== void 0);
-    if (name === void 0)
-      return { place: null, isJudged: false, parts };
-    const { [name]: value, ...others } = parts;
-    const isJudged = name === "judge" && isRun;
-    return { place: isJudged ? null : [name, value], isJudged, parts: others };
-  }
-  function partsOf(hash) {
-    const parts = {};
-    for (const [name, value] of new URLSearchParams(hash.replace(/^#/, ""))) {
-      if (!Object.hasOwn(ADDRESS_PARTS, name))
-        throw new AddressFault(`the address has a part "${name}", which is none`);
-      if (name in parts)
-        throw new AddressFault(`the address has "${name}" twice`);
-      if (!ADDRESS_PARTS[name].test(value))
-        throw new AddressFault(`"${value.slice(0, 60)}" is no ${name} of an address`);
-      parts[name] = value;
-    }
-    return parts;
-  }
-  function textOfParts(parts) {
-    const missing = ["list", "threads", "quota"].find((name) => parts[name] === void 0);
-    if (missing !== void 0)
-      throw new AddressFault(`the address has no "${missing}"`);
-    const opening = (parts.opening?.split(".") ?? []).map((key) => `opening ${key}`);
-    const events = (parts.s ? parts.s.split(",") : []).map(longLine);
-    const lines = [...opening, ...events];
-    const title2 = `listset-schedule ${parts.version ?? neededVersion(lines)}`;
-    return [title2, `list ${parts.list}`, `threads ${parts.threads}`, `quota ${parts.quota}`, ...lines, ""].join("\n");
-  }
-  var warningOf = (link) => link.startsWith("file:") ? " Others cannot open it, since it leads to a file on this computer: copy it from a page on a web server." : "";
-
-  // src/run/seed.js
-  var KINDS = ["coarse", "fine", "optimistic", "lazy", "lock-free"];
-  var TRIES = 200;
-  var MOST_TRIED_CALLS = 8;
-  var MOST_SEEN = 60;
-  var seedOf = (kind, number, { threads = 2, calls = 5, keys = 2 } = {}) => `${kind}.${threads}.${calls}.${keys}.${number}`;
-  function partsOfSeed(seed) {
-    const [kind, ...values] = seed.split(".");
-    const [threads, calls, keys, number] = values.map(Number);
-    return { kind, threads, calls, keys, number };
-  }
-  function scheduleOfSeed(ask, seed) {
-    const { kind, threads, calls, keys, number } = partsOfSeed(seed);
-    const tries = calls > MOST_TRIED_CALLS ? 1 : TRIES;
-    let text = "";
-    for (let tried = 0; tried < tries; tried++) {
-      const answer2 = ask("listset_gen", [kind, threads, 4, calls, keys, number * TRIES + tried].join("\0"));
-      if (answer2.status !== 0)
-        throw new AddressFault(`the address names no run: ${answer2.text.trim()}`);
-      text = answer2.text;
-      const traced = ask("listset_trace", text).text;
-      if (!isTrace(traced))
-        throw new AddressFault(`the run of the address has no trace: ${traced.trim()}`);
-      if (isWorthIt(new Trace(traced)))
-        break;
-    }
-    return joined(text);
-  }
-  function isWorthIt({ calls, changes, total }) {
-    const puts = changes.some(({ put }) => put !== void 0) && changes.some(({ took }) => took !== void 0);
-    const isBeside = (one, other) => one.thread !== other.thread && one.begun < other.ended && other.begun < one.ended;
-    const beside = calls.filter((one) => calls.some((other) => isBeside(one, other)));
-    const isTold = beside.some(({ changes: own, operation, reply }) => !own && (operation === "contains" || reply === "false"));
-    return puts && isTold && total <= MOST_SEEN && calls.every(({ ended }) => ended !== null);
-  }
-  function joined(text) {
-    const lines = [];
-    for (const line of text.trimEnd().split("\n")) {
-      const [thread, steps] = /^go (\d+) (\d+)$/.exec(line)?.slice(1) ?? [];
-      const [before, count] = /^go (\d+) (\d+)$/.exec(lines.at(-1) ?? "")?.slice(1) ?? [];
-      if (thread !== void 0 && thread === before)
-        lines[lines.length - 1] = `go ${thread} ${Number(count) + Number(steps)}`;
-      else
-        lines.push(line);
-    }
-    return `${lines.join("\n")}
-`;
-  }
-  function anotherSeed(before, kind = null) {
-    const list = kind ?? KINDS[Math.floor(Math.random() * KINDS.length)];
-    const number = 1 + Math.floor(Math.random() * 9999);
-    const seed = seedOf(list, number);
-    return seed === before ? seedOf(list, number % 9999 + 1) : seed;
-  }
-
-  // src/data/levels.js
-  var BREAK_LEVELS = {
-    lock: {
-      story: "One thread at a time, they say. Let two of them meet.",
-      hints: [
-        "Two adds of different keys, both between 3 and 7.",
-        "Let both threads walk to the same place: pred is the node of 3, curr that of 7.",
-        "Stop A just before it writes pred.next. Let B do its whole add. Then let A end."
-      ],
-      lacks: "It continues although another thread holds the lock.",
-      others: {
-        "It releases the lock before it writes the arrow.": "it releases the lock only after that",
-        "It writes the arrow of pred before that of its own node.": "it writes the arrow of its own node first"
-      },
-      start: [["add", 5], ["add", 4]],
-      shortest: [20, 2],
-      missing: [{ row: 1, part: "lock the list" }]
-    },
-    "mark-in-remove": {
-      story: "Two threads remove one key. One of them should answer that it came too late.",
-      hints: [
-        "Two removes of the same key, 3.",
-        "Let both threads find the node of 3 before either of them marks it.",
-        "Stop A before the step that sets the mark; let B set its own; then let both end."
-      ],
-      lacks: "A remove marks a node that is marked already.",
-      others: {
-        "A remove takes its node out before it marks it.": "it marks the node first",
-        "A remove does not look whether its key is there.": "it compares curr.key with its key"
-      },
-      start: [["remove", 3], ["remove", 3]],
-      shortest: [14, 2],
-      missing: [{ row: 9, part: "no mark" }]
-    },
-    mark: {
-      story: "Removing a node is one compare-and-set here. Fast. Too fast?",
-      hints: [
-        "An add of 5, and a remove of the node in front of it.",
-        "The pred of the add must be the node of 3, which the other thread removes.",
-        "Stop A before the step that links 5 in. Let B remove 3. Then one step of A."
-      ],
-      lacks: "A remove unlinks its node without marking it first.",
-      others: {
-        "A remove marks a node that is marked already.": "it marks no node at all",
-        "An add writes its arrow without comparing.": "it compares with what it saw"
-      },
-      start: [["add", 5], ["remove", 3]],
-      shortest: [15, 2],
-      missing: [{ row: 9, part: "CAS curr.next: succ, no mark → mark" }]
-    },
-    "new-slot": {
-      story: "Each key that is added needs a node of its own. Does it get one?",
-      hints: ["One thread is enough. It adds.", "Two adds of different keys, one after the other.", "Let A add 4, and then 5. Where is 4?"],
-      lacks: "An add writes into the node of its last key.",
-      others: {
-        "An add does not look whether its key is there.": "it compares curr.key with its key",
-        "An add writes its arrow without comparing.": "it compares with what it saw"
-      },
-      start: [["add", 4], ["add", 5]],
-      shortest: [20, 2],
-      missing: [{ row: 5, part: "new " }]
-    },
-    "second-lock": {
-      story: "Hand over hand means two locks at a time. Here one hand stays in the pocket.",
-      hints: [
-        "An add of 5 beside a remove of 3, its neighbour.",
-        "The add must hold the lock of 3 while the other thread removes that node.",
-        "Let B step through its add until just before it writes pred.next, with 3 as its pred. Then try a remove of 3 by A."
-      ],
-      lacks: "A remove locks only pred, and not the node that it unlinks.",
-      others: {
-        "A remove does not lock pred.": "it locks pred, and keeps that lock until it has written",
-        "A remove releases its lock before it writes.": "it releases its lock only after that"
-      },
-      start: [["remove", 3], ["add", 5]],
-      shortest: [21, 2],
-      missing: [{ row: 3, part: "lock curr," }]
-    },
-    "hand-over-hand": {
-      story: "A walk should never be without a lock, not for one moment.",
-      hints: [
-        "An add of 5 beside a remove of 3, its neighbour.",
-        "There is a moment in which the walk of the add holds no lock. Find it.",
-        "Stop B on its way from the node of 3 to that of 7. Let A remove 3. Then let B end."
-      ],
-      lacks: "A walk releases one lock before it has the next.",
-      others: {
-        "It releases its locks before it writes.": "it releases them only after that",
-        "A walk does not lock the head.": "it locks the head first of all"
-      },
-      start: [["remove", 3], ["add", 5]],
-      shortest: [24, 2],
-      missing: [{ row: 3, part: "pred still locked" }]
-    },
-    "second-walk": {
-      story: "It locks two nodes, and looks again. But what does it look at?",
-      hints: [
-        "An add of 5 beside a remove of 3, its neighbour.",
-        "The node that the add has found as pred may be unlinked before it is locked.",
-        "Stop A before it locks pred, which is the node of 3. Let B remove 3. Then let A end."
-      ],
-      lacks: "With the locks it does not walk again: pred may not be in the list any more.",
-      others: {
-        "It does not lock curr.": "it locks pred and curr",
-        "It does not look whether pred still leads to curr.": "it looks at that, with both locks"
-      },
-      start: [["add", 5], ["remove", 3]],
-      shortest: [23, 2],
-      missing: [{ row: 6, part: "walk from the head again" }, { row: 7, part: "until pred is met, else not valid" }]
-    },
-    "marks-in-validation": {
-      story: "Marks are set here. Does everybody read them?",
-      hints: [
-        "An add of 5 beside a remove of 3, its neighbour.",
-        "The node that the add has found as pred may be removed before it is locked.",
-        "Stop A before it locks pred, which is the node of 3. Let B remove 3. Then let A end."
-      ],
-      lacks: "The validation does not look at the marks.",
-      others: {
-        "The validation does not look whether pred still leads to curr.": "it looks at that, with both locks",
-        "A remove does not mark its node.": "it marks the node before it unlinks it"
-      },
-      start: [["add", 5], ["remove", 3]],
-      shortest: [25, 2],
-      missing: [{ row: 6, part: "pred unmarked," }, { row: 7, part: "and curr unmarked" }]
-    },
-    "mark-in-add": {
-      story: "A marked arrow must not change. Somebody changes it all the same.",
-      hints: [
-        "An add of 5, and a remove of the node in front of it.",
-        "The remove must have marked the node of 3, and done no more.",
-        "Stop A before its last step. Let B remove 3 until it has set the mark. Then let A end."
-      ],
-      lacks: "An add inserts its node behind a marked one.",
-      others: {
-        "A remove does not mark its node.": "it marks the node before it unlinks it",
-        "An add does not look whether its key is there.": "it compares curr.key with its key"
-      },
-      start: [["add", 5], ["remove", 3]],
-      shortest: [17, 2],
-      missing: [{ row: 7, part: "no mark" }]
-    },
-    "same-node": {
-      story: "The second walk looks for pred. It meets something that looks like it.",
-      hints: [
-        "Three calls: an add of 5, and of the other thread a remove and an add of one key.",
-        "The node of 3 is unlinked, and another node of 3 is inserted.",
-        "Stop A before it locks pred, the old node of 3. Let B remove 3 and add 3 again. Then let A end."
-      ],
-      lacks: "The second walk looks for the key of pred, and not for the node itself.",
-      others: {
-        "It does not walk a second time.": "it walks from the head again, with its locks",
-        "It does not lock pred.": "it locks pred and curr"
-      },
-      start: [["add", 5], ["remove", 3]],
-      shortest: [36, 3],
-      missing: [{ row: 7, part: "pred is met" }]
-    },
-    "mark-at-key": {
-      story: "A marked node can stay in the chain for a while. Who reads it there?",
-      hints: [
-        "Three calls: an add of 5, a remove of 7, and then a contains of 7.",
-        "A remove whose last compare-and-set fails leaves its node in the chain, marked.",
-        "Stop A before it links 5 in. Let B remove 7 up to its last step. Link 5 in, let B end. Then call contains(7)."
-      ],
-      lacks: "A contains does not look at the mark of the node with its key.",
-      others: {
-        "A remove does not mark its node.": "it marks the node before it unlinks it",
-        "A contains stops before it comes to its key.": "it walks on while curr.key is below its key"
-      },
-      start: [["add", 5], ["remove", 7]],
-      shortest: [26, 3],
-      missing: [{ row: 22, part: "and unmarked" }]
-    },
-    "mark-in-ceiling": {
-      story: "ceiling(2) asks for the smallest key from 2 on. It takes the first node that it finds. Any node?",
-      hints: [
-        "A remove of 3, and a ceiling of 2. Let something end in between.",
-        "The remove has marked the node of 3 and has not ended. A contains of 3 answers false. And then the ceiling?",
-        "Stop A after it set the mark. Let B call contains(3), and then ceiling(2)."
-      ],
-      lacks: "A ceiling does not look at the mark of its node.",
-      others: {
-        "A ceiling stops before it comes to its key.": "it walks on while curr.key is below its key",
-        "A remove does not mark its node.": "it marks the node before it unlinks it"
-      },
-      start: [["remove", 3], ["contains", 3]],
-      shortest: [16, 3],
-      missing: [{ row: 25, part: "if marked: start again;" }]
-    },
-    "mark-in-contains": {
-      story: "Here contains does not look at the mark. No schedule is known after which no order explains the calls. Why not?",
-      hints: [
-        "A remove of 3, and a contains of 3 by the other thread.",
-        "The remove has set its mark and is still pending. So it may come after the contains.",
-        "When the remove has ended, can a new contains still reach its node? In this list a remove ends after the node is unlinked."
-      ],
-      lacks: "A contains does not look at the mark of its node.",
-      others: {},
-      start: [["remove", 3], ["contains", 3]],
-      shortest: null,
-      missing: [{ row: 22, part: "and unmarked" }]
-    }
-  };
-  var TEN = [
-    "lock",
-    "second-lock",
-    "hand-over-hand",
-    "second-walk",
-    "same-node",
-    "marks-in-validation",
-    "mark-in-remove",
-    "mark",
-    "mark-in-add",
-    "mark-at-key"
-  ];
-  var THREE_MORE = ["new-slot", "mark-in-ceiling", "mark-in-contains"];
-  var NUMBERED = Object.keys(BREAK_LEVELS);
-  var numberOfLevel = (name) => NUMBERED.indexOf(name) + 1;
-  var levelOfNumber = (number) => NUMBERED[Number(number) - 1];
-  var whyWrong = (name, sentence) => `No: ${BREAK_LEVELS[name].others[sentence]}. Look for the line that this list makes differently.`;
-
-  // src/page/scene_address.js
-  var SCENES = ["assignment", "story", "ask", "code", "teachers"];
-  var SCENE_VIEWS = ["lecture", "embed"];
-  function sceneOfHash(hash) {
-    const { view = null, ...parts } = Object.fromEntries(new URLSearchParams(hash.replace(/^#/, "")));
-    const activity = SCENES.find((name) => name in parts);
-    if (activity === void 0)
-      return null;
-    if (view !== null && !SCENE_VIEWS.includes(view))
-      throw new AddressFault(`"${view.slice(0, 60)}" is no view of a page`);
-    const { [activity]: id, ...given2 } = parts;
-    return { activity, id, given: given2, view };
-  }
-  var START_OF_CODE = [3, 7];
-  var shortLine2 = (line) => `${line[0]}${line.split(" ").slice(1).join(".")}`;
-  var linesOfCode = (s) => s.split(",").filter((line) => /^(b\d+\.[a-z]+\.\d+|g\d+\.\d+)$/.test(line)).map(longLine);
-  var SET_OF_CODE = { threads: 2, quota: 9 };
-  function addressOfCode(list, opening, lines, set = SET_OF_CODE) {
-    const ofOpening = opening.join() === START_OF_CODE.join() && lines.length === 0 ? "" : `&opening=${opening.join(".")}`;
-    const ofSet = ["threads", "quota"].map((name) => set[name] === SET_OF_CODE[name] ? "" : `&${name}=${set[name]}`).join("");
-    return `#code=${list}${ofSet}${ofOpening}${lines.length > 0 ? `&s=${lines.map(shortLine2).join()}` : ""}`;
-  }
-  function addressOfLevel({ id }, { text }) {
-    const name = levelOfNumber(id);
-    if (id === "" || text === "" || text === startOfLacking(name))
-      return id === "" ? "#break" : `#break=${id}`;
-    return `#break=${id}&${addressOf(text, eventsAsked(text))?.slice(1) ?? ""}`;
-  }
-  function addressOfLesson({ id }, { text }, { course }) {
-    const named = `${course === null ? "#" : `${course}&`}learn${id === "" ? "" : `=${id}`}`;
-    const own = text === "" ? null : addressOf(text, eventsAsked(text));
-    const whole = own === null ? named : `${named}&${own.slice(1)}`;
-    return whole.length <= LONGEST_ADDRESS ? whole : named;
-  }
-  var addressOfAssignment = ({ id, given: given2 }) => `#${new URLSearchParams({ assignment: id, ...given2 })}`.replaceAll("%2C", ",");
-  var plainAddress = ({ activity, id }) => `#${activity}${id === "" ? "" : `=${id}`}`;
-  var ADDRESSES = {
-    code: ({ id, given: given2 }, { text }) => text || `#${new URLSearchParams({ code: id, ...given2 })}`,
-    compare: (place, { text }) => text || plainAddress(place),
-    break: addressOfLevel,
-    learn: addressOfLesson,
-    assignment: addressOfAssignment
-  };
-  var addressOfScene = ({ place, scene: scene2 }, given2) => `${(ADDRESSES[place.activity] ?? plainAddress)(place, scene2, given2)}${place.view === null ? "" : `&view=${place.view}`}`;
-
-  // src/page/address_of.js
-  function ofRun(state) {
-    const { task, run } = state;
-    if (task.kind === "own")
-      return addressOf(run.text, run.count, run.lacks);
-    return `#${task.kind}=${task.id}&event=${run.count}`;
-  }
-  function addressIn(state, given2) {
-    const { place, exercise } = state;
-    if (place.screen === "scene")
-      return addressOfScene(state, given2);
-    const view = place.view === null ? "" : `&view=${place.view}`;
-    const address = ofRun(state);
-    return address === null ? null : `${address}${exercise === null ? "" : "&judge"}${view}`;
-  }
-  var WHOLE = "Why not just one lock?";
-  function titleIn(state, titleOfScene2) {
-    const { place, task, run } = state;
-    const list = run.trace === null ? "" : LISTS[run.trace.kind].name;
-    if (place.screen === "scene")
-      return titleOfScene2(place);
-    const judged2 = state.exercise === null ? "" : "Judge: ";
-    const ofTask = {
-      example: () => `${judged2}${inLetters(CLASSICS[task.id].question)}`,
-      seed: () => `${judged2}Run ${partsOfSeed(task.id).number} of ${list}`,
-      own: () => `${judged2}${task.work}: ${list}`
-    };
-    return `${ofTask[task.kind]()} · ${WHOLE}`;
-  }
-
-  // src/page/kept.js
-  var KEPT = "listset-page-2";
-  var KEPT_BEFORE = "listset-page";
-  var HERE = "listset-here";
-  var MOST_WORKS = 60;
-  function keptUnder(name) {
-    try {
-      return JSON.parse(localStorage.getItem(name));
-    } catch {
-      return null;
-    }
-  }
-  function keepUnder(name, value) {
-    try {
-      localStorage.setItem(name, JSON.stringify(value));
-      return true;
-    } catch {
-      return false;
-    }
-  }
-  var isText = (value) => typeof value === "string";
-  var isWork = (kept) => typeof kept?.text === "string" && typeof kept.box === "string" && Number.isInteger(kept.count);
-  var KINDS2 = ["own", "example", "lesson", "seed"];
-  var isTask = (task) => KINDS2.includes(task?.kind) && isText(task.id) && isText(task.course);
-  function taskOfName(name) {
-    const [, lesson, course = BOOK_NAME] = /^lesson ([a-z0-9-]+)(?: of (.+?))?(?: \d+)?$/.exec(name) ?? [];
-    if (lesson !== void 0)
-      return { kind: "lesson", id: lesson, course };
-    const [, example] = /^from ([a-z-]+)(?: \d+)?$/.exec(name) ?? [];
-    if (Object.hasOwn(CLASSICS, example))
-      return { kind: "example", id: example, course: "" };
-    return { kind: "own", id: "", course: "" };
-  }
-  var workOf = ([name, kept]) => [name, { ...kept, task: isTask(kept.task) ? kept.task : taskOfName(name) }];
-  var works = {
-    /** @type {Map<string, any>} */
-    byName: /* @__PURE__ */ new Map(),
-    isKept: true,
-    load() {
-      const kept = keptUnder(KEPT);
-      const before = keptUnder(KEPT_BEFORE);
-      const entries = Array.isArray(kept) ? kept : isWork(before) ? [["my schedule", before]] : [];
-      const isGood = (entry) => Array.isArray(entry) && isText(entry[0]) && isWork(entry[1]);
-      this.byName = new Map(entries.filter(isGood).map(workOf));
-    },
-    set(name, work2) {
-      this.byName.delete(name);
-      this.byName.set(name, work2);
-      const names = [...this.byName.keys()];
-      for (const old of names.slice(0, Math.max(0, names.length - MOST_WORKS)))
-        this.byName.delete(old);
-      this.isKept = keepUnder(KEPT, [...this.byName]);
-    },
-    // The name of the last work of which this is so, or null.
-    last(isWanted) {
-      return [...this.byName].findLast(([, work2]) => isWanted(work2))?.[0] ?? null;
-    },
-    // The name of the work with this text, run on the same list, or null.
-    nameOf(text, lacks = null) {
-      return this.last((work2) => work2.text === text && (work2.lacks ?? null) === lacks);
-    },
-    // A name that no work has yet.
-    newName(word) {
-      for (let number = 1; ; number++) {
-        const name = number === 1 ? word : `${word} ${number}`;
-        if (!this.byName.has(name))
-          return name;
-      }
-    }
-  };
-  function keepWork() {
-    const box = byId("schedule").value;
-    const { run, task } = now;
-    const isLookedAt = box === run.text && run.text === task.begun;
-    if (held.engine === null || run.text === "" || isLookedAt || task.work === "")
-      return;
-    const before = works.byName.get(task.work);
-    if (before?.text === run.text && before.box === box && before.count === run.count)
-      return;
-    const { kind, id } = task;
-    works.set(task.work, { text: run.text, box, count: run.count, lacks: run.lacks, task: { kind, id, course: "" } });
-    announce("kept");
-  }
-
-  // src/page/visit.js
-  var MOMENT = 400;
-  var visit = { timer: 0, entry: null, isRead: false, course: null };
-  var addressHere = () => addressIn(held.state, visit);
-  function keepSoon() {
-    clearTimeout(visit.timer);
-    visit.timer = setTimeout(keepNow, MOMENT);
-  }
-  function keepNow() {
-    clearTimeout(visit.timer);
-    keepWork();
-    if (visit.isRead)
-      setAddress();
-  }
-  function setAddress() {
-    const address = addressHere();
-    const entry = entryOf(held.state);
-    const isNew = visit.entry !== null && visit.entry !== entry;
-    visit.entry = entry;
-    if (held.state.place.view !== "embed")
-      keepUnder(HERE, address);
-    if (!isNew && location.hash === (address ?? ""))
-      return;
-    const { text, count, lacks } = now.run;
-    const kept = address === null ? { text, count, lacks } : null;
-    const how = isNew ? "pushState" : "replaceState";
-    const place = address ?? location.pathname + location.search;
-    try {
-      history[how](kept, "", place);
-    } catch {
-      history[how](null, "", place);
-    }
-  }
-  var linkTo = (address) => location.href.replace(/#.*$/, "") + address;
-  async function copyLink() {
-    const address = now.run.isRun ? addressHere() : null;
-    if (address === null)
-      return tell("This schedule has no link: it is refused, or too long for an address. Save it as a file.");
-    const link = linkTo(address);
-    const shown4 = `<code>${escaped(link)}</code>${warningOf(link)}`;
-    tell(`Copy this link: ${shown4}`);
-    if (await copied(link))
-      tell(`The link is copied: ${shown4}`);
-  }
-  async function copied(text) {
-    try {
-      await navigator.clipboard.writeText(text);
-      return true;
-    } catch {
-      return false;
-    }
-  }
-
-  // src/run/sides.js
-  var MOST_TURNS = 500;
-  var ProgramFault = class extends Error {
-  };
-  function readProgram(text) {
-    const program = [];
-    for (const line of text.split("\n").filter((one) => one.trim() !== "")) {
-      const [, number, letter, calls] = /^\s*(?:t?(\d+)|([A-Z]))\s*:\s*(.+?)\s*$/i.exec(line) ?? [];
-      const thread = Number(number ?? letter?.toUpperCase().charCodeAt(0) - "A".charCodeAt(0));
-      if (!(thread < 64))
-        throw new ProgramFault(`"${line.slice(0, 60)}" is no line as "A: add 5, remove 5"`);
-      for (const call of calls.split(",").map((one) => one.trim())) {
-        const [, operation, key] = /^(add|remove|contains|ceiling) (0|[1-9]\d{0,9})$/.exec(call) ?? [];
-        if (key === void 0 || Number(key) > MOST_NUMBER)
-          throw new ProgramFault(`"${call.slice(0, 40)}" is no call as "add 5"`);
-        (program[thread] ??= []).push(`${operation} ${key}`);
-      }
-    }
-    if (program.length === 0)
-      throw new ProgramFault('a program has lines as "A: add 5, remove 5"');
-    return Array.from(program, (calls) => calls ?? []);
-  }
-  function programText(program) {
-    const lines = program.map((calls, thread) => calls.length === 0 ? "" : `${letterOf(thread)}: ${calls.join(", ")}
-`);
-    return lines.join("");
-  }
-  var Side = class {
-    constructor(ask, kind, { program, quota, opening }) {
-      this.ask = ask;
-      this.kind = kind;
-      this.lines = [];
-      this.counts = [0];
-      const set = [titleOf(2), `list ${kind}`, `threads ${program.length}`, `quota ${quota}`];
-      this.head = [...set, ...opening.map((key) => `opening ${key}`)];
-      this.run();
-    }
-    get schedule() {
-      return [...this.head, ...this.lines, ""].join("\n");
-    }
-    run() {
-      const { text } = this.ask("listset_trace", this.schedule);
-      if (!isTrace(text))
-        throw new ProgramFault(text.trim());
-      this.trace = new Trace(text, 2);
-      this.state = new State(this.trace);
-      this.state.moveTo(this.trace.total);
-    }
-    isOpen(thread) {
-      return this.state.threads[thread].pc !== 0;
-    }
-    // Makes an event more, where there is a line for it; else waits.
-    take(line) {
-      if (line !== null) {
-        this.lines.push(line);
-        this.run();
-      }
-      this.counts.push(this.trace.total);
-    }
-  };
-  var Sides = class {
-    constructor(ask, kinds, { program, quota, opening }) {
-      this.program = program;
-      this.turns = [];
-      this.sides = kinds.map((kind) => new Side(ask, kind, { program, quota, opening }));
-    }
-    // What a turn of the thread makes in each list: a line of its schedule, or null where it waits; null where all is done.
-    linesOf(thread) {
-      if (thread >= this.program.length)
-        return null;
-      const isOpen = this.sides.map((side) => side.isOpen(thread));
-      if (isOpen.includes(true))
-        return isOpen.map((open) => open ? `go ${thread} 1` : null);
-      const next = this.program[thread]?.[this.sides[0].trace.callsOf[thread].length];
-      return next === void 0 ? null : this.sides.map(() => `begin ${thread} ${next}`);
-    }
-    // Makes a turn of the thread; false where there is none.
-    turn(thread) {
-      const lines = this.linesOf(thread);
-      if (lines === null || this.turns.length === MOST_TURNS)
-        return false;
-      this.sides.forEach((side, at) => side.take(lines[at]));
-      this.turns.push(thread);
-      return true;
     }
   };
 
@@ -7067,11 +7916,11 @@ ${END}`) && text.startsWith(before.text.slice(0, -END.length));
   var isScene = ({ place }) => place.screen === "scene";
   var setScene = (given2) => dispatch("scene", given2);
   async function copyText(text, words) {
-    part("#scene-told").textContent = await copied(text) ? words : `Copy this by hand: ${text}`;
+    part("#scene-told").textContent = (await copied(text) ? words : `Copy this by hand: ${text}`) + warningOf(text);
   }
-  function talk(html14) {
+  function talk(html9) {
     const box = part("#talk");
-    if (!setHtml(box, html14) || scene.isNew || hiddenBelow() <= 0)
+    if (!setHtml(box, html9) || scene.isNew || hiddenBelow() <= 0)
       return;
     const last = box.lastElementChild;
     const isTall = last.getBoundingClientRect().height > innerHeight / 2;
@@ -7140,6 +7989,23 @@ ${END}`) && text.startsWith(before.text.slice(0, -END.length));
   var head = (kicker, title2, more = "", kind = "") => `<div class="head">${kicker === "" ? "" : `<p class="kicker">${kicker}</p>`}<h1 class="${kind}" tabindex="-1">${title2}</h1>${more}</div>`;
   var FIGURE_AND_TALK = '<div id="figure"></div><div id="talk" class="talk" aria-live="polite"></div>';
   var hintAndOn = ({ href, words }) => `<button id="hint" class="primary" data-do="hint"></button>${tag("a", { id: "go-on", class: "button quiet", href, "data-words": words }, "Skip →")}`;
+  function drawHintAndOn(isDone2, words) {
+    const hint3 = part("#hint");
+    hint3.hidden = isDone2;
+    if (hint3.textContent !== words)
+      hint3.textContent = words;
+    drawOn(isDone2, part("#go-on").dataset.words);
+  }
+  function drawOn(isDone2, words) {
+    const on2 = part("#go-on");
+    on2.textContent = isDone2 ? words : "Skip →";
+    on2.className = isDone2 ? "button primary ready" : "button quiet";
+  }
+  function takeFreeFigure(list, spec) {
+    const free = { free: true, strip: true, short: true, roomFor: 694, operations: ["add", "remove", "contains"], codeTitle: LIST_WORDS[list] };
+    return takeFigure(new Figure(part("#figure"), { list, ...free, ...spec }));
+  }
+  var LACKS_ONE = "One check of this code is not made here.";
   var foot = (left, right) => tag("footer", { class: "foot" }, left, tag("span", { class: "spread" }), right);
   var optionButtons = (texts2, wrong = []) => {
     const button = (text, at) => {
@@ -7173,8 +8039,400 @@ ${END}`) && text.startsWith(before.text.slice(0, -END.length));
       return -1;
     return key.charCodeAt(0) - "a".charCodeAt(0);
   }
+  function pressThread(event) {
+    const thread = threadOfKey(event);
+    if (thread !== -1)
+      scene.figure?.press(thread);
+  }
   var numberOfKey = ({ key }) => now.prefs.letters && /^[1-9]$/.test(key) ? Number(key) - 1 : -1;
   var LIST_WORDS = { coarse: "One lock", fine: "Hand over hand", optimistic: "Optimistic", lazy: "Lazy", "lock-free": "Lock-free" };
+
+  // src/story/assignment.js
+  var known2 = { course: null };
+  var bookCourse = () => known2.course ??= triedCourse(askNow, BOOK);
+  var allLevels = () => Object.keys(BREAK_LEVELS).filter((name) => name !== NO_TASK).map((name) => ({ name, number: numberOfLevel(name) }));
+  var wordsIn = (text, sign = ".") => (text ?? "").split(sign).filter((word) => word !== "");
+  function addressOfTasks(title2, { learn, levels, seeds }) {
+    const parts = Object.entries({ learn: learn.join("."), break: levels.join("."), judge: seeds.join(",") });
+    return addressOfAssignment({ id: title2, given: Object.fromEntries(parts.filter(([, value]) => value !== "")) });
+  }
+  function lessonTask(name) {
+    const lesson = bookCourse().lessons.find((one) => one.name === name);
+    return lesson === void 0 ? null : { id: name, kind: "Solve", title: lesson.title, says: inLetters(lesson.question), href: `#learn=${name}` };
+  }
+  function levelTask(number) {
+    const name = levelOfNumber(number);
+    if (name === void 0 || name === NO_TASK)
+      return null;
+    const title2 = `Level ${number}, ${LISTS[LACKING[name]].name}`;
+    return { id: `break ${name}`, kind: "Break", title: title2, says: BREAK_LEVELS[name].story, href: `#break=${number}` };
+  }
+  function seedTask(seed) {
+    if (!isSeed(seed))
+      return null;
+    const { kind, number, calls } = partsOfSeed(seed);
+    const says = `${calls} calls: what does each answer, and where does it take effect?`;
+    return { id: `judge ${seed}`, kind: "Judge", title: `Run ${number}, ${LISTS[kind].name}`, says, href: `#seed=${seed}&judge`, seed };
+  }
+  function homeworkOf({ activity, id }, task = { kind: "", id: "" }) {
+    const { homework } = keptStory();
+    const isRun = activity === "judge" && task.kind === "seed";
+    if (homework === null || !(isRun || ["learn", "break"].includes(activity)))
+      return null;
+    return wordsIn(homework.given[activity], isRun ? "," : ".").includes(isRun ? task.id : id) ? homework : null;
+  }
+  function wayOn({ activity, id }, own) {
+    const homework = homeworkOf({ activity, id });
+    if (homework === null)
+      return own;
+    const { tasks } = tasksOf(homework.given);
+    const next = tasks[tasks.findIndex(({ href }) => href === `#${activity}=${id}`) + 1];
+    return next === void 0 ? { href: addressOfAssignment(homework), words: "All tasks →" } : { href: next.href, words: "Next task →" };
+  }
+  function tasksOf(given2) {
+    const unknown = [];
+    const taken = (words, taskOf, what) => words.flatMap((word) => {
+      const task = taskOf(word);
+      if (task === null)
+        unknown.push(`${what} ${word.slice(0, 40)}`);
+      return task === null ? [] : [task];
+    });
+    const learn = taken(wordsIn(given2.learn), lessonTask, "lesson");
+    const levels = taken(wordsIn(given2.break), levelTask, "level");
+    return { tasks: [...learn, ...levels, ...taken(wordsIn(given2.judge, ","), seedTask, "run")], unknown };
+  }
+  function textOfRun(run) {
+    try {
+      return run.includes("#") ? readAddress(run.slice(run.indexOf("#"))).text : null;
+    } catch (fault) {
+      if (fault instanceof AddressFault)
+        return null;
+      throw fault;
+    }
+  }
+  function taskOfJudged(line, tasks) {
+    const [, run = "", level] = line.split(" ");
+    if (level === "claim")
+      return null;
+    const text = textOfRun(run);
+    return tasks.find(({ seed }) => seed !== void 0 && text === scheduleOfSeed(askNow, seed)) ?? null;
+  }
+  function linesDone(tasks) {
+    const lessons = keptUnder("listset-lessons-2")?.of?.[BOOK_NAME]?.solutions ?? {};
+    const broken = Object.fromEntries(brokenLines());
+    const judged2 = Object.values(keptUnder("listset-judged") ?? {}).filter((line) => typeof line === "string");
+    const lineOf = {
+      Solve: ({ id }) => typeof lessons[id] === "string" ? `${id} ${addressOf(lessons[id], eventsAsked(lessons[id]))}` : void 0,
+      Break: ({ id }) => broken[id.slice("break ".length)],
+      Judge: (task) => judged2.find((line) => taskOfJudged(line, [task]) !== null)
+    };
+    return Object.fromEntries(tasks.map((task) => [task.id, lineOf[task.kind](task)]));
+  }
+  var titleOfAssignment = ({ id }) => id || "Assignment";
+  function doneOf(place) {
+    const { tasks, unknown } = tasksOf(place.given);
+    const lines = linesDone(tasks);
+    return { tasks, unknown, lines, done: tasks.filter(({ id }) => lines[id] !== void 0) };
+  }
+  function itemOf({ kind, title: title2, says, href }, isDone2) {
+    const tick = tag("i", { class: "tick", role: "img", "aria-label": isDone2 ? "done" : "open" }, isDone2 ? "✓" : "");
+    const words = `${tag("span", { class: "kind" }, kind)}<b>${escaped(title2)}</b>${tag("span", { class: "says" }, escaped(says))}`;
+    return tag("li", { class: isDone2 ? "done" : "" }, tag("a", { class: "task", href }, tick, words));
+  }
+  var HAND = ({ student, number }, count) => `<section class="panel hand" id="hand"><h2>Hand in</h2>
+  <div class="line"><label>Name <input id="hand-student" autocomplete="name" value="${escaped(student)}"></label>
+  <label>Student number <input id="hand-number" inputmode="numeric" value="${escaped(number)}"></label>
+  <button data-do="copy">Copy the text</button><button data-do="save">Save as a file</button>
+  <button class="quiet" data-do="afresh">Start afresh on this computer</button></div>
+  <p class="small" id="scene-told" role="status">The text has your ${counted(count, "solution")}. Your teacher’s page runs ${count === 1 ? "it" : "each of them"} again.</p>
+  <details><summary>See the text</summary><pre id="hand-text"></pre></details></section>`;
+  function html(place) {
+    const { tasks, unknown, lines, done: done2 } = doneOf(place);
+    const first = tasks.find(({ id }) => lines[id] === void 0);
+    const wrong = unknown.length === 0 ? "" : `<p class="again">This page does not know: ${escaped(unknown.join(", "))}. Tell your teacher.</p>`;
+    const lead2 = `<p class="lead">${counted(tasks.length, "task")}, ${done2.length} done in this browser. Come back by the same link: what is done stays ticked.</p>
+    <progress max="${tasks.length || 1}" value="${done2.length}" aria-label="${done2.length} of ${tasks.length} done"></progress>${wrong}
+    <p class="small">New to this? <a href="#story=1">Why not just one lock?</a> Twenty minutes, from nothing.</p>`;
+    const verb = done2.length === 0 ? "Begin" : "Go on";
+    const next = (task) => tag("a", { class: "button primary", href: task.href }, `${verb}: ${escaped(task.title)} →`);
+    const bar = first === void 0 ? foot("All done.", '<button class="primary" data-do="hand">Hand in ↑</button>') : foot("", next(first));
+    const items = tasks.map((task) => itemOf(task, lines[task.id] !== void 0));
+    const title2 = head("Assignment", escaped(titleOfAssignment(place)), lead2, "title");
+    return `${title2}${tag("ol", { class: "tasks" }, ...items)}${HAND(keptStory(), done2.length)}${bar}`;
+  }
+  function begin({ id, given: given2 }) {
+    keepStory({ homework: { id, given: given2 } });
+    for (const name of ["student", "number"])
+      part(`#hand-${name}`).oninput = fill;
+    fill();
+  }
+  function textNow() {
+    const [student, number] = ["student", "number"].map((name) => part(`#hand-${name}`).value.trim());
+    keepStory({ student, number });
+    const { done: done2, lines } = doneOf(now.place);
+    return handInText(BOOK_NAME, `${student || "?"}${number === "" ? "" : ` (${number})`}`, [], done2.map(({ id }) => lines[id]));
+  }
+  var fill = () => part("#hand-text").textContent = textNow();
+  function isNamed2() {
+    if (part("#hand-student").value.trim() !== "")
+      return true;
+    part("#scene-told").textContent = "Your name first, please.";
+    part("#hand-student").focus();
+    return false;
+  }
+  var fileName = () => `${part("#hand-student").value.trim().toLowerCase().replace(/\W+/g, "-") || "hand-in"}.txt`;
+  var assignmentView = {
+    kind: "assignment",
+    title: (place) => `${titleOfAssignment(place)} · Why not just one lock?`,
+    html,
+    begin,
+    deeds: {
+      copy: () => isNamed2() && copyText(textNow(), "The text is copied: paste it where you hand in."),
+      save: () => isNamed2() && saveText(fileName(), textNow()),
+      afresh: startAfresh,
+      hand: () => {
+        part("#hand").scrollIntoView({ behavior: "smooth" });
+        part("#hand-student").focus();
+      }
+    }
+  };
+
+  // src/activities/bench.js
+  var bench = { key: "", figure: null };
+  var LACKING2 = "The code of the correct list. The list that runs here lacks one of its checks.";
+  function figureOfTask(run) {
+    const { kind, lacks } = run.trace;
+    const key = [now.task.kind, now.task.id, now.task.work, kind, lacks].join();
+    if (bench.figure !== null && bench.key === key)
+      return bench.figure;
+    bench.figure?.end();
+    bench.key = key;
+    const box = document.createElement("div");
+    byId("run-figure").replaceChildren(box);
+    const codeNote = lacks === null ? "" : LACKING2;
+    const sentence = (moment) => sentenceOf(moment, hiddenOutcomes());
+    bench.figure = new Figure(box, { ...STILL, list: kind, run, sentence, codeTitle: LISTS[kind].name, codeNote, roomFor: 560 });
+    return bench.figure;
+  }
+  function showRun() {
+    const { trace, state, count } = now.run;
+    const moment = momentAt(state, count);
+    const run = new ShownRun(trace, state, count);
+    const figure = figureOfTask(run);
+    figure.box.classList.toggle("judged", isJudging());
+    figure.part("tale").setAttribute("aria-live", isPlaying() ? "off" : "polite");
+    figure.spec.high = isJudging() ? 0.24 : now.place.view === "lecture" ? 0.3 : 0.36;
+    figure.showRun(run, moment, now.prefs.hides);
+    setHtml(byId("order"), drawOrder(trace, count, now.prefs.hides));
+    showThreads(moment.event);
+    showTable(moment);
+    showListing(moment);
+    scrollToLine(moment.event);
+  }
+  function showBar() {
+    const { trace, count, source } = now.run;
+    const { total } = trace;
+    const name = `${LISTS[trace.kind].name}${trace.lacks === null ? "" : " without one check"}`;
+    byId("title").textContent = `${name}, ${trace.threads} thread${trace.threads > 1 ? "s" : ""}`;
+    byId("source").textContent = source;
+    const where = `event ${count} of ${total}`;
+    Object.assign(byId("slider"), { max: total, value: count });
+    byId("slider").setAttribute("aria-valuetext", where);
+    byId("where").textContent = where;
+    setAble("back", count > 0);
+    setAble("next", count < total);
+  }
+  function showThreads(event) {
+    if (!byId("threads-box").open)
+      return;
+    byId("threads").innerHTML = drawThreads(now.run.state, event, now.prefs.allThreads, hiddenOutcomes().includes("reply"));
+    byId("all-threads").hidden = now.run.trace.threads <= MOST_ROWS;
+    byId("all-threads").textContent = now.prefs.allThreads ? "show only those with a pending call" : `show all ${now.run.trace.threads}`;
+  }
+  function showTable(moment) {
+    const which = now.run.lacks === null ? "" : "the correct ";
+    byId("table-title").textContent = `Step table of ${which}${LISTS[now.run.trace.kind].name}`;
+    if (byId("table-box").open)
+      byId("table").innerHTML = drawTable(moment);
+  }
+  function showListing(moment) {
+    if (!byId("listing-box").open)
+      return;
+    const box = byId("listing");
+    box.innerHTML = drawListing(moment);
+    const line = box.querySelector(".moved") ?? box.querySelector(".here");
+    if (line === null)
+      return;
+    const y = line.offsetTop - box.offsetTop;
+    if (y < box.scrollTop + 40 || y > box.scrollTop + box.clientHeight - 80)
+      box.scrollTop = y - box.clientHeight / 2;
+  }
+  function pressPicture({ target, clientX }) {
+    const calls = target.closest(".calls svg");
+    const said2 = target.closest("g, svg")?.querySelector(":scope > title")?.textContent ?? "";
+    if (calls !== null) {
+      const { first, step } = bench.figure.scale;
+      goByHand(first - 1 + Math.ceil((clientX - calls.getBoundingClientRect().left - HISTORY_LEFT) / step));
+    }
+    if (said2 !== "")
+      tell(escaped(said2));
+  }
+  function listenToBench() {
+    byId("run-figure").addEventListener("click", pressPicture);
+    byId("go-on-here").onpointerdown = byId("go-on-here").onclick = aimGoOn;
+    byId("turns").onclick = ({ target }) => target.dataset.event && goByHand(Number(target.dataset.event));
+    for (const name of ["table-box", "listing-box", "threads-box", "turns-box"])
+      byId(name).ontoggle = show;
+  }
+  var FIRST = { example: "marked-in-chain", event: 20 };
+  function seedForm(id, verb) {
+    return `<div class="start-row"><label>list <select id="${id}-list">${listOptions()}</select></label>
+    <label>number <input id="${id}-number" type="number" min="1" max="999999999" placeholder="any"></label>
+    <button id="${id}-go" class="primary">${verb}</button></div>`;
+  }
+  function listenToSeedForm(id, more) {
+    byId(`${id}-go`).onclick = () => {
+      const kind = byId(`${id}-list`).value;
+      const number = Number(byId(`${id}-number`).value);
+      location.hash = `#seed=${number > 0 ? seedOf(kind, number) : anotherSeed(now.task.kind === "seed" ? now.task.id : null, kind)}${more}`;
+    };
+  }
+  function openSeed(seed, count) {
+    const text = scheduleOfSeed(askNow, seed);
+    openTask({ kind: "seed", id: seed, work: works.newName(`run ${partsOfSeed(seed).number}`) }, text, count);
+  }
+  function taskOfWatch() {
+    const more = isJudging() ? "&judge" : "";
+    if (now.task.kind === "seed")
+      drawSeedBox(now.task.id, more);
+    const names = examples().map(({ name }) => name);
+    const at = now.task.kind === "example" ? names.indexOf(now.task.id) : -1;
+    const to = (index) => at >= 0 && names[index] !== void 0 ? `#example=${names[index]}${more}` : null;
+    return { before: to(at - 1), all: more === "" ? ["#ask", "All questions"] : ["#judge", "All runs"], next: to(at + 1) };
+  }
+  function drawSeedBox(seed, more) {
+    const { kind, number } = partsOfSeed(seed);
+    byId("seed-number").textContent = number;
+    if (document.activeElement !== byId("seed-input"))
+      byId("seed-input").value = number;
+    byId("seed-another").href = `#seed=${anotherSeed(seed, kind)}${more}`;
+    byId("seed-judge").href = `#seed=${seed}&judge`;
+    byId("seed-judge").hidden = more !== "";
+    byId("seed-open").onclick = () => {
+      const wanted = Number(byId("seed-input").value);
+      if (wanted > 0)
+        location.hash = `#seed=${seedOf(kind, wanted)}${more}`;
+    };
+  }
+  function showHome() {
+    const homework = now.place.view === null ? homeworkOf(now.place, now.task) : null;
+    byId("home").hidden = homework === null;
+    if (homework === null)
+      return;
+    byId("home").textContent = `← Back to ${titleOfAssignment(homework)}`;
+    byId("home").href = addressOfAssignment(homework);
+  }
+  function aimGoOn() {
+    const { trace, count } = now.run;
+    byId("go-on-here").hash = addressOfCode(trace.kind, trace.opening, linesOf(scheduleOfTrace(trace, count)), trace);
+  }
+  function showPlace() {
+    document.title = titleIn(now, titleOfScene);
+    showHome();
+    if (now.place.screen !== "stage")
+      return;
+    const links = taskOfWatch();
+    for (const name of ["before", "next"]) {
+      byId(`task-${name}`).hidden = links[name] === null;
+      if (links[name] !== null)
+        byId(`task-${name}`).href = links[name];
+    }
+    [byId("task-all").hash, byId("task-all").textContent] = links.all;
+  }
+
+  // src/run/sides.js
+  var MOST_TURNS = 500;
+  var ProgramFault = class extends Error {
+  };
+  function readProgram(text) {
+    const program = [];
+    for (const line of text.split("\n").filter((one) => one.trim() !== "")) {
+      const [, number, letter, calls] = /^\s*(?:t?(\d+)|([A-Z]))\s*:\s*(.+?)\s*$/i.exec(line) ?? [];
+      const thread = Number(number ?? letter?.toUpperCase().charCodeAt(0) - "A".charCodeAt(0));
+      if (!(thread < 64))
+        throw new ProgramFault(`"${line.slice(0, 60)}" is no line as "A: add 5, remove 5"`);
+      for (const call of calls.split(",").map((one) => one.trim())) {
+        const [, operation, key] = /^(add|remove|contains|ceiling) (0|[1-9]\d{0,9})$/.exec(call) ?? [];
+        if (key === void 0 || Number(key) > MOST_NUMBER)
+          throw new ProgramFault(`"${call.slice(0, 40)}" is no call as "add 5"`);
+        (program[thread] ??= []).push(`${operation} ${key}`);
+      }
+    }
+    if (program.length === 0)
+      throw new ProgramFault('a program has lines as "A: add 5, remove 5"');
+    return Array.from(program, (calls) => calls ?? []);
+  }
+  function programText(program) {
+    const lines = program.map((calls, thread) => calls.length === 0 ? "" : `${letterOf(thread)}: ${calls.join(", ")}
+`);
+    return lines.join("");
+  }
+  var Side = class {
+    constructor(ask, kind, { program, quota, opening }) {
+      this.ask = ask;
+      this.kind = kind;
+      this.lines = [];
+      this.counts = [0];
+      this.set = { version: 2, list: kind, threads: program.length, quota, opening };
+      this.run();
+    }
+    get schedule() {
+      return scheduleText(this.set, this.lines);
+    }
+    run() {
+      const { text } = this.ask("listset_trace", this.schedule);
+      if (!isTrace(text))
+        throw new ProgramFault(text.trim());
+      this.trace = new Trace(text, 2);
+      this.state = new State(this.trace);
+      this.state.moveTo(this.trace.total);
+    }
+    isOpen(thread) {
+      return this.state.threads[thread].pc !== 0;
+    }
+    take(line) {
+      if (line !== null) {
+        this.lines.push(line);
+        this.run();
+      }
+      this.counts.push(this.trace.total);
+    }
+  };
+  var Sides = class {
+    constructor(ask, kinds, { program, quota, opening }) {
+      this.program = program;
+      this.turns = [];
+      this.sides = kinds.map((kind) => new Side(ask, kind, { program, quota, opening }));
+    }
+    // What a turn of the thread makes in each list: a line of its schedule, or null where it waits; null where all is done.
+    linesOf(thread) {
+      if (thread >= this.program.length)
+        return null;
+      const isOpen = this.sides.map((side) => side.isOpen(thread));
+      if (isOpen.includes(true))
+        return isOpen.map((open) => open ? `go ${thread} 1` : null);
+      const next = this.program[thread]?.[this.sides[0].trace.callsOf[thread].length];
+      return next === void 0 ? null : this.sides.map(() => `begin ${thread} ${next}`);
+    }
+    turn(thread) {
+      const lines = this.linesOf(thread);
+      if (lines === null || this.turns.length === MOST_TURNS)
+        return false;
+      this.sides.forEach((side, at) => side.take(lines[at]));
+      this.turns.push(thread);
+      return true;
+    }
+  };
 
   // src/activities/compare.js
   var PRESETS = [
@@ -7187,24 +8445,23 @@ ${END}`) && text.startsWith(before.text.slice(0, -END.length));
   var shown = { sides: null, at: 0, quota: 4, opening: [], figures: [] };
   var sidesPart = (name) => byId(`sides-${name}`);
   var listsOf = ({ given: given2 }) => (given2.sides ?? "coarse.lazy").split(".");
-  function html(place) {
+  function html2(place) {
     const preset = ([name, href]) => tag("a", { class: "button", href }, escaped(name));
-    const listOf2 = (at) => Object.entries(LISTS).map(([kind, { name }]) => tag("option", { value: kind, ...kind === listsOf(place)[at] ? { selected: "" } : {} }, name));
-    const choice = (name, at) => tag("label", {}, ["left ", "right "][at], tag("select", { id: `sides-${name}` }, ...listOf2(at)));
-    const lead = `<p class="lead">The same calls on two lists. A turn of a thread executes its next step in both; a call that has ended waits for
+    const choice = (name, at) => tag("label", {}, ["left ", "right "][at], tag("select", { id: `sides-${name}` }, listOptions(listsOf(place)[at])));
+    const lead2 = `<p class="lead">The same calls on two lists. A turn of a thread executes its next step in both; a call that has ended waits for
     the other list. Who has to wait, and who is done? <a class="beside" href="tables.html#progress">Progress of each list: blocking, lock-free, wait-free</a></p>`;
-    return `<section class="screen">${head("", "Two lists, one program", lead)}
+    return `<section class="screen">${head("", "Two lists, one program", lead2)}
     <div id="sides-presets" class="line">${PRESETS.map(preset).join(" ")}</div>
     <details id="sides-own"><summary>Your own program</summary><div class="line small">${SIDES.map(choice).join("")}
       <label>initial keys <input id="sides-opening" spellcheck="false" placeholder="no keys" size="8"></label>
       <label>calls <textarea id="sides-program" rows="2" cols="24" spellcheck="false"></textarea></label>
       <button data-do="begin">Run this program</button> <button data-do="copy">Copy link</button></div></details>
-    <p id="sides-told" role="status"></p><div id="sides-pictures"></div></section>
+    <p id="scene-told" role="status"></p><div id="sides-pictures"></div></section>
     <footer class="foot"><button class="quiet" data-do="back" aria-label="one turn back">◂</button>
       <input id="sides-slider" type="range" min="0" value="0" aria-label="turn"> <span id="sides-where" class="small"></span> <span id="sides-turns"></span>
       <button class="quiet" id="sides-lecture" data-do="lecture" title="show this as one slide for a lecture hall; Escape leads back">Lecture view</button></footer>`;
   }
-  function begin({ given: given2 }) {
+  function begin2({ given: given2 }) {
     const { calls, turns = "", quota, opening = "" } = { ...readAddress(PRESETS[0][1]).sides, ...given2 };
     const program = [];
     for (const call of calls.split(",").filter((one) => one !== "")) {
@@ -7228,12 +8485,12 @@ ${END}`) && text.startsWith(before.text.slice(0, -END.length));
       for (const thread of turns)
         if (!shown.sides.turn(thread))
           break;
-      sidesPart("told").textContent = "";
+      part("#scene-told").textContent = "";
       takeTurns();
     } catch (fault) {
       if (!(fault instanceof ProgramFault))
         throw fault;
-      sidesPart("told").textContent = fault.message;
+      part("#scene-told").textContent = fault.message;
     }
   }
   function takeTurns() {
@@ -7247,7 +8504,7 @@ ${END}`) && text.startsWith(before.text.slice(0, -END.length));
     const isMade = shown.sides.turn(thread);
     takeTurns();
     if (!isMade)
-      sidesPart("told").innerHTML = `${chipOf(thread)} has ended all its calls in both lists.`;
+      part("#scene-told").innerHTML = `${chipOf(thread)} has ended all its calls in both lists.`;
   }
   function turnTo(at) {
     shown.at = Math.min(Math.max(at, 0), shown.sides.turns.length);
@@ -7272,8 +8529,8 @@ ${END}`) && text.startsWith(before.text.slice(0, -END.length));
     end();
     sidesPart("pictures").innerHTML = sides.map(({ kind }) => tag("section", { "aria-label": LISTS[kind].name }, PICTURE)).join("");
     const boxes = sidesPart("pictures").querySelectorAll(".pair");
-    const specOf = ({ kind, trace, state }) => ({ list: kind, run: new ShownRun(trace, state), code: false, sentence: sentenceOf, roomFor: 560, high: 0.3 });
-    figures.push(...sides.map((side, at) => new StillFigure(boxes[at], specOf(side))));
+    const specOf = ({ kind, trace, state }) => ({ ...STILL, list: kind, run: new ShownRun(trace, state), code: false, sentence: sentenceOf, roomFor: 560, high: 0.3 });
+    figures.push(...sides.map((side, at) => new Figure(boxes[at], specOf(side))));
     return figures;
   }
   var end = () => shown.figures.splice(0).forEach((figure) => figure.end());
@@ -7284,7 +8541,7 @@ ${END}`) && text.startsWith(before.text.slice(0, -END.length));
     box.querySelector("h2").innerHTML = `${LISTS[side.kind].name} <small>${count} events</small>`;
     box.querySelector("a").href = addressOf(side.schedule, count) ?? "#";
     side.state.moveTo(count);
-    figure.take(new ShownRun(side.trace, side.state, count), void 0, now.prefs.hides);
+    figure.showRun(new ShownRun(side.trace, side.state, count), void 0, now.prefs.hides);
     const hasWaited = at > 0 && count === side.counts[at - 1];
     if (hasWaited)
       figure.tell(`${chipOf(turns[at - 1])} has ended its call here, and waits for the other list.`);
@@ -7296,11 +8553,6 @@ ${END}`) && text.startsWith(before.text.slice(0, -END.length));
     if (opening.length > 0)
       parts.push(`opening=${opening.join(".")}`);
     return `#${[...parts, `calls=${calls.join()}`, `turns=${sides.turns.join(".")}`].join("&")}`;
-  }
-  async function copySides() {
-    const link = linkTo(addressOfSides());
-    const isCopied = await copied(link);
-    sidesPart("told").innerHTML = `${isCopied ? "The link is copied" : "Copy this link"}: <code>${escaped(link)}</code>${warningOf(link)}`;
   }
   function press(event) {
     const { sides, at } = shown;
@@ -7316,1269 +8568,406 @@ ${END}`) && text.startsWith(before.text.slice(0, -END.length));
   var compareView = {
     kind: "compare",
     title: (place) => `${listsOf(place).map((kind) => LISTS[kind].name).join(" beside ")} · Why not just one lock?`,
-    html,
-    begin,
+    html: html2,
+    begin: begin2,
     draw,
     end,
     press,
     deeds: {
       begin: () => beginSides(),
-      copy: copySides,
+      copy: () => copyText(linkTo(addressOfSides()), "The link is copied."),
       back: () => turnTo(shown.at - 1),
       turn: ({ dataset }) => turnOf(Number(dataset.thread)),
       lecture: toggleLecture
     }
   };
 
-  // src/course/course_link.js
-  async function passed(bytes, stream) {
-    return new Uint8Array(await new Response(new Blob([bytes]).stream().pipeThrough(stream)).arrayBuffer());
-  }
-  async function courseAddress(text) {
-    const lines = text.split("\n").filter((line) => line.trim() !== "" && !line.startsWith("#"));
-    const bytes = await passed(new TextEncoder().encode(`${lines.join("\n")}
-`), new CompressionStream("deflate-raw"));
-    const letters = btoa(Array.from(bytes, (byte) => String.fromCharCode(byte)).join(""));
-    const address = `#course=${letters.replaceAll("+", "-").replaceAll("/", "_").replace(/=+$/, "")}`;
-    return address.length <= LONGEST_ADDRESS ? address : null;
-  }
-  async function courseOfAddress(letters) {
-    try {
-      const bytes = Uint8Array.from(atob(letters.replaceAll("-", "+").replaceAll("_", "/")), (letter) => letter.charCodeAt(0));
-      return new TextDecoder().decode(await passed(bytes, new DecompressionStream("deflate-raw")));
-    } catch {
-      throw new AddressFault("the course of the address cannot be unpacked: the link is cut");
+  // src/story/learning.js
+  var Learning = class {
+    constructor() {
+      this.kept = new KeptLessons();
+      const text = this.kept.courses.get(this.kept.course) ?? BOOK;
+      const course = text === BOOK ? bookCourse() : triedCourse(askNow, text);
+      this.takeCourse(course.faults.length === 0 ? course : bookCourse());
     }
-  }
-
-  // src/run/moments.js
-  var Run = class {
-    constructor(trace) {
-      const state = new State(trace);
-      const keys = new Set(trace.opening);
-      this.calls = trace.calls;
-      this.moments = trace.events().map((event) => momentAfter(state, keys, event));
-    }
-    // The moments of a call's own events, from its begin on.
-    ofCall(call) {
-      return this.moments.filter(({ event }) => event.call === call);
-    }
-    lastOf(call) {
-      return this.moments[call.ended - 1];
-    }
-    // The stretches in which a thread makes no step: the moment of its step before, and those of the others up to its next.
-    restsOf(thread) {
-      const steps = this.moments.filter(({ event }) => event.thread === thread);
-      return steps.map((step, at) => {
-        const next = steps[at + 1]?.event.number ?? this.moments.length + 1;
-        return { step, others: this.moments.slice(step.event.number, next - 1) };
-      });
-    }
-    // The node that a call put in or marked, or null.
-    nodeOf(call) {
-      return call.changes ? nodeOf(this.moments[call.at - 1].event) : null;
-    }
-    // Whether a node is in the chain just before this moment, and no more just after it.
-    isTakenOut(node, { event, chain }) {
-      return this.moments[event.number - 2]?.chain.includes(node) === true && !chain.includes(node);
-    }
-  };
-  function momentAfter(state, keys, event) {
-    const row = state.threads[event.thread].pc;
-    state.moveTo(event.number);
-    if (event.put !== void 0)
-      keys.add(event.put);
-    if (event.took !== void 0)
-      keys.delete(event.took);
-    const thread = { ...state.threads[event.thread] };
-    const linkOfPred = state.nodes[thread.pred]?.link;
-    return { event, row, thread, linkOfPred, chain: state.chain(), locks: locksIn(state), keys: new Set(keys) };
-  }
-  function locksIn(state) {
-    const words = [state, ...Object.values(state.nodes)];
-    return words.map(({ lock }) => lock).filter((lock) => lock !== "free");
-  }
-  var locksOf = (moment, thread) => moment.locks.filter((lock) => lock === `t${thread}`).length;
-  var nodeOf = (event) => ownerIn(event.word);
-  var isFailedStep = ({ event }) => isFailed(event);
-  var isFailedTry = (moment) => isFailedStep(moment) && isLock(moment.event.word);
-  var isMarkSeen = ({ event }) => event.saw !== void 0 && event.saw.endsWith("*");
-  var isReadOfLink = ({ event }) => event.deed === "load" && event.word.endsWith(".link");
-  var isInChain = (moment) => moment.chain.includes(nodeOf(moment.event));
-  var isWithin = (call, { step, others }) => call.begun > step.event.number && call.ended !== null && call.ended <= step.event.number + others.length;
-
-  // src/course/goal_words.js
-  var GoalFault = class extends Error {
-    constructor(line, fault) {
-      super(fault);
-      this.line = line;
-    }
-  };
-  var isRising = (one, other) => one !== null && other !== null && one < other;
-  var endOf = (found) => found.event ? found.event.number : found.ended ?? Infinity;
-  var answeredKey = (call) => Number(call.reply?.slice("at-".length));
-  var hasSmaller = (call, { keys }) => [...keys].some((key) => call.key <= key && key < answeredKey(call));
-  var CALL_CLAUSES = [
-    [/^(add|remove|contains|ceiling)$/, (call, [operation]) => call.operation === operation],
-    [/^key (\d+)$/, (call, [key]) => call.key === Number(key)],
-    [/^answers a key$/, (call) => call.reply?.startsWith("at-") === true],
-    [/^answers (true|false|full|nothing|at-\d+)$/, (call, [reply]) => call.reply === reply],
-    [/^ended$/, (call) => call.ended !== null],
-    [/^open$/, (call) => call.ended === null],
-    [/^begins after ([A-Z]\w*)$/, (call, [other]) => other.begun < call.begun],
-    [/^takes effect after ([A-Z]\w*)$/, (call, [other]) => isRising(other.at, call.at)],
-    [/^ends during ([A-Z]\w*)$/, (call, [other]) => other.begun < endOf(call) && endOf(call) < (other.ended ?? Infinity)],
-    [/^within ([A-Z]\w*)$/, (call, [rest]) => isWithin(call, rest)],
-    [/^its key always in the set$/, (call, _, run) => run.ofCall(call).every(({ keys }) => keys.has(call.key))],
-    [/^a smaller key always in the set$/, (call, _, run) => run.ofCall(call).every((moment) => hasSmaller(call, moment))],
-    [/^its node in the chain at its end$/, (call, _, run) => run.lastOf(call)?.chain.includes(run.nodeOf(call)) === true]
-  ];
-  var STEP_CLAUSES = [
-    [/^row (\d+)$/, (step, [row]) => step.row === Number(row)],
-    [/^to row (\d+)$/, (step, [row]) => step.thread.pc === Number(row)],
-    [/^without a reply$/, (step) => step.thread.reply === "none"],
-    [/^fails$/, (step) => isFailedStep(step)],
-    [/^tries in vain a lock of (\d+)$/, (step, [thread]) => isFailedTry(step) && step.event.saw === `t${thread}`],
-    [/^sees a mark$/, (step) => isMarkSeen(step)],
-    [/^reads a link$/, (step) => isReadOfLink(step)],
-    [/^in the chain$/, (step) => isInChain(step)],
-    [/^out of the chain$/, (step) => !isInChain(step)],
-    [/^holding (\d+)$/, (step, [count]) => locksOf(step, step.event.thread) === Number(count)],
-    [/^last$/, (step) => step.event.answer !== void 0],
-    [/^pred leads to curr$/, (step) => step.linkOfPred === step.thread.curr],
-    [/^at another node than ([A-Z]\w*)$/, (step, [other]) => nodeOf(step.event) !== nodeOf(other.event)],
-    [/^after ([A-Z]\w*)$/, (step, [other]) => step.event.number > endOf(other)],
-    [/^by another thread than ([A-Z]\w*)$/, (step, [other]) => step.event.thread !== (other.event ?? other).thread],
-    [/^in ([A-Z]\w*)$/, (step, [rest]) => rest.others.includes(step)],
-    [/^takes out the node of ([A-Z]\w*)$/, (step, [call], run) => run.isTakenOut(run.nodeOf(call), step)]
-  ];
-  var REST_CLAUSES = [[/^holding (\d+)$/, (rest, [count]) => locksOf(rest.step, rest.step.event.thread) === Number(count)]];
-  var CLAUSES = { call: CALL_CLAUSES, step: STEP_CLAUSES, rest: REST_CLAUSES };
-  var NAMED = {
-    "begins after": "call",
-    "takes effect after": "call",
-    "ends during": "call",
-    within: "rest",
-    in: "rest",
-    "at another node than": "step",
-    "takes out the node of": "call"
-  };
-  var GOAL_FORMS = '"call C of 0: ..", "step S in C: ..", "rest R of 0", "3 steps of 1: ..", "all calls ended", "say .."';
-  var GOAL_LINE = /^(?:(call|step|rest) ([A-Z]\w*)|(\d+) (call|step)s?)(?: (of|in) (\w+))?(?:: (.+))?$/;
-  function readGoalLine(text, number, names) {
-    const fail = (fault) => {
-      throw new GoalFault(number, fault);
-    };
-    if (text.startsWith("say "))
-      return { says: text.slice("say ".length).trim() };
-    if (text === "all calls ended")
-      return { isWhole: (run) => run.calls.every((call) => call.ended !== null) };
-    const parts = GOAL_LINE.exec(text) ?? fail(`"${text}" is no line of a goal, as ${GOAL_FORMS}`);
-    const [, kind, name, count, kinds, join, whose, clauses = ""] = parts;
-    const sort = kind ?? kinds;
-    const known3 = (word) => names.get(word) ?? fail(`nothing above is named ${word}`);
-    if (join === "in" && known3(whose) !== "call")
-      fail(`${whose} is no call`);
-    if (join === "of" && !/^\d+$/.test(whose))
-      fail(`${whose} is no thread`);
-    const isNew = name !== void 0 && !names.has(name);
-    if (name !== void 0 && !isNew && names.get(name) !== sort)
-      fail(`${name} is a ${names.get(name)}`);
-    if (name !== void 0 && !isNew && join !== void 0)
-      fail(`${name} is found above: "${kind} ${name}: .." asks for more of it`);
-    if (sort === "rest" && isNew && join !== "of")
-      fail('a rest is that of a thread: "rest R of 0"');
-    if (sort !== "step" && join === "in")
-      fail(`a ${sort} is "of" a thread`);
-    const wanted = clauses.split(",").map((clause) => clause.trim()).filter((clause) => clause !== "");
-    const tests = wanted.map((clause) => readClause(sort, clause, known3, fail));
-    if (isNew)
-      names.set(name, sort);
-    return { sort, name, isNew, count: count === void 0 ? null : Number(count), join, whose, tests };
-  }
-  function formOf2([pattern]) {
-    const bare2 = pattern.source.replace(/^\^|\$$/g, "").replaceAll("([A-Z]\\w*)", "X").replace(/\\d\+/g, "N");
-    return bare2.replace(/\(([^)]*)\)/g, "$1");
-  }
-  var formsOf = (sort) => CLAUSES[sort].map(formOf2).join(", ");
-  function readClause(sort, clause, known3, fail) {
-    const isOf = ([pattern]) => pattern.test(clause);
-    const [words, test] = CLAUSES[sort].find(isOf) ?? fail(`"${clause}" is no clause of a ${sort}, which are ${formsOf(sort)}`);
-    const given2 = words.exec(clause).slice(1);
-    for (const word of given2.filter((one) => /^[A-Z]/.test(one))) {
-      const [found, wanted] = [known3(word), NAMED[clause.slice(0, clause.lastIndexOf(" "))]];
-      if (wanted !== void 0 && found !== wanted)
-        fail(`${word} is a ${found}, and a ${wanted} is due there`);
-    }
-    return (found, run, bound) => test(found, given2.map((word) => bound.get(word) ?? word), run);
-  }
-  function readGoal(lines) {
-    const names = /* @__PURE__ */ new Map();
-    const read = lines.map((line, index) => readGoalLine(line, index + 1, names));
-    if (read.at(-1)?.says === void 0)
-      throw new GoalFault(lines.length, 'a goal ends with a line "say .."');
-    return read;
-  }
-  function foundBy(line, run, bound) {
-    if (line.name !== void 0 && !line.isNew)
-      return [bound.get(line.name)];
-    const thread = line.join === "of" ? Number(line.whose) : null;
-    if (line.sort === "rest")
-      return run.restsOf(thread);
-    if (line.sort === "call")
-      return run.calls.filter((call) => thread === null || call.thread === thread);
-    const steps = line.join === "in" ? run.ofCall(bound.get(line.whose)) : run.moments;
-    return steps.filter(({ event }) => event.deed !== "begin" && (thread === null || event.thread === thread));
-  }
-  var MOST_WAYS = 1e5;
-  var TooManyWays = class extends Error {
-  };
-  function canMeet(lines, run) {
-    let left = MOST_WAYS;
-    const from = (at, bound) => {
-      if (at === lines.length)
-        return true;
-      if (left-- === 0)
-        throw new TooManyWays();
-      const line = lines[at];
-      if (line.says !== void 0)
-        return from(at + 1, bound);
-      if (line.isWhole !== void 0)
-        return line.isWhole(run) && from(at + 1, bound);
-      const fits2 = foundBy(line, run, bound).filter((found) => line.tests.every((test) => test(found, run, bound)));
-      if (line.count !== null)
-        return fits2.length >= line.count && from(at + 1, bound);
-      return fits2.some((found) => from(at + 1, new Map(bound).set(line.name, found)));
-    };
-    return from(0, /* @__PURE__ */ new Map());
-  }
-  function conditionsOf(goal, run) {
-    const ends = goal.map(({ says }, index) => ({ says, index })).filter(({ says }) => says !== void 0);
-    return ends.map(({ says, index }) => ({ says, isMet: canMeet(goal.slice(0, index), run) }));
-  }
-
-  // src/course/course_text.js
-  var COURSE_TITLE = "listset-course 1";
-  var MOST_COURSE = 1e6;
-  var LESSON_WORDS = {
-    lesson: { form: /^[a-z][a-z0-9-]{0,40}$/, says: "a name of small letters, digits and -" },
-    title: { form: /^.{1,80}$/, says: "a title of 1 to 80 letters" },
-    list: { form: /^(coarse|fine|optimistic|lazy|lock-free)$/, says: "coarse, fine, optimistic, lazy or lock-free" },
-    lacks: { form: /^[a-z][a-z-]{0,40}$/, says: "the name of a broken list", isOptional: true },
-    threads: { form: /^([1-9]|[1-5]\d|6[0-4])$/, says: "a number from 1 to 64" },
-    quota: { form: /^(0|[1-9]\d{0,4})$/, says: "a number, the keys that a thread can add" },
-    opening: { form: /^\d+( \d+)*$/, says: "keys, rising, with a space between", isOptional: true },
-    start: { isBlock: true, isOptional: true },
-    question: { isBlock: true },
-    teaches: { isBlock: true, isOptional: true },
-    hint: { isBlock: true, isOptional: true },
-    answer: { isBlock: true, isOptional: true },
-    goal: { isBlock: true },
-    "dead-ends": { isBlock: true, isOptional: true }
-  };
-  var WORDS3 = Object.keys(LESSON_WORDS);
-  function withoutIndent(text) {
-    const lines = text.replace(/^\ufeff/, "").split("\n").map((line) => line.replaceAll("	", "  ").trimEnd());
-    const first = lines.findIndex((line) => line !== "");
-    const indents = lines.filter((line, index) => index > first && line !== "").map((line) => line.search(/\S/));
-    const most = Math.min(...indents);
-    return lines.map((line, index) => index === first ? line.trimStart() : line.slice(Math.min(most, line.search(/\S|$/))));
-  }
-  var CourseReader = class {
-    constructor(text) {
-      this.faults = [];
-      this.name = "";
-      this.lessons = [];
-      this.block = null;
-      const lines = withoutIndent(text).map((line, index) => ({ line, number: index + 1 }));
-      const [title2, ...rest] = lines.filter(({ line }) => line !== "" && !line.startsWith("#"));
-      if (title2?.line !== COURSE_TITLE)
-        this.fault(title2?.number ?? 1, `expected "${COURSE_TITLE}" here`);
-      else
-        this.takeAll(title2, rest);
-    }
-    takeAll(title2, rest) {
-      rest.forEach(({ line, number }) => this.take(line, number));
-      if (this.name === "")
-        this.fault(title2.number, 'expected the line "course NAME" below it');
-      if (this.lessons.length === 0)
-        this.fault(title2.number, "there is no lesson below");
-    }
-    fault(line, fault) {
-      this.faults.push({ line, fault });
-    }
-    take(line, number) {
-      if (line.startsWith("  ")) {
-        if (this.block === null)
-          this.fault(number, "this line belongs to no word: expected a word alone in a line above it");
-        else
-          this.block.lines.push({ line: line.trim(), number });
+    // Takes a course without faults. Its link is packed meanwhile.
+    takeCourse(course) {
+      this.course = course;
+      this.kept.course = course.name;
+      this.own = this.kept.ofCourse(course.name);
+      if (course.name !== BOOK_NAME)
+        this.kept.courses.set(course.name, course.text);
+      this.lesson = course.lessons[0];
+      visit.course = null;
+      if (course.name === BOOK_NAME)
         return;
-      }
-      const word = line.split(" ")[0];
-      const value = line.slice(word.length).trim();
-      this.block = null;
-      if (word === "course" && this.lessons.length === 0)
-        this.name = value.slice(0, 80);
-      else if (Object.hasOwn(LESSON_WORDS, word))
-        this.takeWord(word, value, number);
-      else
-        this.fault(number, `"${word.slice(0, 40)}" is no word of a lesson: one of ${WORDS3.join(", ")}`);
+      const take2 = (address) => this.course === course && (visit.course = address);
+      courseAddress(course.text).then(take2, () => null);
     }
-    takeWord(word, value, number) {
-      const { form, says, isBlock } = LESSON_WORDS[word];
-      const part2 = { number, value, lines: [] };
-      if (isBlock)
-        this.block = part2;
-      if (isBlock && value !== "")
-        this.fault(number, `expected what "${word}" says in the lines below it, each after two spaces`);
-      if (!isBlock && !form.test(value))
-        this.fault(number, `"${value.slice(0, 60)}" is no ${word}: it is ${says}`);
-      if (word === "lesson")
-        return this.lessons.push({ lesson: part2 });
-      const parts = this.lessons[this.lessons.length - 1];
-      if (parts === void 0)
-        return this.fault(number, `expected "lesson NAME" above "${word}"`);
-      const before = Object.keys(parts).pop();
-      if (word in parts)
-        return this.fault(number, `"${word}" is in this lesson already, at line ${parts[word].number}`);
-      if (WORDS3.indexOf(word) < WORDS3.indexOf(before))
-        this.fault(number, `expected "${word}" above "${before}"`);
-      parts[word] = part2;
+    // The lesson of this name: of the course that is open, else of the book, else of a course that is kept, which is opened.
+    lessonNamed(name) {
+      const find = ({ lessons }) => lessons.find((lesson) => lesson.name === name);
+      if (find(this.course) !== void 0)
+        return find(this.course);
+      for (const text of [BOOK, ...this.kept.courses.values()]) {
+        const course = text === BOOK ? bookCourse() : triedCourse(askNow, text);
+        if (course.faults.length > 0 || find(course) === void 0)
+          continue;
+        this.takeCourse(course);
+        return find(course);
+      }
+      return void 0;
     }
-    // The lesson as the panel has it, or null where something of it is missing.
-    lessonOf(parts) {
-      const isDue = (word) => !LESSON_WORDS[word].isOptional && !(word === "goal" && "lacks" in parts);
-      const missing = WORDS3.filter((word) => !(word in parts) && isDue(word));
-      if (missing.length > 0) {
-        this.fault(parts.lesson.number, `the lesson lacks ${missing.map((word) => `"${word}"`).join(", ")}`);
-        return null;
-      }
-      const linesOf2 = (word) => (parts[word]?.lines ?? []).map(({ line }) => line);
-      const events = ["start", "answer"].flatMap((word) => parts[word]?.lines ?? []);
-      const lacks = parts.lacks?.value ?? null;
-      if (lacks !== null && LACKING[lacks] !== parts.list.value) {
-        const own = Object.keys(LACKING).filter((name) => LACKING[name] === parts.list.value);
-        const there = own.length === 0 ? "none is broken" : `the broken ones lack ${own.join(", ")}`;
-        this.fault(parts.lacks.number, `there is no ${parts.list.value} list that lacks "${lacks}": ${there}`);
-        return null;
-      }
-      const goal = "goal" in parts ? this.goalOf(parts.goal) : [];
-      const deadEnds = this.deadEndsOf(parts["dead-ends"]);
-      if (goal === null || deadEnds === null)
-        return null;
-      const lesson = { name: parts.lesson.value, line: parts.lesson.number, lacks, goal, deadEnds };
-      for (const word of ["title", "list"])
-        lesson[word] = parts[word].value;
-      for (const word of ["threads", "quota"])
-        lesson[word] = Number(parts[word].value);
-      for (const word of ["question", "teaches", "hint"])
-        lesson[word] = linesOf2(word).join(" ");
-      const opening = parts.opening?.value.split(" ") ?? [];
-      return { ...lesson, opening, start: linesOf2("start"), answer: linesOf2("answer"), events };
+    isSolved(name) {
+      return this.own.solutions.has(name);
     }
-    goalOf({ number, lines }) {
-      try {
-        return readGoal(lines.map(({ line }) => line));
-      } catch (found) {
-        if (!(found instanceof GoalFault))
-          throw found;
-        this.fault(lines[found.line - 1]?.number ?? number, found.message);
-        return null;
-      }
+    firstUnsolved() {
+      return this.course.lessons.find(({ name }) => !this.isSolved(name));
     }
-    // Each line `say ..` ends a dead end of its own.
-    deadEndsOf(part2) {
-      if (part2 === void 0)
-        return [];
-      const ends = [[]];
-      for (const line of part2.lines) {
-        ends[ends.length - 1].push(line);
-        if (line.line.startsWith("say "))
-          ends.push([]);
-      }
-      const goals = ends.filter((lines) => lines.length > 0).map((lines) => this.goalOf({ number: part2.number, lines }));
-      return goals.includes(null) ? null : goals;
+    get workName() {
+      return `lesson ${this.lesson.name}${this.course.name === BOOK_NAME ? "" : ` of ${this.course.name}`}`;
+    }
+    lastTry() {
+      const { course, lesson } = this;
+      const isTry = ({ task }) => task.kind === "lesson" && task.course === course.name && task.id === lesson.name;
+      return works.byName.get(works.last(isTry))?.text ?? null;
+    }
+    keepTry(text) {
+      const task = { kind: "lesson", id: this.lesson.name, course: this.course.name };
+      works.set(this.workName, { text, box: text, count: eventsAsked(text), lacks: this.lesson.lacks, task });
+    }
+    // What is said of a try. A solution is kept, unless it is the answer that the reader has looked at.
+    judge(text) {
+      const { lesson, own } = this;
+      const { name, solution } = lesson;
+      const verdict = judged(askNow, lesson, text);
+      const isShown3 = own.looked.has(name) && solution !== null && linesOf(text).join() === linesOf(solution).join() && !own.solutions.has(name);
+      if (verdict.isSolved && !isShown3 && !own.solutions.has(name))
+        own.solutions.set(name, text);
+      const isKept = this.kept.save();
+      return { ...verdict, isShown: isShown3, isKept };
+    }
+    lookAtAnswer() {
+      this.own.looked.add(this.lesson.name);
+      this.kept.save();
     }
   };
-  function readCourse(text) {
-    const reader = new CourseReader(text.slice(0, MOST_COURSE));
-    if (text.length > MOST_COURSE)
-      reader.fault(1, `a course has at most ${MOST_COURSE} letters`);
-    const lessons = reader.lessons.map((parts) => reader.lessonOf(parts)).filter((lesson) => lesson !== null);
-    const twice = lessons.filter((lesson, index) => lessons.findIndex(({ name }) => name === lesson.name) < index);
-    for (const { name, line } of twice)
-      reader.fault(line, `there is a lesson ${name} above`);
-    return { name: reader.name, lessons, faults: reader.faults };
-  }
-  function lessonText({ list, threads, quota, opening }, lines) {
-    const isOfVersionTwo = opening.length > 0 || lines.some((line) => line.includes(" ceiling "));
-    const header = [titleOf(isOfVersionTwo ? 2 : 1), `list ${list}`, `threads ${threads}`, `quota ${quota}`];
-    return [...header, ...opening.map((key) => `opening ${key}`), ...lines, ""].join("\n");
-  }
-
-  // src/course/lesson.js
-  var MOST_EVENTS = 1e3;
-  var OTHER_SET = "The list, the number of threads, the quota and the opening keys are to be those of the lesson.";
-  var setOf = (schedule) => schedule.split("\n").slice(1).filter((line) => !/^(begin|go) /.test(line)).join("\n");
-  function runOfSchedule(ask, schedule, lacks) {
-    const made2 = askList(ask, "listset_trace", lacks, schedule).text;
-    if (!isTrace(made2))
-      return { trace: null, fault: { ...readFault(made2), says: `The schedule is refused: ${made2.trim()}.` } };
-    const trace = new Trace(made2, versionOf(schedule));
-    const { refused } = trace;
-    if (refused === null)
-      return { trace, fault: null };
-    const why = sentenceOn(ask, refused.cause, "a schedule") ?? refused.cause;
-    return { trace: null, fault: { ...refused, says: `Line ${refused.line} of the schedule is refused: ${why}.` } };
-  }
-  var unjudged = (reason, fault = null) => ({ isSolved: false, reason, fault, conditions: [], deadEnd: null });
-  function judged(ask, lesson, schedule) {
-    if (setOf(schedule) !== setOf(lesson.begun))
-      return unjudged(OTHER_SET);
-    if (eventsAsked(schedule) > MOST_EVENTS)
-      return unjudged(`A solution has at most ${MOST_EVENTS} events.`);
-    const { trace, fault } = runOfSchedule(ask, schedule, lesson.lacks);
-    if (trace === null)
-      return unjudged(fault.says, fault);
-    const run = new Run(trace);
-    const conditions = withinBound(() => conditionsOfLesson(ask, lesson, schedule, run));
-    if (conditions === null)
-      return unjudged("This run is not judged: there are too many ways in which it could meet the goal.");
-    const isSolved = conditions.every(({ isMet }) => isMet);
-    return { isSolved, reason: null, fault: null, conditions, deadEnd: isSolved ? null : withinBound(() => deadEndIn(lesson, run)) };
-  }
-  function withinBound(search) {
-    try {
-      return search();
-    } catch (fault) {
-      if (!(fault instanceof TooManyWays))
-        throw fault;
-      return null;
-    }
-  }
-  function isBounded(ask, { list, threads, goal }) {
-    const { text, status } = ask("listset_gen", [list, Math.max(threads, 2), 4, 6, 3, 1].join("\0"));
-    const { trace } = status === 0 ? runOfSchedule(ask, text, null) : { trace: null };
-    return trace === null || withinBound(() => conditionsOf(goal, new Run(trace))) !== null;
-  }
-  var conditionTexts = ({ goal, lacks }) => [...goal.map(({ says }) => says), lacks === null ? void 0 : TO_BREAK].filter((says) => says !== void 0);
-  function conditionsOfLesson(ask, { goal, lacks }, schedule, run) {
-    const conditions = conditionsOf(goal, run);
-    if (lacks === null)
-      return conditions;
-    return [...conditions, { says: TO_BREAK, isMet: verdictOnLacking(ask, lacks, schedule).kind === "broken" }];
-  }
-  function deadEndIn(lesson, run) {
-    const met = lesson.deadEnds.map((lines) => conditionsOf(lines, run)[0]).find(({ isMet }) => isMet);
-    return met?.says ?? null;
-  }
-  function missingIn({ reason, conditions }) {
-    const missing = conditions.find(({ isMet }) => !isMet);
-    return reason ?? (missing === void 0 ? null : `missing: ${missing.says}`);
-  }
-  function troubleOf(ask, lesson) {
-    const start = scheduleOfDraft(ask, lessonText(lesson, lesson.start), lesson.lacks);
-    if (start.fault !== null)
-      return refusedLine(ask, lesson, "start", readFault(start.fault));
-    lesson.begun = start.text;
-    const begin11 = runOfSchedule(ask, start.text, lesson.lacks);
-    if (begin11.trace === null)
-      return refusedLine(ask, lesson, "start", begin11.fault);
-    if (!isBounded(ask, lesson)) {
-      return { line: lesson.line, says: "there are too many ways to meet its goal: name fewer steps, or say more of each" };
-    }
-    const met = withinBound(() => conditionsOfLesson(ask, lesson, start.text, new Run(begin11.trace))) ?? [{ isMet: false }];
-    if (met.every(({ isMet }) => isMet))
-      return { line: lesson.line, says: "its start meets the goal already" };
-    lesson.solution = null;
-    if (lesson.answer.length === 0)
-      return null;
-    const answer2 = scheduleOfDraft(ask, lessonText(lesson, [...lesson.start, ...lesson.answer]), lesson.lacks);
-    if (answer2.fault !== null)
-      return refusedLine(ask, lesson, "answer", readFault(answer2.fault));
-    lesson.solution = answer2.text;
-    const verdict = judged(ask, lesson, answer2.text);
-    if (verdict.isSolved)
-      return null;
-    if (verdict.reason !== null)
-      return refusedLine(ask, lesson, "answer", verdict.fault ?? { line: null, cause: null, says: verdict.reason });
-    return { line: lesson.line, says: `its answer does not solve it: ${missingIn(verdict)}` };
-  }
-  function refusedLine(ask, lesson, part2, { line, cause, says }) {
-    const given2 = lesson.events[line - HEADER_LINES - lesson.opening.length - 1];
-    const why = sentenceOn(ask, cause, "a schedule", "a draft");
-    if (given2 === void 0 || why === null)
-      return { line: lesson.line, says: `its ${part2} is refused: ${says}` };
-    return { line: given2.number, says: `its ${part2} is refused at "${given2.line}": ${why}` };
-  }
-  function triedCourse(ask, text) {
-    const { name, lessons, faults } = readCourse(text);
-    for (const lesson of faults.length === 0 ? lessons : []) {
-      const fault = troubleOf(ask, lesson);
-      if (fault !== null)
-        faults.push({ line: fault.line, fault: `${lesson.name}: ${fault.says}` });
-    }
-    return { name, lessons, text, faults: faults.sort((one, other) => one.line - other.line) };
-  }
-
-  // src/course/hand_in.js
-  var HAND_IN_TITLE = "listset-lessons 2";
-  function handInText(course, student, solutions, otherLines) {
-    const lines = solutions.map(({ name, schedule }) => `${name} ${addressOf(schedule, eventsAsked(schedule))}`);
-    return [HAND_IN_TITLE, `course ${course}`, `student ${student}`, ...lines, ...otherLines, "end", ""].join("\n");
-  }
-  function unmailed(text) {
-    const isCoded = /=3D/i.test(text);
-    const lines = [];
-    let goesOn2 = false;
-    text.split(/\r\n|\r|\n/).forEach((given2, index) => {
-      const bare2 = given2.replace(/[\u200b\ufeff]/g, "").replaceAll(" ", " ").replace(/^[\s>|]+/, "").trimEnd();
-      const line = isCoded ? bare2.replace(/=$/, "") : bare2;
-      if (goesOn2)
-        lines[lines.length - 1].line += line;
-      else
-        lines.push({ line, number: index + 1 });
-      goesOn2 = isCoded && bare2.endsWith("=");
-    });
-    const letterOf2 = (_, code) => String.fromCharCode(parseInt(code, 16));
-    const decoded = (line) => isCoded ? line.replace(/=([0-9A-F]{2})/gi, letterOf2) : line;
-    return lines.map(({ line, number }) => ({ line: decoded(line).replaceAll("&amp;", "&"), number }));
-  }
-  function textsIn(text) {
-    const found = [];
-    const given2 = text.split(/\r\n|\r|\n/);
-    for (const { line, number } of unmailed(text)) {
-      const last = found.at(-1);
-      if (line === COURSE_TITLE)
-        found.push({ kind: "course", number, lines: [] });
-      else if (line === HAND_IN_TITLE)
-        found.push({ kind: "hand-in", number, lines: [] });
-      else if (last?.kind === "hand-in" && !last.isEnded && line === "end")
-        last.isEnded = true;
-      else if (last?.kind === "hand-in" && !last.isEnded && line !== "")
-        last.lines.push({ line, number });
-    }
-    for (const [index, course] of found.entries()) {
-      if (course.kind !== "course")
-        continue;
-      course.text = given2.slice(course.number - 1, (found[index + 1]?.number ?? given2.length + 1) - 1).join("\n");
-    }
-    return found;
-  }
-  var isBegin = (line) => /^(student|course|judge|break) /.test(line) || /^[a-z][a-z0-9-]* +(\S*#|<?https?:)/.test(line);
-  var lacksWords = (line) => /^judge /.test(line) ? line.split(" ").length < 4 : !/^(student|course) /.test(line) && !line.includes("#");
-  var isPiece = (line) => !line.includes(" ") || /^\S*[.,=&]\S* /.test(line);
-  function readHandIn({ lines, isEnded, number }) {
-    const parts = [];
-    const faults = [];
-    for (const given2 of lines) {
-      const last = parts.at(-1);
-      const isName = /^[a-z][a-z0-9-]*$/.test(given2.line) && (last === void 0 || !lacksWords(last.line));
-      if (isBegin(given2.line) || isName)
-        parts.push({ ...given2 });
-      else if (last !== void 0 && lacksWords(last.line))
-        last.line += ` ${given2.line}`;
-      else if (last !== void 0 && isPiece(given2.line))
-        last.line += given2.line;
-      else
-        faults.push({ line: given2.number, fault: `"${given2.line.slice(0, 40)}" is no line of a solution` });
-    }
-    const valueOf = (word) => parts.find(({ line }) => line.startsWith(`${word} `))?.line.slice(word.length + 1) ?? null;
-    if (!isEnded)
-      faults.push({ line: number, fault: 'the text is cut: the line "end" is missing' });
-    const solutions = parts.filter(({ line }) => !/^(student|course) /.test(line));
-    return { course: valueOf("course"), student: valueOf("student"), solutions, faults };
-  }
-  function readSchedule(link) {
-    try {
-      const { text } = readAddress(link.slice(link.indexOf("#")).replace(/>$/, ""));
-      return text === null ? { fault: "the address is not that of a schedule" } : { schedule: text };
-    } catch (fault) {
-      if (!(fault instanceof AddressFault))
-        throw fault;
-      return { fault: fault.message };
-    }
-  }
-  function judgedPart(ask, lessons, line) {
-    const [word, ...words] = line.split(/ +/);
-    if (word === "judge")
-      return judgedOrder(ask, words);
-    if (word === "break")
-      return judgedBreak(ask, words);
-    const lesson = lessons.find(({ name }) => name === word);
-    const not = (says) => ({ task: lesson?.name ?? null, isSolved: false, says });
-    if (lesson === void 0)
-      return not(`there is no lesson ${JSON.stringify(word.slice(0, 60))}`);
-    if (words.length === 0 || !words[0].includes("#"))
-      return not("the address of a schedule is missing, from # on");
-    if (words.length > 1)
-      return not("there is more behind the address");
-    const { schedule, fault } = readSchedule(words[0]);
-    if (fault !== void 0)
-      return not(fault);
-    const verdict = judged(ask, lesson, schedule);
-    if (!verdict.isSolved)
-      return not(missingIn(verdict));
-    return { task: lesson.name, isSolved: true, says: "", schedule, isVeryAnswer: schedule === lesson.solution };
-  }
-  function judgedOrder(ask, [run = "", level = "", word = "", ...more]) {
-    const task = `judge ${run} ${level}`;
-    const not = (says2) => ({ task, isSolved: false, says: says2 });
-    if (!Object.hasOwn(LEVELS, level))
-      return not(`a level is due, one of ${Object.keys(LEVELS).join(", ")}`);
-    if (more.length > 0)
-      return not("there is more behind the order");
-    const { schedule, fault } = run.includes("#") ? readSchedule(run) : scheduleOfExample(ask, run);
-    if (fault !== void 0)
-      return not(fault);
-    const report = ask("listset_replay", schedule);
-    if (report.status !== 0)
-      return not(`the schedule is refused: ${report.text.trim()}`);
-    const answer2 = answerOfWord(exerciseOf(report.text, level), word);
-    if (answer2 === null)
-      return not("the order is due, as 0-true,2-true,1-false");
-    const { isRight, says } = verdictOn(ask, answer2);
-    return { task, isSolved: isRight === true, says: isRight === true ? "" : says };
-  }
-  function judgedBreak(ask, [name = "", link = "", ...more]) {
-    const task = `break ${name}`;
-    const not = (says) => ({ task, isSolved: false, says });
-    if (!Object.hasOwn(LACKING, name) || name === NO_TASK)
-      return not("there is no such list to break");
-    if (!link.includes("#"))
-      return not("the address of a schedule is due, from # on");
-    if (more.length > 0)
-      return not("there is more behind the address");
-    const { schedule, fault } = readSchedule(link);
-    if (fault !== void 0)
-      return not(fault);
-    if (eventsAsked(schedule) > MOST_EVENTS)
-      return not(`at most ${MOST_EVENTS} events are due`);
-    const verdict = verdictOnLacking(ask, name, schedule);
-    if (!isTaskDone(name, verdict))
-      return not(verdict.says);
-    return { task, isSolved: true, says: "", schedule, ofExample: exampleBy(ask, name, schedule) };
-  }
-  function exampleBy(ask, name, schedule) {
-    const shown4 = (example) => {
-      const text = ask("listset_example", example).text;
-      return scheduleOfTrace(new Trace(askList(ask, "listset_trace", name, text).text, versionOf(text)));
-    };
-    return Object.keys(CLASSICS).find((example) => CLASSICS[example].lacks.includes(name) && shown4(example) === schedule) ?? null;
-  }
-  function scheduleOfExample(ask, name) {
-    const { status, text } = ask("listset_example", name);
-    return status === 0 ? { schedule: text } : { fault: `there is no example ${JSON.stringify(name.slice(0, 60))}` };
-  }
-
-  // src/run/check_trace.js
-  var MOST_THREADS = 64;
-  var MOST_QUOTA = 16384;
-  var NUMBER = "(?:0|[1-9]\\d{0,9})";
-  var NODE = `(?:head|tail|n${NUMBER})`;
-  var KEY = `(?:[-+]inf|${NUMBER})`;
-  var REPLY = `(?:true|false|full|nothing|at-${NUMBER})`;
-  var VALUES = { lock: `(?:free|t${NUMBER})`, key: KEY, link: `${NODE}\\*?`, threads: NUMBER, quota: NUMBER };
-  function accessOf([field, value]) {
-    const word = `(?:list|${NODE})\\.${field}`;
-    return `load ${word} saw ${value}|store ${word} ${value}|exchange ${word} from ${value} to ${value} saw ${value}`;
-  }
-  var ACCESS = Object.entries(VALUES).map(accessOf).join("|");
-  var registers = (names, value) => names.map((name) => `(?: ${name} ${value})?`).join("");
-  var CHANGES2 = `${registers(NODE_REGISTERS, NODE)}${registers(KEY_REGISTERS, KEY)}(?: used ${NUMBER})?(?: reply (?:none|${REPLY}))?`;
-  var BEGIN = `begin (?:${CALL_WORDS.join("|")}) ${NUMBER} call (?<begun>${NUMBER}) pc ${NUMBER}`;
-  var STEP = `(?:${ACCESS}) pc ${NUMBER}${CHANGES2}(?<change> (?:put|took) ${NUMBER})?(?: answer ${REPLY} call (?<ended>${NUMBER}) at (?<at>${NUMBER}))?`;
-  var EVENT = new RegExp(`^event (?<number>${NUMBER}) line (?<line>${NUMBER}) thread (?<thread>${NUMBER}) (?:${BEGIN}|${STEP})$`);
-  var OTHER_LINE = new RegExp(`^(?:chain(?: ${NUMBER}\\*?)*|refused line ${NUMBER} (?:NoThread|Busy|Idle|Lost))$`);
-  var TraceFault = class extends Error {
-  };
-  function failAt(number, fault) {
-    throw new TraceFault(`line ${number}: ${fault}`);
-  }
-  function readHead(lines) {
-    const names = ["listset-trace", "list", ...lines[2]?.startsWith("lacks ") ? ["lacks"] : [], "threads", "quota"];
-    const values = names.map((name, at2) => {
-      const [word, value, ...more] = lines[at2].split(" ");
-      return word === name && more.length === 0 ? value : failAt(at2 + 1, `expected "${name}" and a value`);
-    });
-    const { list, lacks, threads, quota } = Object.fromEntries(names.map((name, at2) => [name, values[at2]]));
-    const isNumber = (value, least, most) => /^\d+$/.test(value) && String(Number(value)) === value && least <= Number(value) && Number(value) <= most;
-    const tests = { "listset-trace": values[0] === "1", list: Object.hasOwn(LISTS, list), lacks: LACKING[lacks] === list };
-    Object.assign(tests, { threads: isNumber(threads, 1, MOST_THREADS), quota: isNumber(quota, 0, MOST_QUOTA) });
-    const wrong = names.findIndex((name) => !tests[name]);
-    if (wrong !== -1)
-      failAt(wrong + 1, `"${values[wrong]}" is no value of "${names[wrong]}"`);
-    let last = -1;
-    let at = names.length;
-    for (; lines[at]?.startsWith("opening "); at++) {
-      const key = lines[at].slice("opening ".length);
-      if (!isNumber(key, last + 1, MOST_NUMBER))
-        failAt(at + 1, "expected an opening key above the one before");
-      last = Number(key);
-    }
-    const opening = { length: at - names.length };
-    return { threads: Number(threads), quota: Number(quota), opening, first: at, head: HEADER_LINES + opening.length };
-  }
-  function faultOfEvent({ number, line, thread, begun, ended, at, change: change2 }, run) {
-    const open = run.open[thread];
-    if (Number(number) !== ++run.events)
-      return `expected event ${run.events}`;
-    if (Number(line) < Math.max(run.line, run.head + 1) || Number(line) > Math.max(run.line, run.head) + 1)
-      return `line ${line} of the schedule does not come next`;
-    run.line = Number(line);
-    if (open === void 0)
-      return `there is no thread ${thread}`;
-    if (begun !== void 0 && open !== null)
-      return `thread ${thread} begins a call and has one open`;
-    if (begun === void 0 && open === null)
-      return `thread ${thread} makes a step and has no call open`;
-    if (begun !== void 0) {
-      run.open[thread] = { id: run.calls, least: run.events, most: null };
-      return Number(begun) === run.calls++ ? null : `expected call ${run.calls - 1}`;
-    }
-    if (change2 !== void 0)
-      Object.assign(open, { least: run.events, most: run.events });
-    if (ended === void 0)
-      return null;
-    run.open[thread] = null;
-    if (Number(ended) !== open.id)
-      return `expected an answer of call ${open.id}`;
-    return open.least <= Number(at) && Number(at) <= (open.most ?? run.events) ? null : `the call does not take effect at event ${at}`;
-  }
-  function isOfSet(line, run) {
-    const most = firstOpeningNode(run) + run.opening.length;
-    const numbers = (form) => Array.from(line.matchAll(form), ([, value]) => Number(value));
-    return numbers(/(\d+)/g).every((value) => value <= MOST_NUMBER) && numbers(/\bn(\d+)/g).every((value) => value >= 2 && value < most) && numbers(/\bt(\d+)/g).every((value) => value < run.threads);
-  }
-  function readWhole(text) {
-    const lines = text.split("\n");
-    const head2 = readHead(lines);
-    const run = { ...head2, open: Array(head2.threads).fill(null), events: 0, calls: 0, line: 0 };
-    let at = run.first;
-    for (; lines[at] !== "end" && !lines[at - 1].startsWith("refused "); at++) {
-      const line = lines[at] ?? failAt(at + 1, 'expected a line "end"');
-      const event = (
-        /** @type {any} */
-        EVENT.exec(line)?.groups
-      );
-      if (event === void 0 && !OTHER_LINE.test(line) || !isOfSet(line, run))
-        failAt(at + 1, `"${line.slice(0, 80)}" is no line of a trace`);
-      const fault = event === void 0 ? null : faultOfEvent(event, run);
-      if (fault !== null)
-        failAt(at + 1, fault);
-    }
-    const end3 = lines[at] === "end" ? at + 1 : at;
-    if (end3 !== lines.length - 1 || lines[end3] !== "")
-      failAt(end3, "expected the end of the trace here, and one newline");
-  }
-  function faultOfTrace(text) {
-    try {
-      readWhole(text);
-      return null;
-    } catch (fault) {
-      if (!(fault instanceof TraceFault))
-        throw fault;
-      return fault.message;
-    }
-  }
-
-  // src/run/recorded.js
-  var RECORDED_EXAMPLE = `listset-calls 1
-opening 8
-call 0 add 5 1 4 true
-call 1 add 5 2 3 true
-call 2 remove 8 5 6 true
-key 5
-end
-`;
-  var MOST_DRAWN = 40;
-  var withNewline = (text) => text === "" || text.endsWith("\n") ? text : `${text}
-`;
-  var recordedInWords = (call) => call.ended === null ? `${nameOfCall(call)}, begun at ${call.begun}, is pending` : `${nameOfCall(call)} answers ${call.reply}, from ${call.begun} to ${call.ended}`;
-  function okInWords({ count, isCutOff }) {
-    const calls = count === 1 ? "this one call" : `these ${count.toLocaleString("en")} calls`;
-    const keys = isCutOff ? ", whatever keys it leaves" : " and leaves the keys";
-    return `Linearizable: an order explains ${calls}${keys}. It says nothing of other runs.`;
-  }
-  function remarksOn({ count, overlapped, isCutOff }) {
-    const few = "That is few, and a bug shows only if calls meet: take fewer keys, more threads, or pauses in the set.";
-    return [
-      `${overlapped} of them overlap a change of their key.`,
-      ...20 * overlapped < count ? [few] : [],
-      ...isCutOff ? ["The recording was cut off: some keys left fit, and those that were left are not known."] : [],
-      ...count > MOST_DRAWN ? [`The first ${MOST_DRAWN} calls are drawn.`] : []
-    ];
-  }
-  var isInWords = (isThere) => `the key is ${isThere ? "there" : "not there"}`;
-  function reasonsOf({ key, moment, since, isThere, by, calls, hidden }) {
-    if (key === null)
-      return ["No order leaves these keys, which do not increase."];
-    const isLeft = moment === null;
-    const said2 = [`No order explains the calls of key ${key} ${isLeft ? "and leaves it as it was left" : `up to moment ${moment}`}.`];
-    if (since === null)
-      return said2;
-    const from = since === "0" ? "At first" : `After the calls that ended by moment ${since}`;
-    said2.push(`${from} ${isInWords(isThere)}${by === null ? "" : `, by this change: ${recordedInWords(by)}`}.`);
-    const these = `From there these calls have no order${isLeft ? " that leaves the key as it was left" : ""}`;
-    said2.push(calls.length === 0 ? "No later call changes it." : `${these}: ${calls.map(recordedInWords).join("; ")}.`);
-    if (hidden === null)
-      return said2;
-    const { count, first, last } = hidden;
-    const more = count === 1 ? `1 more call of the key that began at moment ${first} is` : `${count} more calls of the key that began at moments ${first} to ${last} are`;
-    return [...said2, `${more} not shown: whatever ${count === 1 ? "it" : "they"} did, these have no order.`];
-  }
-  function verdictOfOk(judged2, text) {
-    return { kind: "ok", says: okInWords(judged2), reasons: remarksOn(judged2), calls: callsOfRecording(text, MOST_DRAWN), from: null };
-  }
-  function verdictOfRefusal(why, text) {
-    const { key, moment, since, isThere, by, calls } = why;
-    const atEnd = moment === null ? [`At the end the set ${leavesKey(text, key) ? "has it" : "does not have it"}.`] : [];
-    return {
-      kind: "none",
-      says: `Not linearizable: no order at all explains these calls${moment === null ? " and leaves the keys" : ""}.`,
-      reasons: [...reasonsOf(why), ...atEnd],
-      calls: [...by === null ? [] : [by], ...calls].slice(-MOST_DRAWN),
-      from: since === null || since === "0" ? null : { moment: BigInt(since), says: isInWords(isThere) }
-    };
-  }
-  function troubleInWords(ask, { cause, says }) {
-    const why = sentenceOn(ask, cause, "recorded calls");
-    return why === null ? says : `${says}: ${why}.`;
-  }
-  function verdictOnCalls(ask, answer2, text) {
-    const judged2 = readVerdict(answer2);
-    if (judged2.kind === "ok")
-      return verdictOfOk(judged2, text);
-    if (judged2.kind === "none")
-      return verdictOfRefusal(judged2.why, text);
-    return { kind: "fault", says: troubleInWords(ask, judged2.fault), reasons: [], calls: [], from: null };
-  }
-
-  // src/engine/engine.js
-  var FIRST_ROOM = 1 << 22;
-  var LARGE_MEMORY = 1 << 28;
-  var Engine = class {
-    // `read` puts bytes of an input of the host at the front of a piece of the memory, and tells how many, or -1.
-    /** @param {(input: bigint, room: Uint8Array) => number} read */
-    constructor(module, read = () => -1) {
-      this.module = module;
-      this.instance = null;
-      this.host = { env: { read: (input, at, count) => BigInt(read(input, this.piece(Number(at), Number(count)))) } };
-    }
-    piece(at, count) {
-      return new Uint8Array(this.instance.exports.memory.buffer, at, count);
-    }
-    static async start() {
-      const bytes = await engineBytes();
-      return new Engine(await WebAssembly.compile(bytes));
-    }
-    // What an export says of the texts that it takes: the exit status of the program, and what it prints. Those left out are empty.
-    ask(name, ...texts2) {
-      const encoder = new TextEncoder();
-      return this.askBytes(name, ...texts2.map((text) => encoder.encode(text)));
-    }
-    askBytes(name, ...given2) {
-      return this.answered((exports) => answerOf(exports, name, given2));
-    }
-    // What the judge says of a recording of any length, which it reads from an input in pieces.
-    judgeFrom(input) {
-      return this.answered((exports) => answerInRoom(exports, "listset_judge_from", [[input]], FIRST_ROOM));
-    }
-    answered(answer2) {
-      if (this.instance === null || this.instance.exports.memory.buffer.byteLength > LARGE_MEMORY) {
-        this.instance = new WebAssembly.Instance(this.module, this.host);
-      }
-      try {
-        return answer2(this.instance.exports);
-      } catch (fault) {
-        this.instance = null;
-        throw new Error(`the engine stopped: ${fault.message}`);
-      }
+  var learning = {
+    get panel() {
+      return made.panel ??= new Learning();
     }
   };
-  async function engineBytes() {
-    if (typeof ENGINE === "undefined" && location.protocol === "file:")
-      await loadScript("engine.js");
-    if (typeof ENGINE !== "undefined")
-      return Uint8Array.from(atob(ENGINE), (letter) => letter.charCodeAt(0));
-    const answer2 = await fetch("listset.wasm");
-    if (!answer2.ok)
-      throw new Error(`listset.wasm: ${answer2.status} ${answer2.statusText}`);
-    return answer2.arrayBuffer();
-  }
-  function loadScript(src) {
-    return new Promise((done2, fail) => {
-      const onerror = () => fail(new Error(`${src} is not beside the page`));
-      document.head.append(Object.assign(document.createElement("script"), { src, onload: done2, onerror }));
-    });
-  }
-  function answerOf(engine, name, given2) {
-    const texts2 = textsOf(engine, engine[name].length, given2);
-    let answer2 = answerInRoom(engine, name, texts2, FIRST_ROOM);
-    if (answer2.bytes === null)
-      answer2 = answerInRoom(engine, name, texts2, answer2.length);
-    texts2.forEach(([block]) => engine.page_free(block));
-    if (answer2.bytes === null)
-      throw new Error("two answers to one text");
-    return { status: answer2.status, text: new TextDecoder().decode(answer2.bytes), bytes: answer2.bytes };
-  }
-  function textsOf(engine, parameters, given2) {
-    return Array.from({ length: (parameters - 3) / 2 }, (_, at) => {
-      const text = given2[at] ?? new Uint8Array(0);
-      const block = blockOf(engine, text.length);
-      new Uint8Array(engine.memory.buffer, Number(block), text.length).set(text);
-      return [block, BigInt(text.length)];
-    });
-  }
-  function answerInRoom(engine, name, texts2, room) {
-    const out = blockOf(engine, room);
-    const status = blockOf(engine, 1);
-    const count = Number(engine[name](...texts2.flat(), out, BigInt(room), status));
-    const memory = engine.memory.buffer;
-    const bytes = count <= room ? new Uint8Array(memory, Number(out), count).slice() : null;
-    const said2 = new Uint8Array(memory, Number(status), 1)[0];
-    engine.page_free(out);
-    engine.page_free(status);
-    return { bytes, length: count, status: said2 };
-  }
-  function blockOf(engine, length) {
-    const block = engine.page_alloc(BigInt(Math.max(length, 1)));
-    if (!block)
-      throw new Error("no memory");
-    return block;
-  }
+  var made = { panel: null };
 
-  // src/engine/worker.js
-  var EVENT_ROOM = 96;
-  var workerText = (room) => `"use strict";
-const FIRST_ROOM = ${room};
-const LARGE_MEMORY = ${LARGE_MEMORY};
-${Object.entries({ Engine, answerOf, textsOf, answerInRoom, blockOf }).map(([name, it]) => `const ${name} = ${it};`).join("\n")}
-onmessage = ({ data: { module, name, given } }) => {
-  try {
-    const { status, bytes } = new Engine(module).askBytes(name, given);
-    postMessage({ status, bytes }, [bytes.buffer]);
-  } catch (fault) {
-    postMessage({ status: 1, bytes: new TextEncoder().encode(fault.message) });
+  // src/draw/judged.js
+  var JUDGE_RIGHT = 20;
+  var JUDGE_BAR = 30;
+  var JUDGE_BELOW = 8;
+  var MOST_ROWS2 = 3;
+  var SLOT_WIDTH = 60;
+  var leftOf = ({ begun }, { x, step }) => x(begun) - step / 2;
+  var rightOf = (call, { x, step, last }) => x(call.ended ?? last) + step / 2;
+  function widthOfCall(call) {
+    if (call.ended === null)
+      return widthOf(callText(call), OPEN);
+    const replies = [call.reply ?? "", ...call.operation === "ceiling" ? ["nothing"] : ["false"]];
+    return Math.max(...replies.map((reply) => widthOf(callText(call), reply)));
   }
-};`;
-  function askInWorker(module, name, text, events) {
-    const place = URL.createObjectURL(new Blob([workerText(FIRST_ROOM + EVENT_ROOM * events)], { type: "text/javascript" }));
-    const worker = new Worker(place);
-    const came = new Promise((done2) => {
-      worker.onerror = () => done2(null);
-      worker.onmessage = ({ data }) => done2({ status: data.status, text: new TextDecoder().decode(data.bytes) });
-      worker.postMessage({ module, name, given: new TextEncoder().encode(text) });
-    });
-    const answer2 = came.finally(() => {
-      worker.terminate();
-      URL.revokeObjectURL(place);
-    });
-    return { worker, answer: answer2 };
+  function judgeScale({ last, threads, calls }, width) {
+    const step = (width - HISTORY_LEFT - JUDGE_RIGHT) / last;
+    const across = { step, last, x: (moment) => HISTORY_LEFT + (moment - 0.5) * step };
+    const itemOf3 = (call) => ({ left: leftOf(call, across), right: rightOf(call, across), wide: widthOfCall(call) });
+    const inOrder = [...calls].sort((one, other) => one.begun - other.begun);
+    const { places: labels, rows } = layLabels(threads, inOrder, itemOf3, { start: 2, edge: width, mostRows: MOST_ROWS2 });
+    const above = ROW_HEIGHT * rows + 4;
+    const lane = above + JUDGE_BAR + JUDGE_BELOW;
+    const y = (thread) => 2 + thread * lane + above + JUDGE_BAR / 2;
+    const momentAt2 = (x) => (x - HISTORY_LEFT) / step + 0.5;
+    return { ...across, width, edge: width - JUDGE_RIGHT, labels, height: 4 + threads * lane, y, momentAt: momentAt2 };
   }
-
-  // src/page/long_run.js
-  var MANY_EVENTS = 2e4;
-  var LONG_TEXT = 2e5;
-  var longRun = { worker: null, timer: 0 };
-  async function askLong(name, text, isOfRun = true) {
-    const events = eventsAsked(text);
-    if (text.length < LONG_TEXT && events < MANY_EVENTS)
-      return askNow(name, text);
-    try {
-      const { worker, answer: answer2 } = askInWorker(held.engine.module, name, text, events);
-      if (isOfRun)
-        longRun.worker = worker;
-      const came = await answer2;
-      if (came !== null)
-        return came;
-    } catch {
-    }
-    await new Promise((done2) => requestAnimationFrame(() => setTimeout(done2)));
-    return askNow(name, text);
-  }
-  async function runLong(text, asked2, take2) {
-    stopLong();
-    const begun = Date.now();
-    const tellTime = () => {
-      const seconds = Math.round((Date.now() - begun) / 1e3);
-      byId("long-said").textContent = `running ${asked2.toLocaleString("en")} events: ${seconds} s`;
+  var momentInWords = (at) => Number.isInteger(at) ? `at ${at}` : `after ${Math.floor(at)}`;
+  var OPEN = "(pending)";
+  var saidOf = (call, answer2) => call.ended === null ? OPEN : answer2.replyOf(call) ?? "?";
+  function drawJudgedCall(call, { answer: answer2, exercise, verdict, scale }) {
+    const y = scale.y(call.thread);
+    const point = answer2.points.get(call.id);
+    const reply = saidOf(call, answer2);
+    const isClash = verdict?.clash === call.id;
+    const where = point === void 0 ? "not placed yet" : momentInWords(point.at);
+    const slider = {
+      role: "slider",
+      tabindex: 0,
+      "data-call": call.id,
+      "aria-label": `where ${nameOfCall(call)}, ${reply === "?" ? "its reply not said yet" : reply}, takes effect`,
+      "aria-valuemin": call.begun,
+      "aria-valuemax": lastMoment(exercise, call),
+      "aria-valuenow": point?.at ?? call.begun,
+      "aria-valuetext": `${where}${isClash ? ", and clashes there" : ""}`,
+      class: `bar own ${colourOf(call.thread)}${isClash ? " clash" : ""}${call.ended === null ? " open" : ""}`
     };
-    tellTime();
-    longRun.timer = setInterval(tellTime, 1e3);
-    byId("long").hidden = false;
-    const answer2 = await askLong("listset_trace", text);
-    if (now.run.text !== text || byId("long").hidden)
-      return;
-    stopLong();
-    take2(answer2);
+    const bar = drawJudgedBar(call, reply, scale, y);
+    return tag("g", slider, bar, point === void 0 ? "" : drawOwnPoint(call, point.at, y, scale));
   }
-  function stopLong() {
-    clearInterval(longRun.timer);
-    longRun.worker?.terminate();
-    longRun.worker = null;
-    if (byId("long").contains(document.activeElement))
-      byId("slider").focus();
-    byId("long").hidden = true;
+  function drawJudgedBar(call, reply, scale, y) {
+    const [left, right] = [leftOf(call, scale), rightOf(call, scale)];
+    const rect = { x: left, y: y - JUDGE_BAR / 2, width: Math.max(right - left, 12), height: JUDGE_BAR, rx: 4 };
+    const { x, row } = scale.labels.get(call.id) ?? { x: left, row: null };
+    const above = { class: "call", x, y: y - JUDGE_BAR / 2 - 5 - ROW_HEIGHT * (row ?? 0) };
+    const words = row === null ? signOf(call) : callText(call) + tag("tspan", { class: "reply" }, ` ${escaped(reply)}`);
+    return tag("rect", rect) + tag("text", above, words);
   }
-  function cancelLong() {
-    stopLong();
-    tellFault(null, "", "The run was cancelled. Run begins it again.");
+  var frameOf2 = ({ width, height }) => ({ width, height, viewBox: `0 0 ${width} ${height}` });
+  function drawRecorded(calls, from, width) {
+    const inOrder = (numbers) => [...new Set(numbers)].sort((one, other) => one < other ? -1 : 1);
+    const threads = inOrder(calls.map(({ thread }) => thread));
+    const ends = calls.flatMap(({ begun, ended }) => ended === null ? [begun] : [begun, ended]);
+    const moments = inOrder(from === null ? ends : [...ends, from.moment]);
+    const momentOf = (at) => at === null ? null : moments.indexOf(at) + 1;
+    const laneOf = ({ thread }) => threads.indexOf(thread);
+    const placed2 = calls.map((call, id) => ({ ...call, id, thread: laneOf(call), begun: momentOf(call.begun), ended: momentOf(call.ended) }));
+    const scale = judgeScale({ calls: placed2, last: moments.length + 1, threads: threads.length }, width);
+    const bars = placed2.map((call) => {
+      const bar = drawJudgedBar(call, call.reply ?? OPEN, scale, scale.y(call.thread));
+      const still = { class: `bar own still ${colourOf(threads[call.thread])}${call.ended === null ? " open" : ""}` };
+      return tag("g", still, title(recordedInWords(calls[call.id])), bar);
+    });
+    const lanes = threads.map((thread, at) => drawLane(scale, thread, at));
+    const below = from === null ? 0 : ROW_HEIGHT;
+    const frame = { ...frameOf2({ ...scale, height: scale.height + below }), role: "img", "aria-label": calls.map(nameOfCall).join(", ") };
+    return tag("svg", frame, ...lanes, from === null ? "" : drawFrom(from.says, scale, momentOf(from.moment)), ...bars);
+  }
+  function drawFrom(says, { x, step, width, height }, moment) {
+    const at = x(moment) + step / 2;
+    const anchor = at > width / 2 ? { x: at - 6, "text-anchor": "end" } : { x: at + 6 };
+    const words = label({ class: "note", y: height + ROW_HEIGHT - 4, ...anchor }, says);
+    return tag("line", { class: "cursor", x1: at, x2: at, y1: 0, y2: height + ROW_HEIGHT }) + words;
+  }
+  function drawOwnPoint(call, at, y, scale) {
+    const x = scale.x(at);
+    const stem = tag("line", { x1: x, x2: x, y1: y - 15, y2: y + 15 });
+    return tag("g", { class: `point own ${colourOf(call.thread)}` }, stem, tag("circle", { cx: x, cy: y, r: 8 }), drawWhen(call, at, y, scale));
+  }
+  function drawWhen(call, at, y, scale) {
+    const x = scale.x(at);
+    const isRoomy = (room) => room >= SLOT_WIDTH;
+    if (isRoomy(rightOf(call, scale) - x))
+      return label({ x: x + 11, y: y + 5 }, momentInWords(at));
+    return isRoomy(x - leftOf(call, scale)) ? label({ x: x - 11, y: y + 5, "text-anchor": "end" }, momentInWords(at)) : "";
+  }
+  function drawJudged(judged2) {
+    const { exercise, scale, moment } = judged2;
+    const lanes = Array.from({ length: exercise.threads }, (_, thread) => drawLane(scale, thread));
+    const at = exercise.level === "claim" ? moment : judged2.count;
+    const line = { class: "cursor", x1: scale.x(at), x2: scale.x(at), y1: 0, y2: scale.height };
+    const frame = { ...frameOf2(scale), role: "group", "aria-label": "the calls, each with a point to place" };
+    const calls = exercise.calls.map((call) => drawJudgedCall(call, judged2));
+    return tag("svg", frame, ...lanes, at === 0 ? "" : tag("line", line), ...calls);
+  }
+  function drawOwnOrder(answer2) {
+    const { calls } = answer2.exercise;
+    const placed2 = answer2.order().map(({ call, at, reply }) => {
+      return `<li>${chipOf(call.thread)} ${callText(call)} <b>${escaped(reply ?? "?")}</b> <small>${momentInWords(at)}</small></li>`;
+    });
+    const others = calls.filter(({ id }) => !answer2.points.has(id)).map((call) => {
+      return `<li class="later">${chipOf(call.thread)} ${callText(call)} <small>not placed yet</small></li>`;
+    });
+    return `<ol>${placed2.join("")}${others.join("")}</ol>`;
+  }
+  function momentOfReport({ calls, last }, moment) {
+    if (moment === 0)
+      return `Before the first of ${last} moments.`;
+    const begun = calls.find((call) => call.begun === moment);
+    const ended = calls.find((call) => call.ended === moment);
+    if (begun !== void 0)
+      return `Moment ${moment}: ${chipOf(begun.thread)} begins ${callText(begun)}.`;
+    if (ended !== void 0)
+      return `Moment ${moment}: ${chipOf(ended.thread)} ${callText(ended)} answers <b>${ended.reply}</b>.`;
+    const open = calls.filter((call) => call.begun < moment && (call.ended ?? Infinity) > moment);
+    const names = open.map((call) => `${callText(call)} of ${chipOf(call.thread)}`);
+    return `Moment ${moment}: a step. ${names.length === 0 ? "No call is pending." : `Pending: ${names.join(", ")}.`}`;
   }
 
-  // src/page/example.js
-  var KEPT_BESIDE = "a trace that is kept beside the page";
-  var known = { examples: null };
-  function examples() {
+  // src/activities/judging.js
+  var JUDGED = "listset-judged";
+  var HALF_STEPS = { ArrowLeft: -0.5, ArrowDown: -0.5, ArrowRight: 0.5, ArrowUp: 0.5 };
+  var SLIDER_KEYS = { ...HALF_STEPS, PageDown: -5, PageUp: 5, Home: -Infinity, End: Infinity };
+  var judgePart = (name) => byId(`judge-${name}`);
+  var Judging = class {
+    exercise = null;
+    answer = null;
+    verdict = null;
+    held = null;
+    // the call whose point is dragged
+    tries = 0;
+    // that were refused
+    moment = 0;
+    // of a claim
+    // Begins an exercise of this level about the run that is shown. At the third the report may be that of a broken list.
+    begin(level) {
+      const { lacks, text } = now.run;
+      const broken = exampleShown() === "" ? null : askNow("listset_broken_example", exampleShown());
+      const isBroken = level === "claim" && broken?.status === 0 && Math.random() < 0.5;
+      const report = isBroken ? broken : askList(askNow, "listset_replay", lacks, text);
+      if (report.status === 0)
+        this.take(exerciseOf(report.text, lacks === null ? level : "claim", lacks === null && !isBroken));
+      else
+        tell(`This run cannot be judged: ${escaped(report.text.trim())}.`);
+    }
+    take(exercise) {
+      Object.assign(this, { exercise, answer: new OwnAnswer(exercise), held: null, verdict: null, tries: 0, moment: 0 });
+      if (now.run.lacks === null)
+        judgePart("level").value = exercise.level;
+      dispatch("exercise", { exercise });
+    }
+    callAt(event) {
+      const id = event.target.closest("[data-call]")?.dataset.call;
+      return id === void 0 ? null : this.exercise.calls[Number(id)];
+    }
+    grasp(event) {
+      const call = this.callAt(event);
+      if (call === null)
+        return;
+      event.preventDefault();
+      judgePart("bars").setPointerCapture(event.pointerId);
+      this.held = call;
+      this.drag(event);
+    }
+    drag(event) {
+      const left = judgePart("bars").firstElementChild.getBoundingClientRect().left;
+      this.place(this.held, this.scale.momentAt(event.clientX - left));
+    }
+    place(call, at) {
+      this.answer.place(call, at);
+      this.changed();
+      judgePart("bars").querySelector(`[data-call="${call.id}"]`).focus();
+    }
+    press(event) {
+      const call = this.callAt(event);
+      const by = SLIDER_KEYS[event.key];
+      if (call === null || event.ctrlKey || event.altKey || event.metaKey)
+        return;
+      if (event.key === "Delete" || event.key === "Backspace") {
+        this.answer.take(call);
+        this.changed();
+      } else if (by === void 0)
+        return;
+      else
+        this.place(call, this.answer.points.has(call.id) ? this.answer.points.get(call.id).at + by : call.begun);
+      event.preventDefault();
+    }
+    changed() {
+      this.verdict = null;
+      this.draw();
+    }
+    judge(isNone) {
+      this.answer.isNone = isNone;
+      this.verdict = verdictOn(askNow, this.answer);
+      if (this.verdict.isRight === false)
+        this.tries++;
+      if (this.verdict.isRight && this.exercise.isWhole)
+        this.keep();
+      this.answer.isNone = false;
+      this.draw();
+      judgePart("verdict").scrollIntoView({ block: "nearest" });
+    }
+    keep() {
+      const run = exampleShown() === "" ? addressOf(now.run.text, now.run.count) : exampleShown();
+      this.line = `judge ${run} ${this.exercise.level} ${wordOfAnswer(this.answer)}`;
+      if (run !== null)
+        keepUnder(JUDGED, { ...keptUnder(JUDGED), [`${run} ${this.exercise.level}`]: this.line });
+    }
+    draw() {
+      const { level, calls } = this.exercise;
+      this.count = now.run.count;
+      this.scale = judgeScale(this.exercise, Math.max(300, judgePart("bars").clientWidth));
+      judgePart("task").textContent = LEVELS[level].task;
+      judgePart("none").hidden = level !== "claim";
+      redraw(judgePart("bars"), drawJudged(this));
+      const asked2 = level === "replies" ? calls.filter((call) => call.ended !== null) : [];
+      redraw(judgePart("replies"), asked2.map((call) => this.replyBox(call)));
+      judgePart("order").innerHTML = drawOwnOrder(this.answer);
+      this.drawMoment();
+      this.drawVerdict();
+    }
+    replyBox(call) {
+      const choice = document.createElement("select");
+      choice.dataset.call = call.id;
+      choice.append(new Option("?", ""), ...repliesOf(this.exercise, call).map((reply) => new Option(reply, reply)));
+      choice.value = this.answer.replies.get(call.id) ?? "";
+      choice.onchange = () => {
+        this.answer.say(call, choice.value === "" ? void 0 : choice.value);
+        this.changed();
+      };
+      const box = document.createElement("label");
+      box.innerHTML = `${chipOf(call.thread)} ${callText(call)} answers `;
+      box.append(choice);
+      return box;
+    }
+    // Of a claim there is no run to step through: its own moments are told, one by one.
+    drawMoment() {
+      const slider = judgePart("moment");
+      const said2 = momentOfReport(this.exercise, this.moment);
+      Object.assign(slider, { max: this.exercise.last, value: this.moment });
+      slider.setAttribute("aria-valuetext", said2.replace(/<[^>]*>/g, ""));
+      judgePart("said").innerHTML = said2;
+    }
+    drawVerdict() {
+      const { verdict, tries } = this;
+      const kind = { true: "right", false: "wrong" }[verdict?.isRight] ?? "";
+      judgePart("verdict").className = kind;
+      judgePart("verdict").textContent = verdict?.says ?? "";
+      judgePart("tries").textContent = tries === 0 ? "" : `${tries} ${tries === 1 ? "try" : "tries"} refused`;
+      judgePart("hint").textContent = kind === "wrong" && tries >= 2 && this.exercise.level !== "claim" ? hintOfRun() : "";
+      const isKept = kind === "right" && this.exercise.isWhole;
+      judgePart("line").innerHTML = isKept ? `Kept; you hand it in with the lessons: <code>${escaped(this.line)}</code>` : "";
+      const drawn2 = verdict?.report == null ? "" : askNow("listset_show_svg", verdict.report).text;
+      judgePart("picture-box").hidden = !drawn2.startsWith("<svg ");
+      judgePart("picture").innerHTML = judgePart("picture-box").hidden ? "" : drawn2;
+    }
+  };
+  var judging = new Judging();
+  var drawJudging = () => isJudging() && judging.draw();
+  function hintOfRun() {
+    const turns = CLASSICS[exampleShown()]?.turns;
+    if (turns !== void 0)
+      return `The deciding events: ${turns.join(", ")}.`;
+    const changes = now.run.trace.changes.map(({ number }) => number);
+    return changes.length === 0 ? "No event changes the set." : `The set changes at the events ${changes.join(", ")}.`;
+  }
+  function beginJudging() {
+    const { trace } = now.run;
     if (held.engine === null)
-      return readExamples(EXAMPLES);
-    known.examples ??= readExamples(askNow("listset_examples", "").text);
-    return known.examples;
+      return tell("The replayer does not run in this browser: nothing can be judged.");
+    if (!now.run.isRun || trace.refused !== null)
+      return tell("A run with a refused event cannot be judged: delete the red line of the schedule first.");
+    if (trace.calls.length === 0)
+      return tell("There is no call to judge yet.");
+    if (trace.total > MOST_JUDGED)
+      return tell(`A run of at most ${MOST_JUDGED} events can be judged; this one has ${trace.total}.`);
+    tell("");
+    judging.begin(judgePart("level").value);
+    byId("next").focus();
   }
-  var isExample = (name) => examples().some((one) => one.name === name);
-  function exampleText(name) {
-    if (held.engine === null || name === "")
-      return null;
-    const answer2 = askNow("listset_example", name);
-    return answer2.status === 0 ? answer2.text : null;
-  }
-  function openKept(name, count) {
-    change("task", { task: { kind: "example", id: name, work: "" } });
-    takeTrace(new Trace(TRACES[name]), count, KEPT_BESIDE);
-    takeScheduleOfTrace();
-    showMarks();
-  }
-
-  // src/page/work.js
-  function beginTask(task, lacks = null) {
-    keepWork();
-    change("task", { task, lacks });
-  }
-  function openTask(task, text, at, told2 = "", lacks = null) {
-    beginTask({ begun: text, ...task }, lacks);
-    runText(text, at, told2);
-  }
-  var ownTask = (name) => ({ kind: "own", id: "", work: works.newName(name) });
-  function openWork(name, at = null) {
-    const { text, box, count, lacks = null, task } = works.byName.get(name);
-    const begun = task.kind === "example" ? exampleText(task.id) : "";
-    openTask({ ...task, work: name, begun }, text, at ?? count, "", lacks);
-    if (box !== text)
-      byId("schedule").value = box;
-    showMarks();
-  }
-  var openExample = (name, count) => openTask({ kind: "example", id: name, work: works.newName(`from ${name}`) }, exampleText(name), count);
-  var newSchedule = (list, threads, quota) => openTask(ownTask("my schedule"), `listset-schedule 1
-list ${list}
-threads ${threads}
-quota ${quota}
-`, 0);
-  function runBox() {
-    const box = byId("schedule").value;
-    const { text, fault } = scheduleOfDraft(askNow, box === "" || box.endsWith("\n") ? box : `${box}
-`, now.run.lacks);
-    if (fault !== null)
-      return tellLine(fault);
-    const { trace, count } = now.run;
-    if (now.task.kind !== "own" && text !== now.run.text)
-      leaveTask(text);
-    const at = (made2) => made2.refused === null ? Math.min(count, eventsInCommon(trace, made2)) : made2.total;
-    runText(text, at);
-  }
-  function leaveTask(text) {
-    byId("schedule").value = now.run.text;
-    beginTask({ ...ownTask("my schedule"), begun: text }, now.run.lacks);
-  }
-  function runWithOpening() {
-    const keys = byId("opening").value.split(/[\s,]+/).filter((key) => key !== "");
-    byId("schedule").value = withOpening(byId("schedule").value, keys);
-    runBox();
-  }
-  function showHeader(trace) {
-    byId("new-list").value = trace.kind;
-    byId("new-threads").value = trace.threads;
-    byId("new-quota").value = trace.quota;
-  }
-  function runText(text, at, told2 = "") {
-    stopPlay();
-    change("text", { text });
-    byId("schedule").value = text;
-    byId("opening").value = openingIn(text).join(" ");
-    if (held.engine === null)
-      return tellFault(null, "", NO_ENGINE);
-    const asked2 = eventsAsked(text);
-    if (asked2 >= MANY_EVENTS && now.run.lacks === null)
-      return runLong(text, asked2, (answer2) => takeAnswer(answer2, text, at, told2));
-    stopLong();
-    takeAnswer(askList(askNow, "listset_trace", now.run.lacks, text), text, at, told2);
-  }
-  function takeAnswer(answer2, text, at, told2) {
-    const source = now.run.lacks === null ? "run by the proved replayer" : "a run of a broken list";
-    if (isTrace(answer2.text))
-      takeTrace(new Trace(answer2.text, versionOf(text), now.run.trace), at, source);
-    else
-      tellLine(answer2.text.trim());
-    tell(works.isKept ? told2 : `${told2} This browser keeps nothing: save the schedule before you leave the page.`);
-    announce("ran");
-  }
-
-  // src/page/files.js
-  var REPLY_WIDTH = 60;
-  function saveText(name, text, type = "text/plain") {
-    const link = document.createElement("a");
-    link.href = URL.createObjectURL(new Blob([text], { type }));
-    link.download = name;
-    link.click();
-    URL.revokeObjectURL(link.href);
-  }
-  function kindOfFile(text) {
-    if (text.startsWith("listset-trace"))
-      return "trace";
-    if (text.startsWith("listset-calls"))
-      return "calls";
-    if (text.startsWith("listset-course"))
-      return "course";
-    return text.startsWith("listset-report") ? "report" : "schedule";
-  }
-  function comparedTrace(ask, trace) {
-    if (ask === null)
-      return "a trace from a file; its grammar was checked";
-    if (trace.refused !== null)
-      return "a trace from a file; its grammar was checked, and it ends with a refused event";
-    const own = askList(ask, "listset_trace", trace.lacks, scheduleOfTrace(trace));
-    const engines = trace.lacks === null ? "the proved replayer" : "the engine";
-    if (!isTrace(own.text))
-      return `a trace from a file; ${engines} does not run its schedule: ${own.text.trim()}`;
-    const given2 = trace.text.split("\n").filter((line2) => !/^chain( |$)/.test(line2));
-    const line = own.text.split("\n").findIndex((text, index) => text !== given2[index]);
-    if (line === -1)
-      return `a trace from a file, and ${engines} gives the same for its schedule`;
-    const event = Math.max(line + 1 - trace.text.split("\n").findIndex((text) => text.startsWith("event ")), 1);
-    return `a trace from a file; ${engines} gives another, from its event ${event} on`;
-  }
-  async function openFile(file) {
-    const text = new TextDecoder().decode(new Uint8Array(await file.arrayBuffer()));
-    const kind = kindOfFile(text);
-    const isJudged = kind === "report" || kind === "calls";
-    tellTrouble("");
-    if ((isJudged || kind === "course") && held.engine === null)
-      return tellTrouble(NO_ENGINE);
-    if (kind === "course")
-      return announce("course", text);
-    if (kind === "calls")
-      return announce("recorded", text);
-    if (kind === "report") {
-      await openReportBox();
-      return showReport(text, `The report in ${file.name}:`);
-    }
-    const task = ownTask(`from ${file.name}`);
-    if (kind === "schedule")
-      return openTask(task, text, 0);
-    openTrace(text, task);
-  }
-  function openTrace(text, task) {
-    const fault = faultOfTrace(text);
-    if (fault !== null)
-      return tellTrouble(`this is no trace: ${fault}`);
-    beginTask(task);
-    takeTrace(new Trace(text), 0, "a trace from a file");
-    takeScheduleOfTrace();
-    dispatch("source", { source: comparedTrace(held.engine === null ? null : askNow, now.run.trace) });
-  }
-  async function openReportBox() {
-    const box = byId("report-box");
-    if (box.open)
-      return;
-    await new Promise((done2) => {
-      box.addEventListener("toggle", done2, { once: true });
-      box.open = true;
-    });
-  }
-  async function showReport(text, whose) {
-    byId("report").textContent = text;
-    byId("report-of").textContent = whose;
-    const checked = (await askLong("listset_check", text)).text.trim();
-    if (byId("report").textContent !== text)
-      return;
-    byId("checked").textContent = checked;
-    if (text.length < LONG_TEXT)
-      drawPicture(text);
-    else
-      byId("picture-box").hidden = true;
-  }
-  function drawPicture(text) {
-    const drawn2 = askNow("listset_show_svg", text).text;
-    byId("picture-box").hidden = !drawn2.startsWith("<svg ");
-    if (byId("picture-box").hidden)
-      return;
-    byId("picture").innerHTML = drawn2;
-    const said2 = refusalIn(text);
-    byId("picture-says").textContent = said2;
-    const svg = byId("picture").firstElementChild;
-    svg.setAttribute("role", "img");
-    svg.setAttribute("aria-label", `the calls of the report${said2 === "" ? "" : `; ${said2}`}`);
-    scrollToClash();
-  }
-  function refusalIn(text) {
-    const refused = askNow("listset_show", text).text.split("\n").filter((line) => line.startsWith("refused "));
-    const { why } = readVerdict(askNow("listset_check_record", text));
-    return [...refused.slice(0, 1), ...why === null ? [] : reasonsOf(why)].join("; ");
-  }
-  function scrollToClash() {
-    const box = byId("picture");
-    const clash = box.querySelector(".bar.clash");
-    const left = box.getBoundingClientRect().left - box.scrollLeft;
-    box.scrollLeft = clash === null ? 0 : clash.getBoundingClientRect().right + REPLY_WIDTH - left - box.clientWidth;
-  }
-  async function showOwnReport(schedule) {
-    const { lacks } = now.run;
-    const answer2 = lacks === null ? await askLong("listset_replay", schedule) : askList(askNow, "listset_replay", lacks, schedule);
-    if (now.run.text !== schedule)
-      return;
-    if (answer2.status === 0)
-      return showReport(answer2.text, "The report of this schedule:");
-    byId("report").textContent = answer2.text;
-    byId("report-of").textContent = "There is no report:";
-    byId("checked").textContent = "—";
-    if (lacks === null)
-      drawPicture(schedule);
-    else
-      byId("picture-box").hidden = true;
-  }
-  function refreshReport() {
-    if (byId("report-box").open && held.engine !== null)
-      showOwnReport(now.run.text);
-  }
-
-  // src/story/kept_story.js
-  var STORY = "listset-story";
-  var BROKEN = "listset-broken";
-  var NAMED2 = "listset-named-checks";
-  var NOTHING = { at: 1, done: {}, asks: {}, student: "", number: "", homework: null };
-  var keptStory = () => ({ ...NOTHING, ...keptUnder(STORY) });
-  var keepStory = (change2) => keepUnder(STORY, { ...keptStory(), ...change2 });
-  var isBrokenLine = ([name, line]) => Object.hasOwn(LACKING, name) && isText(line);
-  var brokenLines = () => Object.entries(keptUnder(BROKEN) ?? {}).filter(isBrokenLine);
-  var isBrokenOnce = (name) => brokenLines().some(([one]) => one === name);
-  var keepBrokenLine = (name, line) => keepUnder(BROKEN, { ...keptUnder(BROKEN), [name]: line });
-  var isNamed = (name) => (keptUnder(NAMED2) ?? []).includes(name);
-  var keepNamed = (name) => keepUnder(NAMED2, [.../* @__PURE__ */ new Set([...keptUnder(NAMED2) ?? [], name])]);
-  function startAfresh(button) {
-    if (button.dataset.isSure !== "yes") {
-      button.dataset.isSure = "yes";
-      button.textContent = "Press again: answers, solutions and names kept here go";
-      return;
-    }
-    change("text", { text: "" });
-    try {
-      for (const name of Object.keys(localStorage))
-        if (name.startsWith("listset-"))
-          localStorage.removeItem(name);
-    } catch {
-    }
-    location.hash = "#story=1&gone=yes";
-    location.reload();
+  function listenToJudging() {
+    byId("judge-begin").onclick = beginJudging;
+    judgePart("level").append(...Object.entries(LEVELS).map(([level, { name }]) => new Option(name, level)));
+    judgePart("level").value = "replies";
+    judgePart("level").onchange = judgePart("again").onclick = () => judging.begin(judgePart("level").value);
+    judgePart("ask").onclick = () => judging.judge(false);
+    judgePart("none").onclick = () => judging.judge(true);
+    judgePart("moment").oninput = () => {
+      judging.moment = Number(judgePart("moment").value);
+      judging.draw();
+    };
+    judgePart("end").onclick = () => {
+      dispatch("exercise", { exercise: null });
+      byId("judge-begin").focus();
+    };
+    const bars = judgePart("bars");
+    bars.onpointerdown = (event) => judging.grasp(event);
+    bars.onpointermove = (event) => judging.held !== null && judging.drag(event);
+    bars.onpointerup = bars.onpointercancel = () => judging.held = null;
+    bars.onkeydown = (event) => judging.press(event);
   }
 
   // src/story/ask.js
@@ -8876,611 +9265,319 @@ quota ${quota}
     }
   ];
 
-  // src/story/ask_map.js
+  // src/story/ask_branches.js
+  var CHECK_WORDS = {
+    lock: "the lock is ignored",
+    "hand-over-hand": "it lets go of one lock before it has the next",
+    "second-walk": "it does not walk again",
+    "marks-in-validation": "it does not look at the marks",
+    "mark-in-remove": "it marks a node that is marked already",
+    "mark-in-add": "an add does not look at the mark of its pred",
+    "mark-at-key": "a contains does not look at the mark"
+  };
+  var ALL = [...QUESTIONS, ...APPENDIX];
+  var itemOf2 = ({ id }) => ALL.find(({ name }) => name === id);
+  var isEmbed = () => now.place.view === "embed";
+  function takeBranch({ lines, opening, lacks = null, isFree: isFree2 = false }) {
+    const item = itemOf2(now.place);
+    const calls = isFree2 ? {} : item.calls;
+    return takeFigure(new Figure(freshBox(), {
+      list: item.list,
+      lacks,
+      lines,
+      calls,
+      threads: item.threads ?? 2,
+      quota: item.quota ?? 4,
+      opening: opening ?? item.opening,
+      operations: operationsIn(item),
+      strip: true,
+      scrub: true,
+      again: false,
+      free: isFree2,
+      short: true,
+      roomFor: 552,
+      high: isEmbed() ? 0.34 : 0.23,
+      least: isEmbed() ? 110 : 180,
+      code: !isEmbed(),
+      codeTitle: LIST_WORDS[item.list],
+      codeNote: lacks === null ? "" : `Here ${CHECK_WORDS[lacks]}.`,
+      struck: BREAK_LEVELS[lacks]?.missing
+    }));
+  }
+  var operationsIn = ({ lines, rest }) => [...lines, ...rest].filter((line) => line.startsWith("begin")).map((line) => line.split(" ")[2]);
+  function freshBox() {
+    const box = Object.assign(document.createElement("div"), { id: "figure" });
+    part("#figure").replaceWith(box);
+    return box;
+  }
+  function takeOwnBranch(branch) {
+    const figure = takeBranch({ ...branch, isFree: true });
+    Object.assign(figure, { onFork: fork, onStep: grow });
+    return figure;
+  }
+  function fork(figure) {
+    const { branches, at } = now.scene;
+    const { lacks, opening, isFixed } = branches[at];
+    const isOwn = at > 0 && !isFixed && figure.run.count === figure.run.trace.total;
+    if (isOwn)
+      return;
+    const number = 1 + branches.filter((one, index) => index > 0 && !one.isFixed).length;
+    const lines = figure.run.linesHere();
+    const own = { name: `What if ${number}`, lines, lacks, opening, from: figure.run.count };
+    figure.run.take(lines);
+    setScene({ branches: [...branches, own], at: branches.length });
+  }
+  function grow(figure) {
+    const { branches, at } = now.scene;
+    if (at === 0 || branches[at].isFixed)
+      return;
+    const lines = [...figure.run.lines];
+    figure.isLost = figure.run.isBroken();
+    setScene({ branches: branches.map((one, index) => index === at ? { ...one, lines } : one), stage: "task" });
+    figure.draw();
+  }
+  async function openBranch(at, plays = false) {
+    const branch = now.scene.branches[at];
+    const figure = takeOwnBranch(branch);
+    figure.isLost = figure.run.isBroken();
+    figure.set({ hidesDock: at === 0 || branch.isFixed === true });
+    setScene({ at, stage: plays ? "playing" : "done" });
+    if (!plays)
+      return;
+    const asked2 = now.scene.branches[0].from;
+    const hasOwnRun = itemOf2(now.place).without !== void 0;
+    await figure.replay(hasOwnRun ? 0 : Math.min(asked2, figure.run.trace.total - 1));
+    if (scene.figure !== figure)
+      return;
+    setScene({ stage: "done" });
+  }
+  var goBack = () => openBranch(0);
+  var seeAgain = () => scene.figure.replay(now.scene.branches[0].from);
+  function whatIf() {
+    const { figure } = scene;
+    figure.set({ hidesDock: false });
+    if (now.scene.at === 0)
+      figure.moveTo(now.scene.branches[0].from);
+    setScene({ stage: "task" });
+    part("#figure").scrollIntoView({ block: "center", behavior: "smooth" });
+  }
+  function withoutCheck(item) {
+    const { branches } = now.scene;
+    const known3 = branches.findIndex(({ isFixed }) => isFixed);
+    if (known3 !== -1)
+      return openBranch(known3, true);
+    const { lines = sameLines(item), opening } = item.without ?? {};
+    setScene({ branches: [...branches, { name: "Without this check", lines, opening, lacks: item.lacks, isFixed: true }] });
+    openBranch(branches.length, true);
+  }
+  function sameLines({ list, opening, lines, rest, lacks }) {
+    const whole = new LiveRun({ list, opening, lines: [...lines, ...rest] });
+    const broken = new LiveRun({ list, lacks, opening });
+    broken.take(whole.lines);
+    return [...broken.linesHere(), ...[0, 1].filter((thread) => !broken.isIdle(thread)).map((thread) => `go ${thread} out`)];
+  }
+  var ownWords = ({ from, lacks = null }, isBroken) => {
+    const proved = "Whatever you choose, some order of the calls explains their answers: that is proved of each run of this list.";
+    const broken = "No order of its calls explains their answers and what is left: you have broken this list.";
+    return `<b>Your own branch.</b> It leaves the example at step ${from}. ${isBroken ? broken : lacks === null ? proved : ""}`;
+  };
+  function fixedWords({ lacks }, isBroken) {
+    const { without, broken } = itemOf2(now.place);
+    const which = `This is ${without === void 0 ? "the same run" : "a run"} of a list with one check less: ${CHECK_WORDS[lacks]}.`;
+    const proved = "No order of the calls explains their answers and what is left; that is proved.";
+    return `<b>${isBroken ? broken : "Not broken yet."}</b> ${which} ${isBroken ? proved : "Some order still explains the answers."}`;
+  }
+  function talkOfBranch(branch) {
+    const { run } = scene.figure;
+    const isBroken = run.isBroken();
+    const ledger = isBroken && isOddRun(run) ? drawLedger(run) : "";
+    const words = branch.isFixed ? fixedWords(branch, isBroken) : ownWords(branch, isBroken);
+    const change2 = branch.isFixed ? '<button data-do="if">Change it from here on</button>' : "";
+    return `<div class="reveal${isBroken ? " bad" : ""}">${ledger}<div><p class="why">${words}</p>
+    <p class="line"><button data-do="home">← Back to the example</button>${change2}</p></div></div>`;
+  }
+  function drawBranches({ branches, at }) {
+    const box = part("#branches");
+    box.hidden = branches.length === 1;
+    part("#what-if-mark").hidden = at === 0 || branches[at].isFixed === true;
+    const button = ({ name }, index) => tag("button", { class: "small", "data-do": "branch", "data-branch": index, "aria-pressed": index === at }, index === 0 ? "" : "↳ ", name);
+    box.innerHTML = branches.map(button).join("");
+  }
+
+  // src/activities/recorded.js
+  var WIDEST = 900;
+  var recorded = { text: "", isOpen: false };
+  var recordedPart = (name) => byId(`recorded-${name}`);
+  var PARTS = `<p class="lead">The forms in <code>judge</code> record the calls of your own set in a test, each with its
+    begin and end, and keep a recording that fails. Paste its text, or open the file: the proved <code>judge</code> says whether any order
+    explains the calls.</p>
+  <textarea id="recorded-text" rows="7" spellcheck="false" autocapitalize="off" wrap="off" aria-label="recorded calls"
+    placeholder="listset-calls 1"></textarea>
+  <p class="line"><button id="recorded-judge">Judge these calls</button>
+    <label class="button">Open a file<input type="file" id="recorded-file"></label>
+    <button id="recorded-example">Load an example</button></p>
+  <p id="recorded-verdict" role="status"></p><ul id="recorded-reasons"></ul><div id="recorded-picture"></div>`;
+  var drawRecordedBox = () => tag(
+    "details",
+    { id: "recorded-box", class: "card", ...recorded.isOpen ? { open: "" } : {} },
+    tag("summary", {}, "<h2>Judge calls recorded from your own set</h2>"),
+    PARTS
+  );
+  function showVerdict({ kind, says, reasons, calls, from }) {
+    recordedPart("verdict").className = kind;
+    recordedPart("verdict").textContent = says;
+    recordedPart("reasons").innerHTML = reasons.map((reason) => tag("li", {}, reason)).join("");
+    const width = Math.min(Math.max(300, recordedPart("picture").clientWidth), WIDEST);
+    recordedPart("picture").innerHTML = calls.length > 0 ? drawRecorded(calls, from, width) : "";
+  }
+  var nothing = { kind: "", says: "", reasons: [], calls: [], from: null };
+  async function judgeCalls() {
+    const text = withNewline(recordedPart("text").value);
+    recorded.text = text;
+    if (text === "")
+      return showVerdict({ ...nothing, kind: "fault", says: "Paste the text of recorded calls first, or open a file." });
+    showVerdict({ ...nothing, says: text.length < LONG_TEXT ? "" : "The judge is at work." });
+    const said2 = await askLong("listset_judge_record", text, false);
+    if (withNewline(recordedPart("text").value) === text)
+      showVerdict(verdictOnCalls(askNow, said2, text));
+  }
+  function showRecorded(text) {
+    recordedPart("box").open = true;
+    recordedPart("text").value = text;
+    judgeCalls();
+  }
+  function listenToRecorded() {
+    const box = recordedPart("text");
+    box.value = recorded.text;
+    box.oninput = () => {
+      recorded.text = box.value;
+      showVerdict(nothing);
+    };
+    recordedPart("box").ontoggle = () => recorded.isOpen = recordedPart("box").open;
+    recordedPart("judge").onclick = judgeCalls;
+    recordedPart("example").onclick = () => showRecorded(RECORDED_EXAMPLE);
+    onFile(recordedPart("file"), showRecorded);
+  }
+
+  // src/activities/maps.js
   var SIGNS3 = { right: ["✓", "guessed right"], wrong: ["seen", "seen"], done: ["✓", "done"] };
-  function drawCard({ href, list, title: title2, says, state = "" }) {
+  function drawCard({ href, list, title: title2, says = "", state = "" }) {
     const [sign, words] = SIGNS3[state] ?? ["", ""];
     const shown4 = sign === "" ? "" : tag("i", { class: "sign", "aria-label": words }, sign);
     return tag("a", { class: `card ${state}`, href }, tag("i", { class: "small" }, list), tag("b", {}, title2), tag("span", {}, says), shown4);
   }
-  function html2() {
+  var cards = (all) => tag("div", { class: "cards" }, ...all.map(drawCard));
+  var lead = (words, score = "") => `<p class="lead">${words}</p>${score === "" ? "" : `<p class="score">${score}</p>`}`;
+  var goOn = (href, count, all) => tag("a", { class: "button primary", href }, `${count === 0 ? "Begin" : count < all ? "Go on" : "Once more"} →`);
+  function askHtml() {
     const { asks } = keptStory();
-    const right = QUESTIONS.filter(({ name }) => asks[name] === "right").length;
-    const seen = QUESTIONS.filter(({ name }) => asks[name] !== void 0).length;
-    const cardOf3 = ({ name, list, title: title2, question }) => drawCard({ href: `#ask=${name}`, list: LIST_WORDS[list], title: title2, says: question, state: asks[name] });
-    const next = QUESTIONS.find(({ name }) => asks[name] === void 0) ?? QUESTIONS[0];
-    const score = `<p class="score"><b>${right}</b> of ${QUESTIONS.length} guessed right at the first try, ${seen} seen</p>`;
-    const lead = `<p class="lead">Eleven runs. Each stops just before the step on which it turns. Say what comes; then it goes on, and you may
-    change it.</p>`;
-    const verb = seen === 0 ? "Begin" : seen < QUESTIONS.length ? "Go on" : "Once more";
-    return `${head("", "Guess, then see", lead + (seen === 0 ? "" : score), "title")}<div class="cards">${QUESTIONS.map(cardOf3).join("")}</div>
+    const seen = QUESTIONS.filter(({ name }) => asks[name] !== void 0);
+    const right = seen.filter(({ name }) => asks[name] === "right").length;
+    const cardOf = ({ name, list, title: title2, question }) => ({ href: `#ask=${name}`, list: LIST_WORDS[list], title: title2, says: question, state: asks[name] });
+    const next = QUESTIONS.find((item) => !seen.includes(item)) ?? QUESTIONS[0];
+    const score = `<b>${right}</b> of ${QUESTIONS.length} guessed right at the first try, ${seen.length} seen`;
+    const words = "Eleven runs. Each stops just before the step on which it turns. Say what comes; then it goes on, and you may change it.";
+    return `${head("", "Guess, then see", lead(words, seen.length === 0 ? "" : score), "title")}${cards(QUESTIONS.map(cardOf))}
     <h2>Seven more</h2><p class="prose">These lists have a fourth call, <b>ceiling</b>: the smallest number that is as big as the one
-    that is asked for, or more. And each thread may add only so many numbers.</p>
-    <div class="cards">${APPENDIX.map(cardOf3).join("")}</div>
-    <footer class="foot"><a class="button quiet" href="#story=1">The path of twenty minutes</a><span class="spread"></span>
-    <a class="button primary" href="#ask=${next.name}">${verb} →</a></footer>`;
+    that is asked for, or more. And each thread may add only so many numbers.</p>${cards(APPENDIX.map(cardOf))}
+    ${foot('<a class="button quiet" href="#story=1">The path of twenty minutes</a>', goOn(`#ask=${next.name}`, seen.length, QUESTIONS.length))}`;
   }
-  var askMapView = { kind: "asks", title: () => "Guess, then see · Why not just one lock?", html: html2 };
-
-  // src/story/assignment.js
-  var known2 = { course: null };
-  var bookCourse = () => known2.course ??= triedCourse(askNow, BOOK);
-  var allLevels = () => Object.keys(BREAK_LEVELS).filter((name) => name !== NO_TASK).map((name) => ({ name, number: numberOfLevel(name) }));
-  var wordsIn = (text, sign = ".") => (text ?? "").split(sign).filter((word) => word !== "");
-  var isSeed = (word) => /^(coarse|fine|optimistic|lazy|lock-free)\.\d{1,2}\.\d{1,2}\.\d{1,2}\.\d{1,9}$/.test(word);
-  function addressOfTasks(title2, { learn, levels, seeds }) {
-    const parts = Object.entries({ learn: learn.join("."), break: levels.join("."), judge: seeds.join(",") });
-    return addressOfAssignment({ id: title2, given: Object.fromEntries(parts.filter(([, value]) => value !== "")) });
-  }
-  function lessonTask(name) {
-    const lesson = bookCourse().lessons.find((one) => one.name === name);
-    return lesson === void 0 ? null : { id: name, kind: "Solve", title: lesson.title, says: inLetters(lesson.question), href: `#learn=${name}` };
-  }
-  function levelTask(number) {
-    const name = levelOfNumber(number);
-    if (name === void 0 || name === NO_TASK)
-      return null;
-    const title2 = `Level ${number}, ${LISTS[LACKING[name]].name}`;
-    return { id: `break ${name}`, kind: "Break", title: title2, says: BREAK_LEVELS[name].story, href: `#break=${number}` };
-  }
-  function seedTask(seed) {
-    if (!isSeed(seed))
-      return null;
-    const { kind, number, calls } = partsOfSeed(seed);
-    const says = `${calls} calls: what does each answer, and where does it take effect?`;
-    return { id: `judge ${seed}`, kind: "Judge", title: `Run ${number}, ${LISTS[kind].name}`, says, href: `#seed=${seed}&judge`, seed };
-  }
-  function homeworkOf({ activity, id }, task = { kind: "", id: "" }) {
-    const { homework } = keptStory();
-    const isRun = activity === "judge" && task.kind === "seed";
-    if (homework === null || !(isRun || ["learn", "break"].includes(activity)))
-      return null;
-    return wordsIn(homework.given[activity], isRun ? "," : ".").includes(isRun ? task.id : id) ? homework : null;
-  }
-  function wayOn({ activity, id }, own) {
-    const homework = homeworkOf({ activity, id });
-    if (homework === null)
-      return own;
-    const { tasks } = tasksOf(homework.given);
-    const next = tasks[tasks.findIndex(({ href }) => href === `#${activity}=${id}`) + 1];
-    return next === void 0 ? { href: addressOfAssignment(homework), words: "All tasks →" } : { href: next.href, words: "Next task →" };
-  }
-  function tasksOf(given2) {
-    const unknown = [];
-    const taken = (words, taskOf, what) => words.flatMap((word) => {
-      const task = taskOf(word);
-      if (task === null)
-        unknown.push(`${what} ${word.slice(0, 40)}`);
-      return task === null ? [] : [task];
-    });
-    const learn = taken(wordsIn(given2.learn), lessonTask, "lesson");
-    const levels = taken(wordsIn(given2.break), levelTask, "level");
-    return { tasks: [...learn, ...levels, ...taken(wordsIn(given2.judge, ","), seedTask, "run")], unknown };
-  }
-  function textOfRun(run) {
-    try {
-      return run.includes("#") ? readAddress(run.slice(run.indexOf("#"))).text : null;
-    } catch (fault) {
-      if (fault instanceof AddressFault)
-        return null;
-      throw fault;
-    }
-  }
-  function taskOfJudged(line, tasks) {
-    const [, run = "", level] = line.split(" ");
-    if (level === "claim")
-      return null;
-    const text = textOfRun(run);
-    return tasks.find(({ seed }) => seed !== void 0 && text === scheduleOfSeed(askNow, seed)) ?? null;
-  }
-  function linesDone(tasks) {
-    const lessons = keptUnder("listset-lessons-2")?.of?.[BOOK_NAME]?.solutions ?? {};
-    const broken = Object.fromEntries(brokenLines());
-    const judged2 = Object.values(keptUnder("listset-judged") ?? {}).filter((line) => typeof line === "string");
-    const lineOf = {
-      Solve: ({ id }) => typeof lessons[id] === "string" ? `${id} ${addressOf(lessons[id], eventsAsked(lessons[id]))}` : void 0,
-      Break: ({ id }) => broken[id.slice("break ".length)],
-      Judge: (task) => judged2.find((line) => taskOfJudged(line, [task]) !== null)
+  function breakHtml() {
+    const cardOf = (name) => {
+      const { story, lacks } = BREAK_LEVELS[name];
+      const state = isBrokenOnce(name) ? { says: lacks, state: "done" } : {};
+      return { href: `#break=${numberOfLevel(name)}`, list: LIST_WORDS[LACKING[name]], title: story, ...state };
     };
-    return Object.fromEntries(tasks.map((task) => [task.id, lineOf[task.kind](task)]));
+    const count = TEN.filter(isBrokenOnce).length;
+    const next = TEN.find((name) => !isBrokenOnce(name)) ?? TEN[0];
+    const words = `Ten lists, from one lock to none. Each lacks one check. Let A and B step until a number is lost, or two
+    answers cannot both be right. Then say what is missing.`;
+    const top = lead(words, count === 0 ? "" : `<b>${count}</b> of ${TEN.length} broken`);
+    return `${head("", "Break it", top, "title")}${cards(TEN.map(cardOf))}
+    <h2>Three more</h2>${cards(THREE_MORE.map(cardOf))}${foot("", goOn(`#break=${numberOfLevel(next)}`, count, Infinity))}`;
   }
-
-  // src/story/kept_lessons.js
-  var LESSONS_KEPT = "listset-lessons-2";
-  var LESSONS_KEPT_BEFORE = "listset-lessons-1";
-  var textsKept = (kept) => Object.entries(kept ?? {}).filter(([, text]) => isText(text));
-  var namesKept = (kept) => Array.isArray(kept) ? kept.filter(isText) : [];
-  var KeptLessons = class {
-    constructor() {
-      const kept = keptUnder(LESSONS_KEPT) ?? { of: { [BOOK_NAME]: keptUnder(LESSONS_KEPT_BEFORE) } };
-      this.student = isText(kept.student) ? kept.student : "";
-      this.course = isText(kept.course) ? kept.course : BOOK_NAME;
-      this.courses = new Map(textsKept(kept.courses));
-      this.of = new Map(Object.entries(kept.of ?? {}).map(([name, own]) => [name, ownOf(own)]));
-    }
-    // What is kept of the course of this name.
-    ofCourse(name) {
-      if (!this.of.has(name))
-        this.of.set(name, ownOf({}));
-      return this.of.get(name);
-    }
-    // Whether the browser keeps it.
-    save() {
-      const { student, course } = this;
-      const toObject = ({ solutions, looked: looked4 }) => ({ solutions: Object.fromEntries(solutions), looked: [...looked4] });
-      const of = Object.fromEntries([...this.of].map(([name, own]) => [name, toObject(own)]));
-      return keepUnder(LESSONS_KEPT, { student, course, courses: Object.fromEntries(this.courses), of });
-    }
-  };
-  function ownOf(kept) {
-    return {
-      solutions: new Map(textsKept(kept?.solutions)),
-      looked: new Set(namesKept(kept?.looked))
-    };
-  }
-
-  // src/story/learning.js
-  var Learning = class {
-    constructor() {
-      this.kept = new KeptLessons();
-      const text = this.kept.courses.get(this.kept.course) ?? BOOK;
-      const course = text === BOOK ? bookCourse() : triedCourse(askNow, text);
-      this.takeCourse(course.faults.length === 0 ? course : bookCourse());
-    }
-    // Takes a course without faults. Its link is packed meanwhile.
-    takeCourse(course) {
-      this.course = course;
-      this.kept.course = course.name;
-      this.own = this.kept.ofCourse(course.name);
-      if (course.name !== BOOK_NAME)
-        this.kept.courses.set(course.name, course.text);
-      this.lesson = course.lessons[0];
-      visit.course = null;
-      if (course.name === BOOK_NAME)
-        return;
-      const take2 = (address) => this.course === course && (visit.course = address);
-      courseAddress(course.text).then(take2, () => null);
-    }
-    takeBook() {
-      this.takeCourse(bookCourse());
-    }
-    // The lesson of this name: of the course that is open, else of the book, else of a course that is kept, which is opened.
-    lessonNamed(name) {
-      const find = ({ lessons }) => lessons.find((lesson) => lesson.name === name);
-      if (find(this.course) !== void 0)
-        return find(this.course);
-      for (const text of [BOOK, ...this.kept.courses.values()]) {
-        const course = text === BOOK ? bookCourse() : triedCourse(askNow, text);
-        if (course.faults.length > 0 || find(course) === void 0)
-          continue;
-        this.takeCourse(course);
-        return find(course);
-      }
-      return void 0;
-    }
-    isSolved(name) {
-      return this.own.solutions.has(name);
-    }
-    firstUnsolved() {
-      return this.course.lessons.find(({ name }) => !this.isSolved(name));
-    }
-    // ---- the tries: each is kept among the works, under the name of its lesson
-    get workName() {
-      return `lesson ${this.lesson.name}${this.course.name === BOOK_NAME ? "" : ` of ${this.course.name}`}`;
-    }
-    // The text of the last try that is kept, or null.
-    lastTry() {
-      const { course, lesson } = this;
-      const isTry = ({ task }) => task.kind === "lesson" && task.course === course.name && task.id === lesson.name;
-      return works.byName.get(works.last(isTry))?.text ?? null;
-    }
-    keepTry(text) {
-      const task = { kind: "lesson", id: this.lesson.name, course: this.course.name };
-      works.set(this.workName, { text, box: text, count: eventsAsked(text), lacks: this.lesson.lacks, task });
-    }
-    // What is said of a try. A solution is kept, unless it is the answer that the reader has looked at.
-    judge(text) {
-      const { lesson, own } = this;
-      const { name, solution } = lesson;
-      const verdict = judged(askNow, lesson, text);
-      const isShown3 = own.looked.has(name) && solution !== null && linesOf(text).join() === linesOf(solution).join() && !own.solutions.has(name);
-      if (verdict.isSolved && !isShown3 && !own.solutions.has(name))
-        own.solutions.set(name, text);
-      const isKept = this.kept.save();
-      return { ...verdict, isShown: isShown3, isKept };
-    }
-    // From now on the answer itself is no solution of this reader's own.
-    lookAtAnswer() {
-      this.own.looked.add(this.lesson.name);
-      this.kept.save();
-    }
-  };
-  var learning = {
-    get panel() {
-      return made.panel ??= new Learning();
-    }
-  };
-  var made = { panel: null };
-
-  // src/story/learn_map.js
-  function cardOf({ name, title: title2, list }, index) {
-    const state = learning.panel.isSolved(name) ? "done" : "";
-    return drawCard({ href: `#learn=${name}`, list: `${index + 1} · ${LIST_WORDS[list]}`, title: escaped(title2), says: "", state });
-  }
-  function html3() {
+  function learnHtml() {
     const { panel } = learning;
     const { lessons, name } = panel.course;
+    const cardOf = ({ name: name2, title: title2, list }, at) => ({ href: `#learn=${name2}`, list: `${at + 1} · ${LIST_WORDS[list]}`, title: escaped(title2), state: panel.isSolved(name2) ? "done" : "" });
     const count = lessons.filter((lesson) => panel.isSolved(lesson.name)).length;
     const isBook = name === BOOK_NAME;
-    const next = panel.firstUnsolved() ?? lessons[0];
-    const lead = `<p class="lead">In each lesson you choose which thread makes the next step, until the run shows what is asked. There is more
-    than one way.</p>${count === 0 ? "" : `<p class="score"><b>${count}</b> of ${lessons.length} solved</p>`}`;
+    const words = "In each lesson you choose which thread makes the next step, until the run shows what is asked. There is more than one way.";
+    const top = lead(words, count === 0 ? "" : `<b>${count}</b> of ${lessons.length} solved`);
     const back = isBook ? "" : '<p><button id="lesson-book" data-do="book">Back to the twelve lessons</button></p>';
-    const on2 = tag("a", { class: "button primary", href: `#learn=${next.name}` }, `${count === 0 ? "Begin" : "Go on"} →`);
-    return `${head("", isBook ? "Solve it" : escaped(name), lead, "title")}<div class="cards">${lessons.map(cardOf).join("")}</div>
-    ${back}<div id="learn-folds"></div>${foot("", on2)}`;
+    return `${head("", isBook ? "Solve it" : escaped(name), top, "title")}${cards(lessons.map(cardOf))}
+    ${back}<div id="learn-folds"></div>${foot("", goOn(`#learn=${(panel.firstUnsolved() ?? lessons[0]).name}`, count, Infinity))}`;
   }
-  function drawLearnMap() {
-    if (part("#learn-folds") === null)
-      return;
-    end2();
-    byId("scene").innerHTML = html3();
-    begin2();
-  }
-  function begin2() {
+  function beginLearn() {
     const { kept, course } = learning.panel;
     part("#learn-folds").append(byId("lesson-folds"));
     byId("lesson-course").replaceChildren(...[BOOK_NAME, ...kept.courses.keys()].map((name) => new Option(name)));
     byId("lesson-course").value = course.name;
-    byId("lesson-student").value = kept.student;
+    byId("lesson-student").value = keptStory().student;
   }
-  var end2 = () => byId("courses").append(byId("lesson-folds"));
-  var learnMapView = {
-    kind: "asks",
-    title: () => `${learning.panel.course.name} · Why not just one lock?`,
-    html: html3,
-    begin: begin2,
-    end: end2,
-    deeds: {
-      book: () => {
-        learning.panel.takeBook();
-        drawLearnMap();
-      }
-    }
+  var endLearn = () => byId("courses").append(byId("lesson-folds"));
+  function drawLearnMap() {
+    if (part("#learn-folds") === null)
+      return;
+    endLearn();
+    byId("scene").innerHTML = learnHtml();
+    beginLearn();
+  }
+  function openBook() {
+    learning.panel.takeCourse(bookCourse());
+    drawLearnMap();
+  }
+  function judgeHtml() {
+    const judged2 = Object.keys(keptUnder(JUDGED) ?? {});
+    const cardOf = ({ name, kind }) => {
+      const state = judged2.some((run) => run.startsWith(`${name} `)) ? "done" : "";
+      const says = escaped(inLetters(CLASSICS[name].question));
+      return { href: `#example=${name}&judge`, list: LIST_WORDS[kind], title: itemOf2({ id: name }).title, says, state };
+    };
+    const words = `You see a run without its replies. Say what each call answers, and put a point where it takes effect. The proved
+    <code>check</code> judges your order: any order that explains the run is right.`;
+    return `${head("", "Judge a run yourself", lead(words), "title")}<h2>A random run</h2>${seedForm("judge-seed", "Judge a run")}${drawRecordedBox()}
+    <h2>An example, by its question</h2>${cards(examples().map(cardOf))}`;
+  }
+  function beginJudge() {
+    listenToSeedForm("judge-seed", "&judge");
+    listenToRecorded();
+  }
+  var PAGES = [
+    ["how-it-works.html", "How it works", "The five lists, from one lock to none, each with the runs that show why."],
+    ["classic.html", "The examples", "Eighteen runs, each with its question, the answer, and what goes wrong without the check."],
+    ["tables.html", "The step tables", "Each list row by row: what a step reads and writes, and which row comes next."],
+    ["tables.html#progress", "Progress: blocking, lock-free, wait-free", "Which calls of each list may block, and within how many steps a call ends."]
+  ];
+  var TERMS = {
+    event: "The begin of a call, or one step of it: one load, store or compare-and-exchange of one word.",
+    schedule: "Which thread makes the next step, from the first event to the last. It is the whole input of a run.",
+    history: "The calls with their begin, end, thread and reply. Two calls overlap if neither ends before the other begins.",
+    pending: "A call that has begun and not ended.",
+    "takes effect": "At its linearization point: the moment between begin and end at which a call counts in the order.",
+    order: "The calls one after the other. It explains a run if a sequential set gives the same replies in this order.",
+    linearizable: "Some order explains the replies, and keeps each pair of calls that do not overlap as they were.",
+    "row, step table": "The algorithm as numbered steps; a row says what the thread does next.",
+    "pred, curr": "The two nodes that a walk holds: curr is the next one behind pred.",
+    marked: "A node whose key is removed; it may still be in the chain until it is unlinked.",
+    "quota, slot": "How many keys a thread can add in all. Each needs a slot, a node of its own; then add answers full.",
+    "not linearizable": "Proved of a report by a few of its calls: no order of them explains their replies."
   };
-
-  // src/draw/judged.js
-  var JUDGE_LEFT = 50;
-  var JUDGE_RIGHT = 20;
-  var JUDGE_BAR = 30;
-  var JUDGE_BELOW = 8;
-  var MOST_ROWS2 = 3;
-  var SLOT_WIDTH = 60;
-  var leftOf = ({ begun }, { x, step }) => x(begun) - step / 2;
-  var rightOf = (call, { x, step, last }) => x(call.ended ?? last) + step / 2;
-  function widthOfCall(call) {
-    if (call.ended === null)
-      return widthOf(callText(call), OPEN);
-    const replies = [call.reply ?? "", ...call.operation === "ceiling" ? ["nothing"] : ["false"]];
-    return Math.max(...replies.map((reply) => widthOf(callText(call), reply)));
+  function readHtml() {
+    const isAlone = document.body.dataset.alone !== void 0;
+    const pages = isAlone ? "" : cards(PAGES.map(([href, title2, says]) => ({ href, list: "", title: title2, says: escaped(says) })));
+    const terms = Object.entries(TERMS).map(([term, says]) => `<div><dt>${term}</dt><dd>${escaped(says)}</dd></div>`);
+    return `${head("", "Read", "", "title")}${pages}<h2>Terms</h2>${tag("dl", { class: "words card" }, ...terms)}
+    <h2>What is proved, and what is not</h2><div class="panel prose">${byId("proved").innerHTML}</div>`;
   }
-  function judgeScale({ last, threads, calls }, width) {
-    const step = (width - JUDGE_LEFT - JUDGE_RIGHT) / last;
-    const across = { step, last, x: (moment) => JUDGE_LEFT + (moment - 0.5) * step };
-    const labels = /* @__PURE__ */ new Map();
-    for (let thread = 0; thread < threads; thread++) {
-      const own = calls.filter((call) => call.thread === thread).sort((one, other) => one.begun - other.begun);
-      const items = own.map((call) => ({ left: leftOf(call, across), right: rightOf(call, across), wide: widthOfCall(call) }));
-      placeLabels(items, { start: 2, edge: width, mostRows: MOST_ROWS2 }).forEach((place, at) => labels.set(own[at].id, place));
-    }
-    const above = ROW_HEIGHT * Math.max(1, ...[...labels.values()].map((place) => (place?.row ?? 0) + 1)) + 4;
-    const lane = above + JUDGE_BAR + JUDGE_BELOW;
-    return {
-      ...across,
-      width,
-      labels,
-      height: 4 + threads * lane,
-      y: (thread) => 2 + thread * lane + above + JUDGE_BAR / 2,
-      momentAt: (x) => (x - JUDGE_LEFT) / step + 0.5
-    };
-  }
-  var momentInWords = (at) => Number.isInteger(at) ? `at ${at}` : `after ${Math.floor(at)}`;
-  function drawJudgedLane(scale, place, thread = place) {
-    const y = scale.y(place);
-    const badge = tag("rect", { x: 2, y: y - 10, width: 38, height: 20, rx: 4 }) + label({ x: 21, y: y + 5 }, letterOf(thread));
-    const lane = { class: "lane", x1: JUDGE_LEFT - 6, x2: scale.width - JUDGE_RIGHT, y1: y, y2: y };
-    return tag("line", lane) + tag("g", { class: `badge ${colourOf(thread)}` }, badge);
-  }
-  var OPEN = "(pending)";
-  var saidOf = (call, answer2) => call.ended === null ? OPEN : answer2.replyOf(call) ?? "?";
-  function drawJudgedCall(call, { answer: answer2, exercise, verdict, scale }) {
-    const y = scale.y(call.thread);
-    const point = answer2.points.get(call.id);
-    const reply = saidOf(call, answer2);
-    const isClash = verdict?.clash === call.id;
-    const where = point === void 0 ? "not placed yet" : momentInWords(point.at);
-    const slider = {
-      role: "slider",
-      tabindex: 0,
-      "data-call": call.id,
-      "aria-label": `where ${nameOfCall(call)}, ${reply === "?" ? "its reply not said yet" : reply}, takes effect`,
-      "aria-valuemin": call.begun,
-      "aria-valuemax": lastMoment(exercise, call),
-      "aria-valuenow": point?.at ?? call.begun,
-      "aria-valuetext": `${where}${isClash ? ", and clashes there" : ""}`,
-      class: `bar own ${colourOf(call.thread)}${isClash ? " clash" : ""}${call.ended === null ? " open" : ""}`
-    };
-    const bar = drawJudgedBar(call, reply, scale, y);
-    return tag("g", slider, bar, point === void 0 ? "" : drawOwnPoint(call, point.at, y, scale));
-  }
-  function drawJudgedBar(call, reply, scale, y) {
-    const [left, right] = [leftOf(call, scale), rightOf(call, scale)];
-    const rect = { x: left, y: y - JUDGE_BAR / 2, width: Math.max(right - left, 12), height: JUDGE_BAR, rx: 4 };
-    const { x, row } = scale.labels.get(call.id) ?? { x: left, row: null };
-    const above = { class: "call", x, y: y - JUDGE_BAR / 2 - 5 - ROW_HEIGHT * (row ?? 0) };
-    const words = row === null ? signOf(call) : callText(call) + tag("tspan", { class: "reply" }, ` ${escaped(reply)}`);
-    return tag("rect", rect) + tag("text", above, words);
-  }
-  var frameOf2 = ({ width, height }) => ({ width, height, viewBox: `0 0 ${width} ${height}` });
-  function drawRecorded(calls, from, width) {
-    const inOrder = (numbers) => [...new Set(numbers)].sort((one, other) => one < other ? -1 : 1);
-    const threads = inOrder(calls.map(({ thread }) => thread));
-    const ends = calls.flatMap(({ begun, ended }) => ended === null ? [begun] : [begun, ended]);
-    const moments = inOrder(from === null ? ends : [...ends, from.moment]);
-    const momentOf = (at) => at === null ? null : moments.indexOf(at) + 1;
-    const laneOf = ({ thread }) => threads.indexOf(thread);
-    const placed2 = calls.map((call, id) => ({ ...call, id, thread: laneOf(call), begun: momentOf(call.begun), ended: momentOf(call.ended) }));
-    const scale = judgeScale({ calls: placed2, last: moments.length + 1, threads: threads.length }, width);
-    const bars = placed2.map((call) => {
-      const bar = drawJudgedBar(call, call.reply ?? OPEN, scale, scale.y(call.thread));
-      const still = { class: `bar own still ${colourOf(threads[call.thread])}${call.ended === null ? " open" : ""}` };
-      return tag("g", still, title(recordedInWords(calls[call.id])), bar);
-    });
-    const lanes = threads.map((thread, at) => drawJudgedLane(scale, at, thread));
-    const below = from === null ? 0 : ROW_HEIGHT;
-    const frame = { ...frameOf2({ ...scale, height: scale.height + below }), role: "img", "aria-label": calls.map(nameOfCall).join(", ") };
-    return tag("svg", frame, ...lanes, from === null ? "" : drawFrom(from.says, scale, momentOf(from.moment)), ...bars);
-  }
-  function drawFrom(says, { x, step, width, height }, moment) {
-    const at = x(moment) + step / 2;
-    const anchor = at > width / 2 ? { x: at - 6, "text-anchor": "end" } : { x: at + 6 };
-    const words = label({ class: "note", y: height + ROW_HEIGHT - 4, ...anchor }, says);
-    return tag("line", { class: "cursor", x1: at, x2: at, y1: 0, y2: height + ROW_HEIGHT }) + words;
-  }
-  function drawOwnPoint(call, at, y, scale) {
-    const x = scale.x(at);
-    const stem = tag("line", { x1: x, x2: x, y1: y - 15, y2: y + 15 });
-    return tag("g", { class: `point own ${colourOf(call.thread)}` }, stem, tag("circle", { cx: x, cy: y, r: 8 }), drawWhen(call, at, y, scale));
-  }
-  function drawWhen(call, at, y, scale) {
-    const x = scale.x(at);
-    const isRoomy = (room) => room >= SLOT_WIDTH;
-    if (isRoomy(rightOf(call, scale) - x))
-      return label({ x: x + 11, y: y + 5 }, momentInWords(at));
-    return isRoomy(x - leftOf(call, scale)) ? label({ x: x - 11, y: y + 5, "text-anchor": "end" }, momentInWords(at)) : "";
-  }
-  function drawJudged(judged2) {
-    const { exercise, scale, moment } = judged2;
-    const lanes = Array.from({ length: exercise.threads }, (_, thread) => drawJudgedLane(scale, thread));
-    const at = exercise.level === "claim" ? moment : judged2.count;
-    const line = { class: "cursor", x1: scale.x(at), x2: scale.x(at), y1: 0, y2: scale.height };
-    const frame = { ...frameOf2(scale), role: "group", "aria-label": "the calls, each with a point to place" };
-    const calls = exercise.calls.map((call) => drawJudgedCall(call, judged2));
-    return tag("svg", frame, ...lanes, at === 0 ? "" : tag("line", line), ...calls);
-  }
-  function drawOwnOrder(answer2) {
-    const { calls } = answer2.exercise;
-    const placed2 = answer2.order().map(({ call, at, reply }) => {
-      return `<li>${chipOf(call.thread)} ${callText(call)} <b>${escaped(reply ?? "?")}</b> <small>${momentInWords(at)}</small></li>`;
-    });
-    const others = calls.filter(({ id }) => !answer2.points.has(id)).map((call) => {
-      return `<li class="later">${chipOf(call.thread)} ${callText(call)} <small>not placed yet</small></li>`;
-    });
-    return `<ol>${placed2.join("")}${others.join("")}</ol>`;
-  }
-  function momentOfReport({ calls, last }, moment) {
-    if (moment === 0)
-      return `Before the first of ${last} moments.`;
-    const begun = calls.find((call) => call.begun === moment);
-    const ended = calls.find((call) => call.ended === moment);
-    if (begun !== void 0)
-      return `Moment ${moment}: ${chipOf(begun.thread)} begins ${callText(begun)}.`;
-    if (ended !== void 0)
-      return `Moment ${moment}: ${chipOf(ended.thread)} ${callText(ended)} answers <b>${ended.reply}</b>.`;
-    const open = calls.filter((call) => call.begun < moment && (call.ended ?? Infinity) > moment);
-    const names = open.map((call) => `${callText(call)} of ${chipOf(call.thread)}`);
-    return `Moment ${moment}: a step. ${names.length === 0 ? "No call is pending." : `Pending: ${names.join(", ")}.`}`;
-  }
-
-  // src/activities/judging.js
-  var JUDGED = "listset-judged";
-  var HALF_STEPS = { ArrowLeft: -0.5, ArrowDown: -0.5, ArrowRight: 0.5, ArrowUp: 0.5 };
-  var SLIDER_KEYS = { ...HALF_STEPS, PageDown: -5, PageUp: 5, Home: -Infinity, End: Infinity };
-  var judgePart = (name) => byId(`judge-${name}`);
-  var Judging = class {
-    exercise = null;
-    answer = null;
-    verdict = null;
-    held = null;
-    // the call whose point is dragged
-    tries = 0;
-    // that were refused
-    moment = 0;
-    // of a claim
-    told = "";
-    // Begins an exercise of this level about the run that is shown. At the third the report may be that of a broken list.
-    begin(level) {
-      const { lacks, text } = now.run;
-      const broken = exampleShown() === "" ? null : askNow("listset_broken_example", exampleShown());
-      const isBroken = level === "claim" && broken?.status === 0 && Math.random() < 0.5;
-      const report = isBroken ? broken : askList(askNow, "listset_replay", lacks, text);
-      if (report.status === 0)
-        this.take(exerciseOf(report.text, lacks === null ? level : "claim", lacks === null && !isBroken));
-      else
-        tell(`This run cannot be judged: ${escaped(report.text.trim())}.`);
-    }
-    take(exercise) {
-      Object.assign(this, { exercise, answer: new OwnAnswer(exercise) });
-      Object.assign(this, { held: null, verdict: null, tries: 0, moment: 0, told: LEVELS[exercise.level].task });
-      if (now.run.lacks === null)
-        judgePart("level").value = exercise.level;
-      dispatch("exercise", { exercise });
-    }
-    // ---- what the reader does
-    callAt(event) {
-      const id = event.target.closest("[data-call]")?.dataset.call;
-      return id === void 0 ? null : this.exercise.calls[Number(id)];
-    }
-    grasp(event) {
-      const call = this.callAt(event);
-      if (call === null)
-        return;
-      event.preventDefault();
-      judgePart("bars").setPointerCapture(event.pointerId);
-      this.held = call;
-      this.drag(event);
-    }
-    drag(event) {
-      const left = judgePart("bars").firstElementChild.getBoundingClientRect().left;
-      this.place(this.held, this.scale.momentAt(event.clientX - left));
-    }
-    place(call, at) {
-      this.answer.place(call, at);
-      this.changed();
-      judgePart("bars").querySelector(`[data-call="${call.id}"]`).focus();
-    }
-    press(event) {
-      const call = this.callAt(event);
-      const by = SLIDER_KEYS[event.key];
-      if (call === null || event.ctrlKey || event.altKey || event.metaKey)
-        return;
-      if (event.key === "Delete" || event.key === "Backspace") {
-        this.answer.take(call);
-        this.changed();
-      } else if (by === void 0)
-        return;
-      else
-        this.place(call, this.answer.points.has(call.id) ? this.answer.points.get(call.id).at + by : call.begun);
-      event.preventDefault();
-    }
-    say(call, reply) {
-      this.answer.say(call, reply);
-      this.changed();
-    }
-    // An answer that was changed is judged when the reader asks for it.
-    changed() {
-      this.verdict = null;
-      this.draw();
-    }
-    judge(isNone) {
-      this.answer.isNone = isNone;
-      this.verdict = verdictOn(askNow, this.answer);
-      if (this.verdict.isRight === false)
-        this.tries++;
-      if (this.verdict.isRight && this.exercise.isWhole)
-        this.keep();
-      this.answer.isNone = false;
-      this.draw();
-      judgePart("verdict").scrollIntoView({ block: "nearest" });
-    }
-    // What is handed in of a run that was judged right: it goes with the solutions of the lessons.
-    keep() {
-      const run = exampleShown() === "" ? addressOf(now.run.text, now.run.count) : exampleShown();
-      this.line = `judge ${run} ${this.exercise.level} ${wordOfAnswer(this.answer)}`;
-      if (run !== null)
-        keepUnder(JUDGED, { ...keptUnder(JUDGED), [`${run} ${this.exercise.level}`]: this.line });
-    }
-    // ---- what is drawn
-    draw() {
-      const { level, calls } = this.exercise;
-      this.count = now.run.count;
-      this.scale = judgeScale(this.exercise, Math.max(300, judgePart("bars").clientWidth));
-      judgePart("task").textContent = this.told;
-      judgePart("none").hidden = level !== "claim";
-      redraw(judgePart("bars"), drawJudged(this));
-      const asked2 = level === "replies" ? calls.filter((call) => call.ended !== null) : [];
-      redraw(judgePart("replies"), asked2.map((call) => this.replyBox(call)));
-      judgePart("order").innerHTML = drawOwnOrder(this.answer);
-      this.drawMoment();
-      this.drawVerdict();
-    }
-    replyBox(call) {
-      const choice = document.createElement("select");
-      choice.dataset.call = call.id;
-      choice.append(new Option("?", ""), ...repliesOf(this.exercise, call).map((reply) => new Option(reply, reply)));
-      choice.value = this.answer.replies.get(call.id) ?? "";
-      choice.onchange = () => this.say(call, choice.value === "" ? void 0 : choice.value);
-      const box = document.createElement("label");
-      box.innerHTML = `${chipOf(call.thread)} ${callText(call)} answers `;
-      box.append(choice);
-      return box;
-    }
-    // Of a claim there is no run to step through: its own moments are told, one by one.
-    drawMoment() {
-      const slider = judgePart("moment");
-      const said2 = momentOfReport(this.exercise, this.moment);
-      Object.assign(slider, { max: this.exercise.last, value: this.moment });
-      slider.setAttribute("aria-valuetext", said2.replace(/<[^>]*>/g, ""));
-      judgePart("said").innerHTML = said2;
-    }
-    drawVerdict() {
-      const { verdict, tries } = this;
-      const kind = { true: "right", false: "wrong" }[verdict?.isRight] ?? "";
-      judgePart("verdict").className = kind;
-      judgePart("verdict").textContent = verdict?.says ?? "";
-      judgePart("tries").textContent = tries === 0 ? "" : `${tries} ${tries === 1 ? "try" : "tries"} refused`;
-      judgePart("hint").textContent = kind === "wrong" && tries >= 2 && this.exercise.level !== "claim" ? hintOfRun() : "";
-      const isKept = kind === "right" && this.exercise.isWhole;
-      judgePart("line").innerHTML = isKept ? `Kept; you hand it in with the lessons: <code>${escaped(this.line)}</code>` : "";
-      const drawn2 = verdict?.report == null ? "" : askNow("listset_show_svg", verdict.report).text;
-      judgePart("picture-box").hidden = !drawn2.startsWith("<svg ");
-      judgePart("picture").innerHTML = judgePart("picture-box").hidden ? "" : drawn2;
-    }
+  var mapOf = (name, html9, more = {}) => ({ kind: "asks", title: () => `${name()} · Why not just one lock?`, html: html9, ...more });
+  var MAPS = {
+    "ask map": mapOf(() => "Guess, then see", askHtml),
+    "break map": mapOf(() => "Break it", breakHtml),
+    "learn map": mapOf(() => learning.panel.course.name, learnHtml, { begin: beginLearn, end: endLearn, deeds: { book: openBook } }),
+    judge: mapOf(() => "Judge", judgeHtml, { begin: beginJudge }),
+    read: mapOf(() => "Read", readHtml)
   };
-  var judging = new Judging();
-  var drawJudging = () => isJudging() && judging.draw();
-  function hintOfRun() {
-    const turns = CLASSICS[exampleShown()]?.turns;
-    if (turns !== void 0)
-      return `The deciding events: ${turns.join(", ")}.`;
-    const changes = now.run.trace.changes.map(({ number }) => number);
-    return changes.length === 0 ? "No event changes the set." : `The set changes at the events ${changes.join(", ")}.`;
-  }
-  function beginJudging() {
-    const { trace } = now.run;
-    if (held.engine === null)
-      return tell("The replayer does not run in this browser: nothing can be judged.");
-    if (!now.run.isRun || trace.refused !== null)
-      return tell("A run with a refused event cannot be judged: delete the red line of the schedule first.");
-    if (trace.calls.length === 0)
-      return tell("There is no call to judge yet.");
-    if (trace.total > MOST_JUDGED)
-      return tell(`A run of at most ${MOST_JUDGED} events can be judged; this one has ${trace.total}.`);
-    tell("");
-    judging.begin(judgePart("level").value);
-    byId("next").focus();
-  }
-  function listenToJudging() {
-    byId("judge-begin").onclick = beginJudging;
-    judgePart("level").append(...Object.entries(LEVELS).map(([level, { name }]) => new Option(name, level)));
-    judgePart("level").value = "replies";
-    judgePart("level").onchange = judgePart("again").onclick = () => judging.begin(judgePart("level").value);
-    judgePart("ask").onclick = () => judging.judge(false);
-    judgePart("none").onclick = () => judging.judge(true);
-    judgePart("moment").oninput = () => {
-      judging.moment = Number(judgePart("moment").value);
-      judging.draw();
-    };
-    judgePart("end").onclick = () => {
-      dispatch("exercise", { exercise: null });
-      byId("judge-begin").focus();
-    };
-    const bars = judgePart("bars");
-    bars.onpointerdown = (event) => judging.grasp(event);
-    bars.onpointermove = (event) => judging.held !== null && judging.drag(event);
-    bars.onpointerup = bars.onpointercancel = () => judging.held = null;
-    bars.onkeydown = (event) => judging.press(event);
-  }
 
   // src/activities/courses.js
   var lessonPart = (name) => byId(`lesson-${name}`);
@@ -9541,15 +9638,15 @@ quota ${quota}
       if (box.value === "")
         box.value = learning.panel.course.text;
     };
-    lessonPart("file").onchange = async () => {
-      box.value = await lessonPart("file").files[0].text();
-      lessonPart("file").value = "";
-      lessonPart("write").open = true;
-      takeCourseText(box.value);
-    };
+    onFile(lessonPart("file"), showCourseText);
     lessonPart("try").onclick = () => takeCourseText(box.value);
     lessonPart("link").onclick = () => takeCourseText(box.value) && copyCourseLink();
     lessonPart("save").onclick = () => saveText("lessons.course", box.value);
+    lessonPart("hand-in").onclick = handIn;
+    lessonPart("student").onchange = () => {
+      if (!keepStory({ student: lessonPart("student").value.trim() }))
+        lessonPart("told").textContent = "This browser keeps nothing: hand in before you leave the page.";
+    };
   }
   async function handIn() {
     const { panel } = learning;
@@ -9565,189 +9662,79 @@ quota ${quota}
     const count = `${counted(solutions.length, "solution")}, ${counted(orders.length, "judged order")} and ${counted(broken.length, "broken list")}`;
     lessonPart("told").textContent = await copied(box.value) ? `The text with ${count} is copied.` : `Copy this text: it has ${count}.`;
   }
-  function listenToHandIn() {
-    lessonPart("hand-in").onclick = handIn;
-    lessonPart("student").onchange = () => {
-      const { panel } = learning;
-      panel.kept.student = lessonPart("student").value.trim();
-      if (!panel.kept.save())
-        lessonPart("told").textContent = "This browser keeps nothing: hand in before you leave the page.";
-    };
-  }
 
-  // src/story/ask_figure.js
-  var CHECK_WORDS = {
-    lock: "the lock is ignored",
-    "hand-over-hand": "it lets go of one lock before it has the next",
-    "second-walk": "it does not walk again",
-    "marks-in-validation": "it does not look at the marks",
-    "mark-in-remove": "it marks a node that is marked already",
-    "mark-in-add": "an add does not look at the mark of its pred",
-    "mark-at-key": "a contains does not look at the mark"
-  };
-  var ALL = [...QUESTIONS, ...APPENDIX];
-  var itemOf = ({ id }) => ALL.find(({ name }) => name === id);
-  var isEmbed = () => now.place.view === "embed";
-  function takeBranch({ lines, opening, lacks = null, isFree: isFree2 = false }) {
-    const item = itemOf(now.place);
-    const calls = isFree2 ? {} : item.calls;
-    return takeFigure(new Figure(freshBox(), {
-      list: item.list,
-      lacks,
-      lines,
-      calls,
-      threads: item.threads ?? 2,
-      quota: item.quota ?? 4,
-      opening: opening ?? item.opening,
-      operations: operationsIn(item),
-      strip: true,
-      scrub: true,
-      again: false,
-      free: isFree2,
-      short: true,
-      roomFor: 552,
-      high: isEmbed() ? 0.34 : 0.23,
-      least: isEmbed() ? 110 : 180,
-      code: !isEmbed(),
-      codeTitle: LIST_WORDS[item.list],
-      codeNote: lacks === null ? "" : `Here ${CHECK_WORDS[lacks]}.`,
-      struck: BREAK_LEVELS[lacks]?.missing
-    }));
+  // src/page/controls.js
+  function stopUnable(event) {
+    if (event.target.closest?.('[aria-disabled="true"]') == null)
+      return;
+    event.stopPropagation();
+    event.preventDefault();
   }
-  var operationsIn = ({ lines, rest }) => [...lines, ...rest].filter((line) => line.startsWith("begin")).map((line) => line.split(" ")[2]);
-  function freshBox() {
-    const box = Object.assign(document.createElement("div"), { id: "figure" });
-    part("#figure").replaceWith(box);
-    return box;
+  function skipToRun() {
+    const first = { stage: "#next", scene: "#scene :is(.option, .fig button, .card, #sides-turns button, .foot .primary)" };
+    document.querySelector(first[now.place.screen])?.focus();
   }
-
-  // src/activities/recorded.js
-  var WIDEST = 900;
-  var recorded = { text: "", isOpen: false };
-  var recordedPart = (name) => byId(`recorded-${name}`);
-  var PARTS = `<p class="lead">The forms in <code>judge</code> record the calls of your own set in a test, each with its
-    begin and end, and keep a recording that fails. Paste its text, or open the file: the proved <code>judge</code> says whether any order
-    explains the calls.</p>
-  <textarea id="recorded-text" rows="7" spellcheck="false" autocapitalize="off" wrap="off" aria-label="recorded calls"
-    placeholder="listset-calls 1"></textarea>
-  <p class="line"><button id="recorded-judge">Judge these calls</button>
-    <label class="button">Open a file<input type="file" id="recorded-file"></label>
-    <button id="recorded-example">Load an example</button></p>
-  <p id="recorded-verdict" role="status"></p><ul id="recorded-reasons"></ul><div id="recorded-picture"></div>`;
-  var drawRecordedBox = () => tag(
-    "details",
-    { id: "recorded-box", class: "card", ...recorded.isOpen ? { open: "" } : {} },
-    tag("summary", {}, "<h2>Judge calls recorded from your own set</h2>"),
-    PARTS
-  );
-  function showVerdict({ kind, says, reasons, calls, from }) {
-    recordedPart("verdict").className = kind;
-    recordedPart("verdict").textContent = says;
-    recordedPart("reasons").innerHTML = reasons.map((reason) => tag("li", {}, reason)).join("");
-    const width = Math.min(Math.max(300, recordedPart("picture").clientWidth), WIDEST);
-    recordedPart("picture").innerHTML = calls.length > 0 ? drawRecorded(calls, from, width) : "";
+  function listenToBar() {
+    byId("back").onclick = () => goByHand(now.run.count - 1);
+    byId("next").onclick = () => goByHand(now.run.count + 1);
+    byId("play").onclick = togglePlay;
+    byId("speed").onchange = changeSpeed;
+    byId("speed").value = wantsLessMotion() ? "slow" : "medium";
+    byId("slider").oninput = () => goByHand(Number(byId("slider").value));
+    byId("all-threads").onclick = () => dispatch("prefs", { allThreads: !now.prefs.allThreads });
+    byId("keys").onclick = toggleKeys;
+    byId("skip").onclick = skipToRun;
+    for (const name of ["lecture", "leave"])
+      byId(name).onclick = toggleLecture;
+    byId("link-here").onclick = copyLink;
+    byId("long-cancel").onclick = cancelLong;
   }
-  var nothing = { kind: "", says: "", reasons: [], calls: [], from: null };
-  async function judgeCalls() {
-    const text = withNewline(recordedPart("text").value);
-    recorded.text = text;
-    if (text === "")
-      return showVerdict({ ...nothing, kind: "fault", says: "Paste the text of recorded calls first, or open a file." });
-    showVerdict({ ...nothing, says: text.length < LONG_TEXT ? "" : "The judge is at work." });
-    const said2 = await askLong("listset_judge_record", text, false);
-    if (withNewline(recordedPart("text").value) === text)
-      showVerdict(verdictOnCalls(askNow, said2, text));
+  function listenToSettings() {
+    const kept = keptUnder(SETTINGS) ?? {};
+    change("prefs", { hides: kept.hides !== false, letters: kept.letters !== false });
+    for (const [name, id] of [["hides", "hides"], ["letters", "single-keys"]]) {
+      byId(id).checked = now.prefs[name];
+      byId(id).onchange = () => {
+        dispatch("prefs", { [name]: byId(id).checked });
+        keepUnder(SETTINGS, { hides: now.prefs.hides, letters: now.prefs.letters });
+      };
+    }
   }
-  function showRecorded(text) {
-    recordedPart("box").open = true;
-    recordedPart("text").value = text;
-    judgeCalls();
-  }
-  function listenToRecorded() {
-    const box = recordedPart("text");
-    box.value = recorded.text;
+  var SETTINGS = "listset-settings";
+  function listenToWork() {
+    const box = byId("schedule");
+    byId("examples").onchange = () => chooseInList(byId("examples").value);
+    byId("run").onclick = runBox;
+    byId("opening").onchange = runWithOpening;
+    byId("link").onclick = copyLink;
+    byId("new").onclick = () => newSchedule(byId("new-list").value, byId("new-threads").value, byId("new-quota").value);
+    box.onscroll = showMarks;
+    watchEditor();
     box.oninput = () => {
-      recorded.text = box.value;
-      showVerdict(nothing);
+      showMarks();
+      keepSoon();
     };
-    recordedPart("box").ontoggle = () => recorded.isOpen = recordedPart("box").open;
-    recordedPart("judge").onclick = judgeCalls;
-    recordedPart("example").onclick = () => showRecorded(RECORDED_EXAMPLE);
-    recordedPart("file").onchange = async () => {
-      const text = await recordedPart("file").files[0].text();
-      recordedPart("file").value = "";
-      showRecorded(text);
+    box.onkeydown = (event) => {
+      if (event.key === "Enter" && (event.ctrlKey || event.metaKey))
+        runBox();
     };
   }
-
-  // src/activities/watch.js
-  var FIRST = { example: "marked-in-chain", event: 20 };
-  function seedForm(id, verb) {
-    const options = Object.entries(LISTS).map(([kind, { name }]) => tag("option", { value: kind }, name));
-    const number = `<input id="${id}-number" type="number" min="1" max="999999999" placeholder="any">`;
-    const parts = [
-      tag("label", {}, "list ", tag("select", { id: `${id}-list` }, ...options)),
-      tag("label", {}, "number ", number),
-      tag("button", { id: `${id}-go`, class: "primary" }, verb)
-    ];
-    return tag("div", { class: "start-row" }, ...parts);
+  function listenToFiles() {
+    byId("report-box").ontoggle = refreshReport;
+    onFile(byId("file"), openFile);
+    byId("save-schedule").onclick = () => saveText("page.schedule", byId("schedule").value);
+    byId("save-trace").onclick = () => saveText("page.trace", now.run.trace.text);
+    byId("save-picture").onclick = savePicture;
   }
-  function listenToSeedForm(id, more) {
-    byId(`${id}-go`).onclick = () => {
-      const kind = byId(`${id}-list`).value;
-      const number = Number(byId(`${id}-number`).value);
-      location.hash = `#seed=${number > 0 ? seedOf(kind, number) : anotherSeed(now.task.kind === "seed" ? now.task.id : null, kind)}${more}`;
+  function placeParts() {
+    const narrow = matchMedia("(max-width: 940px)");
+    const place = () => {
+      for (const name of ["schedule-box", "new-box", "files-box", "threads-box"])
+        byId(name).open = !narrow.matches;
     };
+    narrow.addEventListener("change", place);
+    place();
   }
-  function openSeed(seed, count) {
-    const text = scheduleOfSeed(askNow, seed);
-    openTask({ kind: "seed", id: seed, work: works.newName(`run ${partsOfSeed(seed).number}`) }, text, count);
-  }
-  function taskOfWatch() {
-    const more = isJudging() ? "&judge" : "";
-    if (now.task.kind === "seed")
-      drawSeedBox(now.task.id, more);
-    const names = examples().map(({ name }) => name);
-    const at = now.task.kind === "example" ? names.indexOf(now.task.id) : -1;
-    const to = (index) => at >= 0 && names[index] !== void 0 ? `#example=${names[index]}${more}` : null;
-    return { before: to(at - 1), all: more === "" ? ["#ask", "All questions"] : ["#judge", "All runs"], next: to(at + 1) };
-  }
-  function drawSeedBox(seed, more) {
-    const { kind, number } = partsOfSeed(seed);
-    byId("seed-number").textContent = number;
-    if (document.activeElement !== byId("seed-input"))
-      byId("seed-input").value = number;
-    byId("seed-another").href = `#seed=${anotherSeed(seed, kind)}${more}`;
-    byId("seed-judge").href = `#seed=${seed}&judge`;
-    byId("seed-judge").hidden = more !== "";
-    byId("seed-open").onclick = () => {
-      const wanted = Number(byId("seed-input").value);
-      if (wanted > 0)
-        location.hash = `#seed=${seedOf(kind, wanted)}${more}`;
-    };
-  }
-
-  // src/activities/judge_map.js
-  function html4() {
-    const judged2 = Object.keys(keptUnder(JUDGED) ?? {});
-    const cardOf3 = ({ name, kind }) => {
-      const state = judged2.some((run) => run.startsWith(`${name} `)) ? "done" : "";
-      const { title: title2 } = itemOf({ id: name });
-      return drawCard({ href: `#example=${name}&judge`, list: LIST_WORDS[kind], title: title2, says: escaped(inLetters(CLASSICS[name].question)), state });
-    };
-    const lead = `<p class="lead">You see a run without its replies. Say what each call
-    answers, and put a point where it takes effect. The proved <code>check</code> judges your order: any order that explains the run
-    is right.</p>`;
-    return `${head("", "Judge a run yourself", lead, "title")}<h2>A random run</h2>${seedForm("judge-seed", "Judge a run")}${drawRecordedBox()}<h2>An example, by its question</h2>
-    <div class="cards">${examples().map(cardOf3).join("")}</div>`;
-  }
-  function begin3() {
-    listenToSeedForm("judge-seed", "&judge");
-    listenToRecorded();
-  }
-  var judgeMapView = { kind: "asks", title: () => "Judge · Why not just one lock?", html: html4, begin: begin3 };
-
-  // src/page/menu.js
   var WORK = "work: ";
   function fillWorks() {
     const options = [...works.byName].reverse().map(([name, { text }]) => {
@@ -9808,17 +9795,10 @@ quota ${quota}
     tell("");
     openScene(place);
   }
-  var openLevel = (id, text, view) => openStory({ activity: "break", id, given: text === null ? {} : { text }, view });
   function openPlace([activity, value], { text, event, view }) {
-    if (activity === "break")
-      return openLevel(value, text, view);
-    if (activity === "watch" && value === "")
-      return openStory({ activity: "ask", view });
-    if (activity === "learn")
-      return openStory({ activity, id: value, given: text === null ? {} : { text }, view });
-    if (activity !== "watch")
-      return openStory({ activity, view });
-    if (text === null)
+    if (value === "" || activity !== "watch") {
+      openStory({ activity: activity === "watch" ? "ask" : activity, id: value, given: text === null ? {} : { text }, view });
+    } else if (text === null)
       openRun({ seed: null, example: value, event });
     else
       openLink({ text, event, lacks: null });
@@ -9828,17 +9808,14 @@ quota ${quota}
     const { panel } = learning;
     openPlace(wanted.place ?? ["learn", (panel.firstUnsolved() ?? panel.course.lessons[0]).name], wanted);
   }
-  function needExample(name) {
-    if (!isExample(name))
-      throw new AddressFault(`the address names the example "${name}", which there is not`);
-  }
   function openRun(wanted) {
     if (wanted.seed !== null) {
       needEngine("a run by its number");
       openSeed(wanted.seed, wanted.event);
     } else if (wanted.example !== null) {
-      needExample(wanted.example);
-      const isShown3 = exampleShown() === wanted.example && now.run.isRun;
+      if (!isExample(wanted.example))
+        throw new AddressFault(`the address names the example "${wanted.example}", which there is not`);
+      const isShown3 = exampleShown() === wanted.example && now.run.isRun && now.place.screen === "stage";
       const isBeforehand = isShown3 && now.task.work === "" && held.engine !== null;
       if (isBeforehand)
         pickExample(wanted.example, now.run.count);
@@ -9854,7 +9831,7 @@ quota ${quota}
   function openLink({ text, event, lacks, view = null }) {
     needEngine("a schedule");
     if (lacks !== null)
-      return openLevel(String(numberOfLevel(lacks)), text, view);
+      return openStory({ activity: "break", id: String(numberOfLevel(lacks)), given: { text }, view });
     if (text === now.run.text && now.run.isRun && now.place.screen === "stage")
       return goTo(event);
     const own = works.nameOf(text);
@@ -9907,7 +9884,7 @@ quota ${quota}
       openLink({ text: kept.text, event: kept.count, lacks: kept.lacks });
     else
       await openAddress(location.hash);
-    visit.entry = entryOf(held.state);
+    visit.entry = entryOf(now);
     keepSoon();
   }
   var addressKept = () => isText(keptUnder(HERE)) ? keptUnder(HERE) : "";
@@ -9936,7 +9913,7 @@ quota ${quota}
     bringBack();
     if (!isNamed3 && said2 !== "")
       tell(said2);
-    Object.assign(visit, { isRead: true, entry: entryOf(held.state) });
+    Object.assign(visit, { isRead: true, entry: entryOf(now) });
     keepSoon();
   }
   var addressBack = () => addressKept().replace(/^#story=(?!1$)\d+$/, "$&&back=yes");
@@ -9948,231 +9925,10 @@ quota ${quota}
     showMarks();
   }
 
-  // src/story/assignment_view.js
-  var titleOfAssignment = ({ id }) => id || "Assignment";
-  function doneOf(place) {
-    const { tasks, unknown } = tasksOf(place.given);
-    const lines = linesDone(tasks);
-    return { tasks, unknown, lines, done: tasks.filter(({ id }) => lines[id] !== void 0) };
-  }
-  function itemOf2({ kind, title: title2, says, href }, isDone2) {
-    const tick = tag("i", { class: "tick", role: "img", "aria-label": isDone2 ? "done" : "open" }, isDone2 ? "✓" : "");
-    const words = `${tag("span", { class: "kind" }, kind)}<b>${escaped(title2)}</b>${tag("span", { class: "says" }, escaped(says))}`;
-    return tag("li", { class: isDone2 ? "done" : "" }, tag("a", { class: "task", href }, tick, words));
-  }
-  var HAND = ({ student, number }, count) => `<section class="panel hand" id="hand"><h2>Hand in</h2>
-  <div class="line"><label>Name <input id="hand-student" autocomplete="name" value="${escaped(student)}"></label>
-  <label>Student number <input id="hand-number" inputmode="numeric" value="${escaped(number)}"></label>
-  <button data-do="copy">Copy the text</button><button data-do="save">Save as a file</button>
-  <button class="quiet" data-do="afresh">Start afresh on this computer</button></div>
-  <p class="small" id="scene-told" role="status">The text has your ${counted(count, "solution")}. Your teacher’s page runs ${count === 1 ? "it" : "each of them"} again.</p>
-  <details><summary>See the text</summary><pre id="hand-text"></pre></details></section>`;
-  function html5(place) {
-    const { tasks, unknown, lines, done: done2 } = doneOf(place);
-    const first = tasks.find(({ id }) => lines[id] === void 0);
-    const wrong = unknown.length === 0 ? "" : `<p class="again">This page does not know: ${escaped(unknown.join(", "))}. Tell your teacher.</p>`;
-    const lead = `<p class="lead">${counted(tasks.length, "task")}, ${done2.length} done in this browser. Come back by the same link: what is done stays ticked.</p>
-    <progress max="${tasks.length || 1}" value="${done2.length}" aria-label="${done2.length} of ${tasks.length} done"></progress>${wrong}
-    <p class="small">New to this? <a href="#story=1">Why not just one lock?</a> Twenty minutes, from nothing.</p>`;
-    const verb = done2.length === 0 ? "Begin" : "Go on";
-    const next = (task) => tag("a", { class: "button primary", href: task.href }, `${verb}: ${escaped(task.title)} →`);
-    const bar = first === void 0 ? foot("All done.", '<button class="primary" data-do="hand">Hand in ↑</button>') : foot("", next(first));
-    const items = tasks.map((task) => itemOf2(task, lines[task.id] !== void 0));
-    const title2 = head("Assignment", escaped(titleOfAssignment(place)), lead, "title");
-    return `${title2}${tag("ol", { class: "tasks" }, ...items)}${HAND(keptStory(), done2.length)}${bar}`;
-  }
-  function begin4({ id, given: given2 }) {
-    keepStory({ homework: { id, given: given2 } });
-    for (const name of ["student", "number"])
-      part(`#hand-${name}`).oninput = fill;
-    fill();
-  }
-  function textNow() {
-    const [student, number] = ["student", "number"].map((name) => part(`#hand-${name}`).value.trim());
-    keepStory({ student, number });
-    const { done: done2, lines } = doneOf(now.place);
-    return handInText(BOOK_NAME, `${student || "?"}${number === "" ? "" : ` (${number})`}`, [], done2.map(({ id }) => lines[id]));
-  }
-  var fill = () => part("#hand-text").textContent = textNow();
-  function isNamed2() {
-    if (part("#hand-student").value.trim() !== "")
-      return true;
-    part("#scene-told").textContent = "Your name first, please.";
-    part("#hand-student").focus();
-    return false;
-  }
-  var fileName = () => `${part("#hand-student").value.trim().toLowerCase().replace(/\W+/g, "-") || "hand-in"}.txt`;
-  var assignmentView = {
-    kind: "assignment",
-    title: (place) => `${titleOfAssignment(place)} · Why not just one lock?`,
-    html: html5,
-    begin: begin4,
-    deeds: {
-      copy: () => isNamed2() && copyText(textNow(), "The text is copied: paste it where you hand in."),
-      save: () => isNamed2() && saveText(fileName(), textNow()),
-      afresh: startAfresh,
-      hand: () => {
-        part("#hand").scrollIntoView({ behavior: "smooth" });
-        part("#hand-student").focus();
-      }
-    }
-  };
-
-  // src/activities/place.js
-  function showHome() {
-    const homework = now.place.view === null ? homeworkOf(now.place, now.task) : null;
-    byId("home").hidden = homework === null;
-    if (homework === null)
-      return;
-    byId("home").textContent = `← Back to ${titleOfAssignment(homework)}`;
-    byId("home").href = addressOfAssignment(homework);
-  }
-  function showPlace() {
-    document.title = titleIn(held.state, titleOfScene);
-    showHome();
-    if (now.place.screen !== "stage")
-      return;
-    const { trace, count } = now.run;
-    byId("go-on-here").hash = addressOfCode(trace.kind, trace.opening, linesOf(scheduleOfTrace(trace, count)), trace);
-    const links = taskOfWatch();
-    for (const name of ["before", "next"]) {
-      byId(`task-${name}`).hidden = links[name] === null;
-      if (links[name] !== null)
-        byId(`task-${name}`).href = links[name];
-    }
-    [byId("task-all").hash, byId("task-all").textContent] = links.all;
-  }
-
-  // src/activities/read.js
-  var PAGES = [
-    ["how-it-works.html", "How it works", "The five lists, from one lock to none, each with the runs that show why."],
-    ["classic.html", "The examples", "Eighteen runs, each with its question, the answer, and what goes wrong without the check."],
-    ["tables.html", "The step tables", "Each list row by row: what a step reads and writes, and which row comes next."],
-    ["tables.html#progress", "Progress: blocking, lock-free, wait-free", "Which calls of each list may block, and within how many steps a call ends."]
-  ];
-  var TERMS = {
-    event: "The begin of a call, or one step of it: one load, store or compare-and-exchange of one word.",
-    schedule: "Which thread makes the next step, from the first event to the last. It is the whole input of a run.",
-    history: "The calls with their begin, end, thread and reply. Two calls overlap if neither ends before the other begins.",
-    pending: "A call that has begun and not ended.",
-    "takes effect": "At its linearization point: the moment between begin and end at which a call counts in the order.",
-    order: "The calls one after the other. It explains a run if a sequential set gives the same replies in this order.",
-    linearizable: "Some order explains the replies, and keeps each pair of calls that do not overlap as they were.",
-    "row, step table": "The algorithm as numbered steps; a row says what the thread does next.",
-    "pred, curr": "The two nodes that a walk holds: curr is the next one behind pred.",
-    marked: "A node whose key is removed; it may still be in the chain until it is unlinked.",
-    "quota, slot": "How many keys a thread can add in all. Each needs a slot, a node of its own; then add answers full.",
-    "not linearizable": "Proved of a report by a few of its calls: no order of them explains their replies."
-  };
-  function html6() {
-    const cards = PAGES.map(([href, title2, says]) => drawCard({ href, list: "", title: title2, says: escaped(says) }));
-    const terms = Object.entries(TERMS).map(([term, says]) => `<div><dt>${term}</dt><dd>${escaped(says)}</dd></div>`);
-    const isAlone = document.body.dataset.alone !== void 0;
-    const pages = isAlone ? "" : tag("div", { class: "cards" }, ...cards);
-    return `${head("", "Read", "", "title")}${pages}<h2>Terms</h2>${tag("dl", { class: "words card" }, ...terms)}
-    <h2>What is proved, and what is not</h2><div class="panel prose">${byId("proved").innerHTML}</div>`;
-  }
-  var readView = { kind: "asks", title: () => "Read · Why not just one lock?", html: html6 };
-
-  // src/story/ask_branches.js
-  function takeOwnBranch(branch) {
-    const figure = takeBranch({ ...branch, isFree: true });
-    Object.assign(figure, { onFork: fork, onStep: grow });
-    return figure;
-  }
-  function fork(figure) {
-    const { branches, at } = now.scene;
-    const { lacks, opening, isFixed } = branches[at];
-    const isOwn = at > 0 && !isFixed && figure.run.count === figure.run.trace.total;
-    if (isOwn)
-      return;
-    const number = 1 + branches.filter((one, index) => index > 0 && !one.isFixed).length;
-    const lines = figure.run.linesHere();
-    const own = { name: `What if ${number}`, lines, lacks, opening, from: figure.run.count };
-    figure.run.take(lines);
-    setScene({ branches: [...branches, own], at: branches.length });
-  }
-  function grow(figure) {
-    const { branches, at } = now.scene;
-    if (at === 0 || branches[at].isFixed)
-      return;
-    const lines = [...figure.run.lines];
-    figure.isLost = figure.run.isBroken();
-    setScene({ branches: branches.map((one, index) => index === at ? { ...one, lines } : one), stage: "task" });
-    figure.draw();
-  }
-  async function openBranch(at, plays = false) {
-    const branch = now.scene.branches[at];
-    const figure = takeOwnBranch(branch);
-    figure.isLost = figure.run.isBroken();
-    figure.set({ hidesDock: at === 0 || branch.isFixed === true });
-    setScene({ at, stage: plays ? "playing" : "done" });
-    if (!plays)
-      return;
-    const asked2 = now.scene.branches[0].from;
-    const hasOwnRun = itemOf(now.place).without !== void 0;
-    await figure.replay(hasOwnRun ? 0 : Math.min(asked2, figure.run.trace.total - 1));
-    if (scene.figure !== figure)
-      return;
-    setScene({ stage: "done" });
-  }
-  var goBack = () => openBranch(0);
-  var seeAgain = () => scene.figure.replay(now.scene.branches[0].from);
-  function whatIf() {
-    const { figure } = scene;
-    figure.set({ hidesDock: false });
-    if (now.scene.at === 0)
-      figure.moveTo(now.scene.branches[0].from);
-    setScene({ stage: "task" });
-    part("#figure").scrollIntoView({ block: "center", behavior: "smooth" });
-  }
-  function withoutCheck(item) {
-    const { branches } = now.scene;
-    const known3 = branches.findIndex(({ isFixed }) => isFixed);
-    if (known3 !== -1)
-      return openBranch(known3, true);
-    const { lines = sameLines(item), opening } = item.without ?? {};
-    setScene({ branches: [...branches, { name: "Without this check", lines, opening, lacks: item.lacks, isFixed: true }] });
-    openBranch(branches.length, true);
-  }
-  function sameLines({ list, opening, lines, rest, lacks }) {
-    const whole = new LiveRun({ list, opening, lines: [...lines, ...rest] });
-    const broken = new LiveRun({ list, lacks, opening });
-    broken.take(whole.lines);
-    return [...broken.linesHere(), ...[0, 1].filter((thread) => !broken.isIdle(thread)).map((thread) => `go ${thread} out`)];
-  }
-  var ownWords = ({ from, lacks = null }, isBroken) => {
-    const proved = "Whatever you choose, some order of the calls explains their answers: that is proved of each run of this list.";
-    const broken = "No order of its calls explains their answers and what is left: you have broken this list.";
-    return `<b>Your own branch.</b> It leaves the example at step ${from}. ${isBroken ? broken : lacks === null ? proved : ""}`;
-  };
-  function fixedWords({ lacks }, isBroken) {
-    const { without, broken } = itemOf(now.place);
-    const which = `This is ${without === void 0 ? "the same run" : "a run"} of a list with one check less: ${CHECK_WORDS[lacks]}.`;
-    const proved = "No order of the calls explains their answers and what is left; that is proved.";
-    return `<b>${isBroken ? broken : "Not broken yet."}</b> ${which} ${isBroken ? proved : "Some order still explains the answers."}`;
-  }
-  function talkOfBranch(branch) {
-    const { run } = scene.figure;
-    const isBroken = run.isBroken();
-    const ledger = isBroken && isOddRun(run) ? drawLedger(run) : "";
-    const words = branch.isFixed ? fixedWords(branch, isBroken) : ownWords(branch, isBroken);
-    const change2 = branch.isFixed ? '<button data-do="if">Change it from here on</button>' : "";
-    return `<div class="reveal${isBroken ? " bad" : ""}">${ledger}<div><p class="why">${words}</p>
-    <p class="line"><button data-do="home">← Back to the example</button>${change2}</p></div></div>`;
-  }
-  function drawBranches({ branches, at }) {
-    const box = part("#branches");
-    box.hidden = branches.length === 1;
-    part("#what-if-mark").hidden = at === 0 || branches[at].isFixed === true;
-    const button = ({ name }, index) => tag("button", { class: "small", "data-do": "branch", "data-branch": index, "aria-pressed": index === at }, index === 0 ? "" : "↳ ", name);
-    box.innerHTML = branches.map(button).join("");
-  }
-
   // src/story/ask_view.js
-  var here = () => itemOf(now.place);
-  function html7(place) {
-    const item = itemOf(place);
+  var here = () => itemOf2(now.place);
+  function html3(place) {
+    const item = itemOf2(place);
     const at = ALL.indexOf(item);
     const next = ALL[(at + 1) % ALL.length];
     const which = QUESTIONS.includes(item) ? `${at + 1} of ${QUESTIONS.length}` : "one more";
@@ -10185,8 +9941,8 @@ quota ${quota}
     <button id="show-me" class="primary" data-do="show">${isNarrow() ? "Show me" : "I do not know: show me"}</button>
     <a id="go-on" class="button quiet" href="#ask=${next.name}" ${isEmbed() ? "hidden" : ""}>Skip →</a></footer>`;
   }
-  function begin5(place) {
-    const { lines, rest } = itemOf(place);
+  function begin3(place) {
+    const { lines, rest } = itemOf2(place);
     const whole = { name: "The example", lines: [...lines, ...rest] };
     takeBranch({ lines, opening: void 0 }).set({ hidesDock: true, isOpen: false });
     setScene({ stage: "guess", branches: [whole], at: 0 });
@@ -10231,11 +9987,8 @@ quota ${quota}
       return;
     talk(talkOf(state));
     drawBranches(state);
-    const [show2, on2] = [part("#show-me"), part("#go-on")];
-    const isGuess = state.stage === "guess";
-    show2.hidden = !isGuess;
-    on2.textContent = isGuess || state.stage === "playing" ? "Skip →" : "Next question →";
-    on2.className = isGuess || state.stage === "playing" ? "button quiet" : "button primary";
+    part("#show-me").hidden = state.stage !== "guess";
+    drawOn(state.stage !== "guess" && state.stage !== "playing", "Next question →");
   }
   function press2(event) {
     const { figure } = scene;
@@ -10259,9 +10012,9 @@ quota ${quota}
   var askView = {
     kind: "ask-one",
     fault: ({ id }) => ALL.some(({ name }) => name === id) ? null : `there is no question "${id}"`,
-    title: (place) => `${itemOf(place).title}: ${itemOf(place).question}`,
-    html: html7,
-    begin: begin5,
+    title: (place) => `${itemOf2(place).title}: ${itemOf2(place).question}`,
+    html: html3,
+    begin: begin3,
     draw: draw2,
     press: press2,
     deeds: {
@@ -10275,30 +10028,11 @@ quota ${quota}
     }
   };
 
-  // src/story/break_map.js
-  function cardOf2(name) {
-    const isDone2 = isBrokenOnce(name);
-    const { story, lacks } = BREAK_LEVELS[name];
-    const state = isDone2 ? { says: lacks, state: "done" } : { says: "" };
-    return drawCard({ href: `#break=${numberOfLevel(name)}`, list: LIST_WORDS[LACKING[name]], title: story, ...state });
-  }
-  function html8() {
-    const count = TEN.filter(isBrokenOnce).length;
-    const next = TEN.find((name) => !isBrokenOnce(name)) ?? TEN[0];
-    const lead = `<p class="lead">Ten lists, from one lock to none. Each lacks one check. Let A and B step until a number is lost, or two
-    answers cannot both be right. Then say what is missing.</p>`;
-    const score = count === 0 ? "" : `<p class="score"><b>${count}</b> of ${TEN.length} broken</p>`;
-    return `${head("", "Break it", lead + score, "title")}<div class="cards">${TEN.map(cardOf2).join("")}</div>
-    <h2>Three more</h2><div class="cards">${THREE_MORE.map(cardOf2).join("")}</div>
-    ${foot("", `<a class="button primary" href="#break=${numberOfLevel(next)}">${count === 0 ? "Begin" : "Go on"} →</a>`)}`;
-  }
-  var breakMapView = { kind: "asks", title: () => "Break it · Why not just one lock?", html: html8 };
-
   // src/story/break_view.js
   var HINTS = 3;
   var levelOf = ({ id }) => levelOfNumber(id);
   var nameNow = () => levelOf(now.place);
-  function html9(place) {
+  function html4(place) {
     const name = levelOf(place);
     const at = TEN.indexOf(name);
     const next = TEN[(at + 1) % TEN.length];
@@ -10307,28 +10041,14 @@ quota ${quota}
     return `<section class="screen">${head(kicker, BREAK_LEVELS[name].story)}${FIGURE_AND_TALK}</section>
     ${foot('<a class="button quiet" href="#break">All lists</a>', hintAndOn(wayOn(place, { href: `#break=${numberOfLevel(next)}`, words: "Next list →" })))}`;
   }
-  function begin6(place) {
+  function begin4(place) {
     const name = levelOf(place);
     const { start } = BREAK_LEVELS[name];
     const list = LACKING[name];
-    const isOfCeiling = name === "mark-in-ceiling";
     const given2 = place.given.text === void 0 ? { opening: [3, 7] } : runOfText(place.given.text);
-    const figure = new Figure(part("#figure"), {
-      list,
-      lacks: name,
-      ...given2,
-      chosen: { 0: start[0], 1: start[1] },
-      free: true,
-      strip: true,
-      short: true,
-      high: 0.24,
-      roomFor: 694,
-      operations: ["add", "remove", "contains", ...isOfCeiling ? ["ceiling"] : []],
-      codeTitle: LIST_WORDS[list],
-      codeNote: "One check of this code is not made here."
-    });
+    const operations = ["add", "remove", "contains", ...name === "mark-in-ceiling" ? ["ceiling"] : []];
+    const figure = takeFreeFigure(list, { lacks: name, ...given2, chosen: { 0: start[0], 1: start[1] }, high: 0.24, operations, codeNote: LACKS_ONE });
     figure.onStep = looked;
-    takeFigure(figure);
     setScene({ stage: "task", text: figure.run.schedule });
     if (place.given.text !== void 0)
       looked();
@@ -10388,12 +10108,7 @@ quota ${quota}
     const isDone2 = state.stage === "done";
     if (!isDone2 || !scene.figure.isBusy)
       talk(isDone2 ? wonHtml(state) : taskHtml(state));
-    const hint3 = part("#hint");
-    hint3.hidden = isDone2;
-    hint3.textContent = state.hints === 0 ? "Hint" : state.hints < HINTS ? "Another hint" : "Start over";
-    const on2 = part("#go-on");
-    on2.textContent = isDone2 ? on2.dataset.words : "Skip →";
-    on2.className = isDone2 ? "button primary ready" : "button quiet";
+    drawHintAndOn(isDone2, state.hints === 0 ? "Hint" : state.hints < HINTS ? "Another hint" : "Start over");
     if (isDone2 && isNamed(nameNow()))
       strike();
   }
@@ -10420,8 +10135,7 @@ quota ${quota}
   }
   function replay() {
     const { figure } = scene;
-    const departs = departureOf(askNow, figure.run.trace);
-    figure.replay(Math.max(0, (departs?.event ?? 1) - 2));
+    figure.replay(Math.max(0, (departureOf(askNow, figure.run.trace) ?? 1) - 2));
   }
   function hint() {
     if (now.scene.hints === HINTS)
@@ -10438,26 +10152,25 @@ quota ${quota}
     kind: "ask-one",
     fault: ({ id }) => levelOfNumber(id) === void 0 ? `there is no level ${id}` : null,
     title: (place) => `Break it: ${BREAK_LEVELS[levelOf(place)].story}`,
-    html: html9,
-    begin: begin6,
+    html: html4,
+    begin: begin4,
     draw: draw3,
     press: (event) => {
       if (now.scene.stage === "done" && numberOfKey(event) !== -1)
         answer(numberOfKey(event));
-      else if (threadOfKey(event) !== -1)
-        scene.figure.press(threadOfKey(event));
+      else
+        pressThread(event);
     },
     deeds: { answer: ({ dataset }) => answer(Number(dataset.option)), hint, replay, afresh }
   };
 
   // src/story/code_view.js
-  var OPERATIONS = ["add", "remove", "contains"];
   var listOf = ({ id }) => id in LISTS ? id : "lazy";
   var numbersIn = (text) => [...new Set(text.split(/\D+/).filter((key) => /^\d{1,3}$/.test(key)).map(Number))].sort((one, other) => one - other);
   var numberIn = (text, least, most) => /^\d{1,5}$/.test(text ?? "") ? Math.max(least, Math.min(most, Number(text))) : null;
   var setOfPlace = ({ given: { threads, quota } }) => ({ threads: numberIn(threads, 1, 64) ?? SET_OF_CODE.threads, quota: numberIn(quota, 0, 16384) ?? SET_OF_CODE.quota });
   var openingOf = ({ given: { opening, s } }) => opening === void 0 ? s === void 0 ? START_OF_CODE : [] : numbersIn(opening);
-  function html10(place) {
+  function html5(place) {
     const list = listOf(place);
     const tab = ([kind, name]) => tag("button", { class: "small", "data-do": "list", "data-list": kind, "aria-pressed": kind === list }, name);
     const prose = `<p class="prose">Each thread’s letter stands at the line that it makes next. Press that line to make it; press another line, and
@@ -10471,25 +10184,13 @@ quota ${quota}
   }
   function figureOf(place, lines) {
     const list = listOf(place);
-    return new Figure(part("#figure"), {
-      list,
-      lines,
-      opening: openingOf(place),
-      ...setOfPlace(place),
-      operations: OPERATIONS,
-      free: true,
-      strip: true,
-      short: true,
-      roomFor: 694,
-      high: 0.27,
-      codeTitle: LIST_WORDS[list],
-      chosen: { 0: ["add", 5], 1: [list === "coarse" ? "contains" : "remove", 7] }
-    });
+    const chosen = { 0: ["add", 5], 1: [list === "coarse" ? "contains" : "remove", 7] };
+    return takeFreeFigure(list, { lines, opening: openingOf(place), ...setOfPlace(place), high: 0.27, chosen });
   }
-  function begin7(place) {
-    let figure = takeFigure(figureOf(place, linesOfCode(place.given.s ?? "")));
+  function begin5(place) {
+    let figure = figureOf(place, linesOfCode(place.given.s ?? ""));
     if (figure.run.trace.refused !== null) {
-      figure = takeFigure(figureOf(place, []));
+      figure = figureOf(place, []);
       part("#code-told").hidden = false;
       part("#code-told").textContent = "These steps cannot be made on this list; it begins anew.";
     }
@@ -10510,9 +10211,9 @@ quota ${quota}
   var codeView = {
     kind: "code-place",
     title: (place) => `${LISTS[listOf(place)].name}, step by the code`,
-    html: html10,
-    begin: begin7,
-    press: (event) => threadOfKey(event) !== -1 && scene.figure.press(threadOfKey(event)),
+    html: html5,
+    begin: begin5,
+    press: pressThread,
     deeds: { list: takeList, copy: () => copyText(linkTo(now.scene.text), "The link to this run, at this step, is copied."), step: stepOn }
   };
 
@@ -10520,7 +10221,7 @@ quota ${quota}
   var HINT = 1;
   var ANSWER = 2;
   var shown2 = { verdict: null, ticks: /* @__PURE__ */ new Set() };
-  function html11(place) {
+  function html6(place) {
     const { panel } = learning;
     const lesson = panel.lessonNamed(place.id);
     const { lessons, name } = panel.course;
@@ -10534,31 +10235,18 @@ quota ${quota}
     return `<section class="screen"><div class="two">${head(kicker, escaped(lesson.title), asked2)}${goal}</div>${FIGURE_AND_TALK}</section>
     ${foot('<a class="button quiet" href="#learn">All lessons</a>', hintAndOn(wayOn(place, own)))}`;
   }
-  function begin8({ id, given: given2 }) {
+  function begin6({ id, given: given2 }) {
     const { panel } = learning;
     panel.lesson = panel.lessonNamed(id);
     const { lesson } = panel;
     const own = given2.text ?? panel.lastTry();
     Object.assign(shown2, { verdict: null, ticks: /* @__PURE__ */ new Set() });
     const more = /ceiling/.test(lesson.begun + (lesson.solution ?? "") + lesson.question) ? ["ceiling"] : [];
-    const figure = new Figure(part("#figure"), {
-      ...runOfText(lesson.begun),
-      version: versionOf(lesson.begun),
-      list: lesson.list,
-      lacks: lesson.lacks,
-      free: true,
-      strip: true,
-      scrub: true,
-      short: true,
-      high: 0.24,
-      roomFor: 694,
-      operations: ["add", "remove", "contains", ...more],
-      codeTitle: LIST_WORDS[lesson.list],
-      codeNote: lesson.lacks === null ? "" : "One check of this code is not made here."
-    });
-    takeFigure(figure);
-    figure.onStep = looked2;
-    figure.onFork = goOnFromHere;
+    const operations = ["add", "remove", "contains", ...more];
+    const codeNote = lesson.lacks === null ? "" : LACKS_ONE;
+    const run = { ...runOfText(lesson.begun), version: versionOf(lesson.begun), lacks: lesson.lacks };
+    const figure = takeFreeFigure(lesson.list, { ...run, scrub: true, high: 0.24, operations, codeNote });
+    Object.assign(figure, { onStep: looked2, onFork: goOnFromHere });
     if (own !== null && own !== lesson.begun && fits(own))
       takeTry(figure, linesOf(own));
     looked2();
@@ -10623,15 +10311,8 @@ quota ${quota}
     setHtml(part("#goal"), conditionsHtml());
     talk(isDone2 ? solvedHtml() : taskHtml2(state));
     const { lesson } = learning.panel;
-    const hint3 = part("#hint");
     const last = lesson.answer.length > 0 ? ANSWER : HINT;
-    const words = lesson.hint !== "" && state.hints < HINT ? "Hint" : state.hints < last ? "Show an answer" : "Start over";
-    hint3.hidden = isDone2;
-    if (hint3.textContent !== words)
-      hint3.textContent = words;
-    const on2 = part("#go-on");
-    on2.textContent = isDone2 ? on2.dataset.words : "Skip →";
-    on2.className = isDone2 ? "button primary ready" : "button quiet";
+    drawHintAndOn(isDone2, lesson.hint !== "" && state.hints < HINT ? "Hint" : state.hints < last ? "Show an answer" : "Start over");
   }
   function hint2() {
     const { lesson } = learning.panel;
@@ -10655,10 +10336,10 @@ quota ${quota}
     kind: "ask-one",
     fault: ({ id }) => learning.panel.lessonNamed(id) === void 0 ? `no course that is kept here has a lesson "${id}"` : null,
     title: ({ id }) => `Solve it: ${learning.panel.lessonNamed(id).title}`,
-    html: html11,
-    begin: begin8,
+    html: html6,
+    begin: begin6,
     draw: draw4,
-    press: (event) => threadOfKey(event) !== -1 && scene.figure.press(threadOfKey(event)),
+    press: pressThread,
     deeds: { hint: hint2, answer: seeAnswer, replay: () => scene.figure.replay(), afresh: () => scene.figure.again() }
   };
 
@@ -10846,7 +10527,7 @@ quota ${quota}
     const words = `Welcome back: you have done ${count} of ${SCREENS.length}. You are where you stopped.`;
     return `<p class="welcome">${words} <a href="#story=1">From the start</a></p>`;
   }
-  var LAST = SCREENS.length + 1;
+  var LAST2 = SCREENS.length + 1;
   var WAYS = [
     ["#ask", "Guess, then see", "Runs that stop at the question. What comes next, and why?"],
     ["#code=lock-free", "Step by the code", "Any list, any calls: press a line, and its thread makes it."],
@@ -10878,13 +10559,13 @@ quota ${quota}
   }
 
   // src/story/path_view.js
-  var numberOf = ({ id }) => Math.max(1, Math.min(LAST, Number(id) || 1));
+  var numberOf = ({ id }) => Math.max(1, Math.min(LAST2, Number(id) || 1));
   var screenOf = (place) => SCREENS[numberOf(place) - 1] ?? null;
   var here2 = () => screenOf(now.place);
   var shown3 = { count: 0 };
   var hashOf = (number) => `#story=${number}${now.place.view === "lecture" ? "&view=lecture" : ""}`;
   var goTo2 = (number) => location.hash = hashOf(number);
-  function html12(place) {
+  function html7(place) {
     const number = numberOf(place);
     const { done: done2 } = keptStory();
     const screen = screenOf(place);
@@ -10895,7 +10576,7 @@ quota ${quota}
     const top = number === 1 ? `<div class="two">${HERO}${question}</div>` : question;
     return `${path}<section class="screen${number === 1 ? " first" : ""}">${top}${FIGURE_AND_TALK}</section>${barHtml(number)}`;
   }
-  function begin9(place) {
+  function begin7(place) {
     keepStory({ at: numberOf(place) });
     const screen = screenOf(place);
     shown3.count = 0;
@@ -10942,8 +10623,7 @@ quota ${quota}
     show2.hidden = isDone2;
     show2.className = "primary";
     show2.textContent = isNarrow() && stage !== "again" ? "Show me" : SHOW[stage];
-    on2.textContent = isDone2 ? number === SCREENS.length ? "And now? →" : "Continue →" : "Skip →";
-    on2.className = isDone2 ? "primary ready" : "quiet";
+    drawOn(isDone2, number === SCREENS.length ? "And now? →" : "Continue →");
   }
   function looked3() {
     const screen = here2();
@@ -11039,7 +10719,7 @@ quota ${quota}
     const { stage } = now.scene;
     if (event.key === "ArrowLeft" && number > 1)
       return goTo2(number - 1);
-    if (["ArrowRight", "PageDown"].includes(event.key) && number < LAST) {
+    if (["ArrowRight", "PageDown"].includes(event.key) && number < LAST2) {
       if (stage === "done")
         goTo2(number + 1);
       else if (now.place.view === "lecture")
@@ -11048,15 +10728,15 @@ quota ${quota}
     }
     if (stage === "guess" && numberOfKey(event) !== -1 && numberOfKey(event) < here2().options.length)
       guessed2(numberOfKey(event));
-    else if (threadOfKey(event) !== -1)
-      scene.figure?.press(threadOfKey(event));
+    else
+      pressThread(event);
   }
   var pathView = {
     kind: "path",
-    fault: ({ id }) => /^\d*$/.test(id) && Number(id) <= LAST ? null : `the path has no screen "${id}"`,
+    fault: ({ id }) => /^\d*$/.test(id) && Number(id) <= LAST2 ? null : `the path has no screen "${id}"`,
     title: (place) => `${screenOf(place)?.question ?? "So, why not just one lock?"} · Why not just one lock?`,
-    html: html12,
-    begin: begin9,
+    html: html7,
+    begin: begin7,
     draw: draw5,
     press: press3,
     deeds: {
@@ -11068,28 +10748,10 @@ quota ${quota}
     }
   };
 
-  // src/data/own_course.js
-  var OWN_COURSE = `listset-course 1
-course Monday
-lesson first
-title A key that is gone
-list lazy
-threads 2
-quota 0
-opening 5
-question
-  Let a contains of thread 0 answer false, although 5 was in the set when it began: thread 1 removes it meanwhile.
-goal
-  call C of 0: contains, key 5, answers false
-  call R of 1: remove, key 5, answers true, begins after C, ends during C
-  say A contains of thread 0 answers false; a remove of thread 1 begins after it, and answers true while it is open.
-`;
-
   // src/story/handins.js
-  var stripped = (name) => name.replace(/^.*\//, "").replace(/\.[A-Za-z]+$/, "");
   function studentOf(text, file) {
     const [, name, number] = /^(.*?)\s*(?:[([#]\s*((?=\D*\d)\w[\w-]{0,20})\s*[)\]]?)?\s*$/.exec(text ?? "") ?? [];
-    return { name: name || stripped(file), number: number ?? "" };
+    return { name: name || file.replace(/^.*\//, "").replace(/\.[A-Za-z]+$/, ""), number: number ?? "" };
   }
   async function checkAll(files, tasks, tellProgress = (_at, _of) => {
   }) {
@@ -11117,7 +10779,8 @@ goal
     const rows = [...students.values()].sort((one, other) => one.name.localeCompare(other.name));
     noteSame(rows);
     noteNumbers(rows);
-    const columns = tasks === null ? columnsOf(rows) : tasks.map(({ id, title: title2 }) => ({ id, title: title2 }));
+    const all = [...new Set(rows.flatMap(({ solved }) => [...solved.keys()]))].sort();
+    const columns = tasks === null ? all.map((id) => ({ id, title: id })) : tasks.map(({ id, title: title2 }) => ({ id, title: title2 }));
     return { rows, columns, empty };
   }
   function judgePart2(own, lessons, line, tasks) {
@@ -11135,10 +10798,6 @@ goal
     if (verdict.ofExample)
       own.notes.push(`${task}: the very run of an example`);
   }
-  function columnsOf(rows) {
-    const ids = new Set(rows.flatMap(({ solved }) => [...solved.keys()]));
-    return [...ids].sort().map((id) => ({ id, title: id }));
-  }
   var markOf = ({ solved, wrong }, { id }) => solved.has(id) ? "solved" : wrong.has(id) ? "wrong" : "none";
   function noteNumbers(rows) {
     for (const row of rows) {
@@ -11149,24 +10808,16 @@ goal
   }
   function noteSame(rows) {
     const byText = /* @__PURE__ */ new Map();
+    const note = (row, { name }, task) => row.same.set(name, [...row.same.get(name) ?? [], task]);
     for (const row of rows) {
+      row.same = /* @__PURE__ */ new Map();
       for (const [task, schedule] of row.solved) {
-        if (schedule === null)
-          continue;
         const key = `${task}
 ${schedule}`;
-        byText.set(key, [...byText.get(key) ?? [], row]);
-      }
-    }
-    for (const row of rows)
-      row.same = /* @__PURE__ */ new Map();
-    for (const [key, some] of byText) {
-      if (some.length < 2)
-        continue;
-      const [task] = key.split("\n");
-      for (const row of some) {
-        for (const { name } of some.filter((other) => other !== row))
-          row.same.set(name, [...row.same.get(name) ?? [], task]);
+        const others = schedule === null ? [] : byText.get(key) ?? [];
+        byText.set(key, [...others, row]);
+        for (const other of others)
+          note(row, other, task), note(other, row, task);
       }
     }
   }
@@ -11294,7 +10945,73 @@ ${schedule}`;
   }
   var handInDeeds = { csv: () => saveText("hand-ins.csv", `\uFEFF${csvOf(given.result)}`, "text/csv"), clear };
 
-  // src/story/homework_view.js
+  // src/story/teach_view.js
+  var LECTURE = [
+    [4, "Lose a number", "#story=2&view=lecture", "No lock. Let the class call out A or B until a number is lost."],
+    [4, "One lock", "#story=3&view=lecture", "A has the lock and is stopped. How far does B get? Let the class guess, then press 1, 2 or 3."],
+    [5, "FineList: hand over hand", "#story=4&view=lecture", "A has locked 3 and 7. How far does B get now? Then let B follow A, node by node."],
+    [5, "A walk without locks", "#story=5&view=lecture", "Both lock what they change, and 5 gets lost all the same. Let the class find the order."],
+    [6, "Why a second walk", "#ask=stale-pred&view=lecture", "May A write? After the answer, press “And without this check?”: 5 is lost."],
+    [5, "LazyList: a mark", "#story=7&view=lecture", "B has marked 5, and its node is still in the chain. What may A answer?"],
+    [5, "In another thread’s step", "#ask=read-in-anothers-step&view=lecture", "A will answer false. When is that right? In a step of B."],
+    [
+      3,
+      "Who waits?",
+      "#sides=coarse.lazy&quota=4&calls=0.add.5,1.contains.5&turns=0.0.0.0&view=lecture",
+      "Press B three times: LazyList has answered, CoarseList tries its lock."
+    ],
+    [5, "LockFreeList: compare-and-set", "#story=9&view=lecture", "Two removes of 5, no lock. Who comes first? Let the class decide, then step A and B."],
+    [3, "Everybody judges", "#seed=lazy.2.5.2.17&judge", "Write the link on the board. All get the same run, without its answers."]
+  ];
+  var PANELS = { slides: "Lecture", embed: "Embed", homework: "Homework", handins: "Hand-ins", own: "Your own lessons" };
+  function lectureHtml() {
+    const slide = ([minutes, title2, href, says]) => tag(
+      "li",
+      {},
+      tag("span", { class: "minutes" }, `${minutes}′`),
+      `<div><b>${title2}</b><p class="small">${says}</p></div>`,
+      tag("a", { class: "button", href, target: "_blank" }, "Open slide ↗"),
+      tag("button", { class: "quiet", "data-do": "link", "data-link": href }, "Copy link")
+    );
+    const sum = LECTURE.reduce((total, [minutes]) => total + minutes, 0);
+    return `<section class="panel" id="slides"><h2>A lecture of ${sum} minutes</h2>
+    <p class="prose">Each link opens one slide, as large as the screen. A presenter’s keys and the arrows step; A and B let a thread go on; Escape
+    leads back. Ask the class first, then step.</p><ol class="plan">${LECTURE.map(slide).join("")}</ol></section>`;
+  }
+  var titleOf = (name) => QUESTIONS.find((item) => item.name === name).title;
+  var snippetOf = (name) => `<iframe src="${linkTo(`#ask=${name}&view=embed`)}" width="800" height="420" style="border:0" loading="lazy" title="${titleOf(name)}"></iframe>`;
+  function embedHtml() {
+    const option = ({ name, title: title2, list }) => tag("option", { value: name }, `${title2} (${LISTS[list].name})`);
+    return `<section class="panel" id="embed"><h2>A question in your own page</h2>
+    <p class="prose">The question, the list, the answers, then the run: in 800 × 420 pixels, for a course page or a blog.</p>
+    <div class="line"><label>Question <select id="embed-which">${QUESTIONS.map(option).join("")}</select></label>
+    <button data-do="snippet">Copy the snippet</button></div><pre id="embed-text" class="snippet" tabindex="0"></pre>
+    <div class="frame"><iframe id="embed-frame" width="800" height="420" title="how it looks" loading="lazy"></iframe></div></section>`;
+  }
+  function beginEmbed() {
+    const which = part("#embed-which");
+    which.value = "two-removers";
+    which.onchange = () => {
+      part("#embed-text").textContent = snippetOf(which.value);
+      part("#embed-frame").src = `${location.pathname}?embed=${which.value}#ask=${which.value}&view=embed`;
+    };
+    which.onchange();
+  }
+  var OWN_COURSE = `listset-course 1
+course Monday
+lesson first
+title A key that is gone
+list lazy
+threads 2
+quota 0
+opening 5
+question
+  Let a contains of thread 0 answer false, although 5 was in the set when it began: thread 1 removes it meanwhile.
+goal
+  call C of 0: contains, key 5, answers false
+  call R of 1: remove, key 5, answers true, begins after C, ends during C
+  say A contains of thread 0 answers false; a remove of thread 1 begins after it, and answers true while it is open.
+`;
   var FIRST_NUMBER = 17;
   var work = { seeds: [] };
   var piece2 = (name) => part(`#hw-${name}`);
@@ -11307,13 +11024,12 @@ ${schedule}`;
   function homeworkHtml() {
     const lessons = bookCourse().lessons.map(({ name, title: title2, list }, at) => pick("learn", name, at + 1, title2, LISTS[list].name));
     const levels = allLevels().map(({ name, number }) => pick("break", number, number, LISTS[LACKING[name]].name, BREAK_LEVELS[name].story));
-    const kinds = Object.entries(LISTS).map(([kind, { name }]) => tag("option", { value: kind, ...kind === "lazy" ? { selected: "" } : {} }, name));
     return `<section class="panel" id="homework"><h2>Homework, as one link</h2><p class="prose">Tick tasks. The link holds all of it: it needs no server, it
     can be bookmarked, forwarded and opened on another computer, and it stays the same for ever.</p>
     <label class="wide-label">Title <input id="hw-title" value="Concurrent lists, week 1" maxlength="60"></label>
     <div class="columns">${picks("learn", "Solve", lessons)}${picks("break", "Break", levels)}
     <fieldset><legend>Judge: runs by their number</legend><p class="small">All students get the same run, and say what each call answers and where it
-      takes effect.</p><div class="line"><select id="hw-kind" aria-label="list of the run">${kinds.join("")}</select>
+      takes effect.</p><div class="line"><select id="hw-kind" aria-label="list of the run">${listOptions("lazy")}</select>
       <input id="hw-number" type="number" min="1" max="9999" value="${FIRST_NUMBER}" aria-label="number of the run">
       <button data-do="add">Add this run</button></div><ul id="hw-seeds"></ul></fieldset></div>
     <div class="made-link"><p id="hw-count" class="small"></p><pre id="hw-link" class="snippet" tabindex="0"></pre>
@@ -11359,59 +11075,6 @@ ${schedule}`;
     },
     copy: () => copyText(linkTo(addressNow()), "The link is copied.")
   };
-
-  // src/story/teach_view.js
-  var LECTURE = [
-    [4, "Lose a number", "#story=2&view=lecture", "No lock. Let the class call out A or B until a number is lost."],
-    [4, "One lock", "#story=3&view=lecture", "A has the lock and is stopped. How far does B get? Let the class guess, then press 1, 2 or 3."],
-    [5, "FineList: hand over hand", "#story=4&view=lecture", "A has locked 3 and 7. How far does B get now? Then let B follow A, node by node."],
-    [5, "A walk without locks", "#story=5&view=lecture", "Both lock what they change, and 5 gets lost all the same. Let the class find the order."],
-    [6, "Why a second walk", "#ask=stale-pred&view=lecture", "May A write? After the answer, press “And without this check?”: 5 is lost."],
-    [5, "LazyList: a mark", "#story=7&view=lecture", "B has marked 5, and its node is still in the chain. What may A answer?"],
-    [5, "In another thread’s step", "#ask=read-in-anothers-step&view=lecture", "A will answer false. When is that right? In a step of B."],
-    [
-      3,
-      "Who waits?",
-      "#sides=coarse.lazy&quota=4&calls=0.add.5,1.contains.5&turns=0.0.0.0&view=lecture",
-      "Press B three times: LazyList has answered, CoarseList tries its lock."
-    ],
-    [5, "LockFreeList: compare-and-set", "#story=9&view=lecture", "Two removes of 5, no lock. Who comes first? Let the class decide, then step A and B."],
-    [3, "Everybody judges", "#seed=lazy.2.5.2.17&judge", "Write the link on the board. All get the same run, without its answers."]
-  ];
-  var PANELS = { slides: "Lecture", embed: "Embed", homework: "Homework", handins: "Hand-ins", own: "Your own lessons" };
-  function lectureHtml() {
-    const slide = ([minutes, title2, href, says]) => tag(
-      "li",
-      {},
-      tag("span", { class: "minutes" }, `${minutes}′`),
-      `<div><b>${title2}</b><p class="small">${says}</p></div>`,
-      tag("a", { class: "button", href, target: "_blank" }, "Open slide ↗"),
-      tag("button", { class: "quiet", "data-do": "link", "data-link": href }, "Copy link")
-    );
-    const sum = LECTURE.reduce((total, [minutes]) => total + minutes, 0);
-    return `<section class="panel" id="slides"><h2>A lecture of ${sum} minutes</h2>
-    <p class="prose">Each link opens one slide, as large as the screen. A presenter’s keys and the arrows step; A and B let a thread go on; Escape
-    leads back. Ask the class first, then step.</p><ol class="plan">${LECTURE.map(slide).join("")}</ol></section>`;
-  }
-  var titleOf2 = (name) => QUESTIONS.find((item) => item.name === name).title;
-  var snippetOf = (name) => `<iframe src="${linkTo(`#ask=${name}&view=embed`)}" width="800" height="420" style="border:0" loading="lazy" title="${titleOf2(name)}"></iframe>`;
-  function embedHtml() {
-    const option = ({ name, title: title2, list }) => tag("option", { value: name }, `${title2} (${LISTS[list].name})`);
-    return `<section class="panel" id="embed"><h2>A question in your own page</h2>
-    <p class="prose">The question, the list, the answers, then the run: in 800 × 420 pixels, for a course page or a blog.</p>
-    <div class="line"><label>Question <select id="embed-which">${QUESTIONS.map(option).join("")}</select></label>
-    <button data-do="snippet">Copy the snippet</button></div><pre id="embed-text" class="snippet" tabindex="0"></pre>
-    <div class="frame"><iframe id="embed-frame" width="800" height="420" title="how it looks" loading="lazy"></iframe></div></section>`;
-  }
-  function beginEmbed() {
-    const which = part("#embed-which");
-    which.value = "two-removers";
-    which.onchange = () => {
-      part("#embed-text").textContent = snippetOf(which.value);
-      part("#embed-frame").src = `${location.pathname}?embed=${which.value}#ask=${which.value}&view=embed`;
-    };
-    which.onchange();
-  }
   var OWN = `<section class="panel" id="own"><h2>Lessons of your own</h2>
   <p class="prose">A course is a text: of each lesson a question, a list, the numbers in it, and what a solution shows. Write it under Solve,
   “Courses”: it names errors by their lines, and makes a link with the whole course in it. The start of a lesson must not reach its goal. With
@@ -11419,15 +11082,15 @@ ${schedule}`;
   <details><summary>A course of one lesson</summary><pre class="snippet" tabindex="0">${escaped(OWN_COURSE)}</pre></details>
   <h2>A computer that others use too</h2><p class="prose">Names and solutions are kept in the browser. <button data-do="afresh">Start afresh</button>
   takes all of them away.</p></section>`;
-  function html13() {
+  function html8() {
     const jump = ([id, name]) => tag("button", { class: "quiet", "data-do": "jump", "data-panel": id }, name);
-    const lead = `<p class="lead">A lecture of 45 minutes, figures for your own pages, homework as one link, and hand-ins that check themselves.
+    const lead2 = `<p class="lead">A lecture of 45 minutes, figures for your own pages, homework as one link, and hand-ins that check themselves.
     No account, no server: all of it happens in the browser.</p><p class="jump">${Object.entries(PANELS).map(jump).join("")}</p>`;
-    return `${head("", "For teachers", lead, "title")}${lectureHtml()}${embedHtml()}${homeworkHtml()}${handInsHtml()}${OWN}
+    return `${head("", "For teachers", lead2, "title")}${lectureHtml()}${embedHtml()}${homeworkHtml()}${handInsHtml()}${OWN}
     <footer class="foot"><span id="scene-told" class="small" role="status"></span><span class="spread"></span>
     <button class="primary" data-do="jump" data-panel="homework">Put homework together</button></footer>`;
   }
-  function begin10() {
+  function begin8() {
     beginEmbed();
     beginHomework();
     beginHandIns();
@@ -11435,8 +11098,8 @@ ${schedule}`;
   var teachView = {
     kind: "teach",
     title: () => "For teachers · Why not just one lock?",
-    html: html13,
-    begin: begin10,
+    html: html8,
+    begin: begin8,
     deeds: {
       ...homeworkDeeds,
       ...handInDeeds,
@@ -11447,145 +11110,22 @@ ${schedule}`;
     }
   };
 
-  // src/activities/views.js
-  function takeViews() {
-    Object.assign(VIEWS, { story: pathView, code: codeView, teachers: teachView, assignment: assignmentView });
-    Object.assign(VIEWS, { ask: askView, "ask map": askMapView, break: breakView, "break map": breakMapView });
-    Object.assign(VIEWS, { learn: learnView, "learn map": learnMapView, judge: judgeMapView, compare: compareView, read: readView });
-  }
-
-  // src/page/save_picture.js
-  var DRAWN_BY = [
-    "fill",
-    "stroke",
-    "stroke-width",
-    "stroke-dasharray",
-    "fill-opacity",
-    "stroke-opacity",
-    "opacity",
-    "font-family",
-    "font-size",
-    "font-weight",
-    "font-style",
-    "text-anchor",
-    "paint-order",
-    "text-decoration-line"
-  ];
-  function drawnOut(svg) {
-    const copy = svg.cloneNode(true);
-    const parts = [...svg.querySelectorAll("*")];
-    [...copy.querySelectorAll("*")].forEach((part2, index) => {
-      const style = getComputedStyle(parts[index]);
-      for (const name of DRAWN_BY)
-        part2.style.setProperty(name, style.getPropertyValue(name));
-    });
-    return copy;
-  }
-  function wholePicture() {
-    const drawings = [...byId("stage").querySelectorAll(":is(.list, .strip, #judge-bars) svg")].filter((svg) => svg.clientWidth > 0);
-    const boxes = drawings.map((svg) => ({ svg, width: svg.clientWidth, height: svg.clientHeight }));
-    const width = Math.max(...boxes.map((box) => box.width));
-    let y = 0;
-    const placed2 = boxes.map(({ svg, width: own, height }) => {
-      const copy = drawnOut(svg);
-      Object.entries({ x: 0, y, width: own, height }).forEach(([name, value]) => copy.setAttribute(name, value));
-      y += height + 8;
-      return new XMLSerializer().serializeToString(copy);
-    });
-    const ground = `<rect width="100%" height="100%" fill="${getComputedStyle(document.body).backgroundColor}"/>`;
-    const frame = `width="${width}" height="${y}" viewBox="0 0 ${width} ${y}"`;
-    return `<svg xmlns="http://www.w3.org/2000/svg" ${frame}>${ground}${placed2.join("")}</svg>
-`;
-  }
-  var savePicture = () => saveText("page.svg", wholePicture());
-
-  // src/page/controls.js
-  function stopUnable(event) {
-    if (event.target.closest?.('[aria-disabled="true"]') == null)
-      return;
-    event.stopPropagation();
-    event.preventDefault();
-  }
-  function skipToRun() {
-    const first = { stage: "#next", scene: "#scene :is(.option, .fig button, .card, #sides-turns button, .foot .primary)" };
-    document.querySelector(first[now.place.screen])?.focus();
-  }
-  function listenToBar() {
-    byId("back").onclick = () => goByHand(now.run.count - 1);
-    byId("next").onclick = () => goByHand(now.run.count + 1);
-    byId("play").onclick = togglePlay;
-    byId("speed").onchange = changeSpeed;
-    byId("speed").value = wantsLessMotion() ? "slow" : "medium";
-    byId("slider").oninput = () => goByHand(Number(byId("slider").value));
-    byId("all-threads").onclick = () => dispatch("prefs", { allThreads: !now.prefs.allThreads });
-    byId("keys").onclick = toggleKeys;
-    byId("skip").onclick = skipToRun;
-    for (const name of ["lecture", "leave"])
-      byId(name).onclick = toggleLecture;
-    byId("link-here").onclick = copyLink;
-    byId("long-cancel").onclick = cancelLong;
-  }
-  function listenToSettings() {
-    const kept = keptUnder(SETTINGS) ?? {};
-    change("prefs", { hides: kept.hides !== false, letters: kept.letters !== false });
-    byId("hides").checked = now.prefs.hides;
-    byId("single-keys").checked = now.prefs.letters;
-    for (const [name, id] of [["hides", "hides"], ["letters", "single-keys"]]) {
-      byId(id).onchange = () => {
-        dispatch("prefs", { [name]: byId(id).checked });
-        keepUnder(SETTINGS, { hides: now.prefs.hides, letters: now.prefs.letters });
-      };
-    }
-  }
-  var SETTINGS = "listset-settings";
-  function listenToWork() {
-    const box = byId("schedule");
-    byId("examples").onchange = () => chooseInList(byId("examples").value);
-    byId("run").onclick = runBox;
-    byId("opening").onchange = runWithOpening;
-    byId("link").onclick = copyLink;
-    byId("new").onclick = () => newSchedule(byId("new-list").value, byId("new-threads").value, byId("new-quota").value);
-    box.onscroll = showMarks;
-    watchEditor();
-    box.oninput = () => {
-      showMarks();
-      keepSoon();
-    };
-    box.onkeydown = (event) => {
-      if (event.key === "Enter" && (event.ctrlKey || event.metaKey))
-        runBox();
-    };
-  }
-  function listenToFiles() {
-    byId("report-box").ontoggle = refreshReport;
-    byId("file").onchange = () => openFile(byId("file").files[0]).then(() => byId("file").value = "");
-    byId("save-schedule").onclick = () => saveText("page.schedule", byId("schedule").value);
-    byId("save-trace").onclick = () => saveText("page.trace", now.run.trace.text);
-    byId("save-picture").onclick = savePicture;
-  }
-  function placeParts() {
-    const narrow = matchMedia("(max-width: 940px)");
-    const place = () => {
-      for (const name of ["schedule-box", "new-box", "files-box", "threads-box"])
-        byId(name).open = !narrow.matches;
-    };
-    narrow.addEventListener("change", place);
-    place();
-  }
-
   // src/main.js
   var EMPTY_TRACE = "listset-trace 1\nlist lazy\nthreads 2\nquota 4\nend\n";
+  var SCENES2 = {
+    story: pathView,
+    ask: askView,
+    break: breakView,
+    learn: learnView,
+    code: codeView,
+    teachers: teachView,
+    assignment: assignmentView,
+    compare: compareView
+  };
+  var LISTEN = [listenToBar, listenToBench, listenToWork, listenToFiles, listenToSettings, listenToJudging, listenToCourses, listenToScene, placeParts];
   function listen() {
-    listenToBar();
-    listenToBench();
-    listenToWork();
-    listenToFiles();
-    listenToSettings();
-    listenToJudging();
-    listenToCourses();
-    listenToHandIn();
-    listenToScene();
-    placeParts();
+    for (const begin9 of LISTEN)
+      begin9();
     keysOf.scene = pressInScene;
     document.addEventListener("click", stopUnable, true);
     document.addEventListener("keydown", pressKey);
@@ -11593,18 +11133,15 @@ ${schedule}`;
     window.addEventListener("popstate", followAddress);
     window.addEventListener("pagehide", keepNow);
   }
-  function render(state, moment) {
-    showParts(state);
-    if (isScene(state)) {
-      renderScene(state);
-      showPlace();
-      return keepSoon();
-    }
-    leaveScene();
-    for (const draw6 of [showBar, showQuestion, drawJudging, showPlace])
+  function render() {
+    showParts(now);
+    const isInScene = isScene(now);
+    if (isInScene)
+      renderScene(now);
+    else
+      leaveScene();
+    for (const draw6 of isInScene ? [showPlace] : [showRun, showBar, showQuestion, drawJudging, showPlace, showMarks])
       draw6();
-    showRun(moment);
-    showMarks();
     keepSoon();
   }
   function connect() {
@@ -11634,7 +11171,7 @@ ${schedule}`;
   }
   async function startPage() {
     document.body.dataset.ready = "begun";
-    takeViews();
+    Object.assign(VIEWS, SCENES2, MAPS);
     connect();
     listen();
     if (!showBeforehand())

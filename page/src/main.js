@@ -1,37 +1,40 @@
 // The page: its parts are put together, and it starts.
-import { listenToBench, showBar, showRun } from "./activities/bench.js";
-import { listenToCourses, listenToHandIn } from "./activities/courses.js";
+import { listenToBench, showBar, showPlace, showRun } from "./activities/bench.js";
+import { listenToCourses } from "./activities/courses.js";
+import { compareView } from "./activities/compare.js";
 import { drawJudging, listenToJudging } from "./activities/judging.js";
+import { MAPS } from "./activities/maps.js";
 import { followAddress, openCourseFile, openFirst, openRecorded, showBeforehand } from "./activities/open.js";
-import { showPlace } from "./activities/place.js";
-import { takeViews } from "./activities/views.js";
 import { Engine } from "./engine/engine.js";
-import { listenToBar, listenToFiles, listenToSettings, listenToWork, placeParts, stopUnable } from "./page/controls.js";
+import { fillExamples, fillWorks, listenToBar, listenToFiles, listenToSettings, listenToWork, placeParts, showQuestion, stopUnable } from "./page/controls.js";
 import { byId } from "./page/dom.js";
-import { showMarks } from "./page/editor.js";
+import { showHeader, showMarks } from "./page/work.js";
 import { refreshReport } from "./page/files.js";
-import { keysOf, pressKey } from "./page/keys.js";
-import { fillExamples, fillWorks, showQuestion } from "./page/menu.js";
-import { held, on, show, takeTrace } from "./page/now.js";
-import { services, showParts } from "./page/places.js";
+import { keysOf, pressKey } from "./page/play.js";
+import { held, now, on, show, takeTrace } from "./page/now.js";
+import { services, showParts } from "./page/seen.js";
 import { keepNow, keepSoon } from "./page/visit.js";
-import { showHeader } from "./page/work.js";
 import { Trace } from "./run/trace.js";
-import { isScene, leaveScene, listenToScene, pressInScene, renderScene } from "./story/scene.js";
+import { askView } from "./story/ask_view.js";
+import { assignmentView } from "./story/assignment.js";
+import { breakView } from "./story/break_view.js";
+import { codeView } from "./story/code_view.js";
+import { learnView } from "./story/learn_view.js";
+import { pathView } from "./story/path_view.js";
+import { isScene, leaveScene, listenToScene, pressInScene, renderScene, VIEWS } from "./story/scene.js";
+import { teachView } from "./story/teach_view.js";
 
 const EMPTY_TRACE = "listset-trace 1\nlist lazy\nthreads 2\nquota 4\nend\n";
 
+/** @type {Record<string, import("./story/scene.js").View>} */
+const SCENES = {
+  story: pathView, ask: askView, break: breakView, learn: learnView, code: codeView, teachers: teachView, assignment: assignmentView, compare: compareView,
+};
+
+const LISTEN = [listenToBar, listenToBench, listenToWork, listenToFiles, listenToSettings, listenToJudging, listenToCourses, listenToScene, placeParts];
+
 function listen() {
-  listenToBar();
-  listenToBench();
-  listenToWork();
-  listenToFiles();
-  listenToSettings();
-  listenToJudging();
-  listenToCourses();
-  listenToHandIn();
-  listenToScene();
-  placeParts();
+  for (const begin of LISTEN) begin();
   keysOf.scene = pressInScene;
   document.addEventListener("click", stopUnable, true);
   document.addEventListener("keydown", pressKey);
@@ -41,17 +44,12 @@ function listen() {
 }
 
 // All that is seen follows from the state: first what is there at all, then what stands in it.
-function render(state, moment) {
-  showParts(state);
-  if (isScene(state)) {
-    renderScene(state);
-    showPlace();
-    return keepSoon();
-  }
-  leaveScene();
-  for (const draw of [showBar, showQuestion, drawJudging, showPlace]) draw();
-  showRun(moment);
-  showMarks();
+function render() {
+  showParts(now);
+  const isInScene = isScene(now);
+  if (isInScene) renderScene(now);
+  else leaveScene();
+  for (const draw of isInScene ? [showPlace] : [showRun, showBar, showQuestion, drawJudging, showPlace, showMarks]) draw();
   keepSoon();
 }
 
@@ -84,7 +82,7 @@ async function startEngine() {
 
 async function startPage() {
   document.body.dataset.ready = "begun";
-  takeViews();
+  Object.assign(VIEWS, SCENES, MAPS);
   connect();
   listen();
   if (!showBeforehand()) takeEmpty();

@@ -8,7 +8,7 @@ const path = require("path");
 const { inPage, startedEngine } = require("../in_node.js");
 
 const [readCourse, triedCourse, judged] = ["readCourse", "triedCourse", "judged"].map(inPage);
-const [missingIn, lessonText] = ["missingIn", "lessonText"].map(inPage);
+const [missingIn, scheduleText] = ["missingIn", "scheduleText"].map(inPage);
 const TEXT = fs.readFileSync(path.join(__dirname, "..", "book.course"), "utf8");
 
 const result = { passed: 0, failed: [] };
@@ -18,7 +18,7 @@ function check(name, isGood) {
   else result.failed.push(name);
 }
 
-const scheduleOf = (lesson, events) => lessonText(lesson, events.split(",").map(inPage("longLine")));
+const scheduleOf = (lesson, events) => scheduleText(lesson, events.split(",").map(inPage("longLine")));
 
 const SPLIT = ["one-lock"]; // whose conditions have been split since: a schedule meets all of them where it met all before
 
@@ -48,7 +48,7 @@ function checkBook(ask, { name, lessons, faults }) {
   for (const lesson of lessons) {
     const others = lessons.filter((other) => other !== lesson && judged(ask, lesson, other.solution).isSolved);
     check(`${lesson.name}: the answer of another solves it: ${others.map((other) => other.name)}`, others.length === 0);
-    check(`${lesson.name}: no event solves it no more`, !judged(ask, lesson, lessonText(lesson, [])).isSolved);
+    check(`${lesson.name}: no event solves it no more`, !judged(ask, lesson, scheduleText(lesson, [])).isSolved);
   }
 }
 
@@ -82,7 +82,7 @@ function checkTries(ask, { lessons }) {
     check(`${events}: ${verdict.deadEnd}`, deadEnd === null ? verdict.deadEnd === null : verdict.deadEnd?.startsWith(deadEnd));
   }
   for (const { name, start, lacks, ...rest } of lessons) {
-    const draft = inPage("scheduleOfDraft")(ask, lessonText({ ...rest, start }, [...start, ...LIKELY[name].lines]), lacks);
+    const draft = inPage("scheduleOfDraft")(ask, scheduleText({ ...rest, start }, [...start, ...LIKELY[name].lines]), lacks);
     const { isSolved, deadEnd } = judged(ask, lessons.find((one) => one.name === name), draft.text);
     check(`${name}: the most likely wrong try: ${deadEnd}`, !isSolved && deadEnd?.startsWith(LIKELY[name].deadEnd) === true);
   }

@@ -91,34 +91,6 @@ function checkRead() {
   }
 }
 
-// A trace that goes on where another one ends is the one that is read from its start; so is the state.
-function checkGoingOn(engine, texts) {
-  for (const schedule of texts) {
-    const whole = traceOf(engine, schedule);
-    const [Trace, State, scheduleOfTrace] = ["Trace", "State", "scheduleOfTrace"].map(inPage);
-    let [trace, state] = [null, null];
-    for (let count = 0; count <= whole.total; count++) {
-      const text = engine.ask("listset_trace", scheduleOfTrace(whole, count)).text;
-      const next = new Trace(text, whole.version, trace);
-      state = next.before === null ? new State(next) : state.goOn(next);
-      trace = next;
-      state.moveTo(count);
-    }
-    const plain = new State(whole);
-    plain.moveTo(whole.total);
-    const read = ({ calls, changes, starred, starts, order }) => JSON.stringify({ calls, changes, starred, starts, order });
-    const held = ({ threads, nodes, lock }) => JSON.stringify({ threads, nodes, lock });
-    check(`read step by step: ${schedule.slice(0, 100)}`, trace.before !== null && read(trace) === read(whole));
-    check(`made step by step: ${schedule.slice(0, 100)}`, held(state) === held(plain));
-    check("a trace that goes another way is read anew", new Trace(whole.text.replace(" saw ", "  saw "), whole.version, trace).before === null);
-    const line = "begin 0 add 9";
-    const own = inPage("scheduleAndLine")(whole, whole.total, line, scheduleOfTrace(whole));
-    check("a line more, of the text that was run", own === inPage("scheduleAndLine")(whole, whole.total, line));
-    const middle = inPage("scheduleAndLine")(whole, 2, line, scheduleOfTrace(whole));
-    check("and from an event in the middle", middle === inPage("scheduleAndLine")(whole, 2, line) && middle.endsWith(`${line}\n`));
-  }
-}
-
 // A number is the same run for everyone: small enough to be judged, with calls that overlap; the one of README.md stays as it is.
 function checkSeeds(engine) {
   const ask = (name, ...texts) => engine.ask(name, ...texts);
@@ -349,7 +321,6 @@ async function main() {
   checkContents(engine, texts);
   checkForms();
   checkFaults(engine);
-  checkGoingOn(engine, texts);
   checkSeeds(engine);
   checkDocs(engine);
   checkRead();

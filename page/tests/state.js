@@ -21,7 +21,7 @@ const traceOf = (text, lacks = null) => ({ refused: null, total: text.split("\n"
 // A state in which a text is shown for a task.
 function shown(task, text, lacks = null, count = 1) {
   const trace = { trace: traceOf(text, lacks), state: {}, source: "", count };
-  const actions = [["task", { task, lacks }], ["text", { text }], ["trace", trace]];
+  const actions = [["task", { task, lacks }], ["run", { text }], ["trace", trace]];
   return actions.reduce((state, [type, given]) => reduce(state, { type, ...given }), stateAtFirst());
 }
 

@@ -1,19 +1,22 @@
-// The bench: the run in a figure at the event that is shown, the bar that moves it, and below, while they are unfolded, the threads'
-// registers, the step table and the proved code.
+// The bench: the run at the event that is shown, the bar that moves it, its question above it, and below it what is unfolded.
 import { LISTS } from "../../made/rows.js";
-import { drawOrder } from "../draw/contents.js";
+import { anotherSeed, partsOfSeed, scheduleOfSeed, seedOf } from "../run/address.js";
+import { escaped, listOptions } from "../run/markup.js";
+import { scheduleOfTrace } from "../run/schedule_text.js";
+import { momentAt, sentenceOf } from "../run/sentences.js";
+import { drawOrder, drawTable, drawThreads, MOST_ROWS } from "../draw/tables.js";
 import { HISTORY_LEFT } from "../draw/history.js";
 import { drawListing } from "../draw/listing.js";
-import { drawTable } from "../draw/table.js";
-import { drawThreads, MOST_ROWS } from "../draw/threads.js";
 import { byId, setAble, setHtml } from "../page/dom.js";
-import { scrollToLine } from "../page/editor.js";
-import { hiddenOutcomes, isJudging, now, show, tell } from "../page/now.js";
+import { works } from "../page/kept.js";
+import { askNow, hiddenOutcomes, isJudging, now, show, tell } from "../page/now.js";
 import { goByHand, isPlaying } from "../page/play.js";
-import { escaped } from "../run/markup.js";
-import { sentenceOf } from "../run/sentences.js";
-import { ShownRun } from "../story/live_run.js";
-import { StillFigure } from "../story/still_figure.js";
+import { addressOfAssignment, addressOfCode, titleIn } from "../page/visit.js";
+import { examples, openTask, scrollToLine } from "../page/work.js";
+import { homeworkOf, titleOfAssignment } from "../story/assignment.js";
+import { Figure, STILL } from "../story/figure.js";
+import { linesOf, ShownRun } from "../story/live_run.js";
+import { titleOfScene } from "../story/scene.js";
 
 const bench = { key: "", figure: null };
 const LACKING = "The code of the correct list. The list that runs here lacks one of its checks.";
@@ -29,18 +32,19 @@ function figureOfTask(run) {
   byId("run-figure").replaceChildren(box);
   const codeNote = lacks === null ? "" : LACKING;
   const sentence = (moment) => sentenceOf(moment, hiddenOutcomes());
-  bench.figure = new StillFigure(box, { list: kind, run, sentence, codeTitle: LISTS[kind].name, codeNote, roomFor: 560 });
+  bench.figure = new Figure(box, { ...STILL, list: kind, run, sentence, codeTitle: LISTS[kind].name, codeNote, roomFor: 560 });
   return bench.figure;
 }
 
-export function showRun(moment) {
+export function showRun() {
   const { trace, state, count } = now.run;
+  const moment = momentAt(state, count);
   const run = new ShownRun(trace, state, count);
   const figure = figureOfTask(run);
   figure.box.classList.toggle("judged", isJudging());
   figure.part("tale").setAttribute("aria-live", isPlaying() ? "off" : "polite");
   figure.spec.high = isJudging() ? 0.24 : now.place.view === "lecture" ? 0.3 : 0.36;
-  figure.take(run, moment, now.prefs.hides);
+  figure.showRun(run, moment, now.prefs.hides);
   setHtml(byId("order"), drawOrder(trace, count, now.prefs.hides));
   showThreads(moment.event);
   showTable(moment);
@@ -48,7 +52,6 @@ export function showRun(moment) {
   scrollToLine(moment.event);
 }
 
-// The names, and the bar below the picture.
 export function showBar() {
   const { trace, count, source } = now.run;
   const { total } = trace;
@@ -76,7 +79,6 @@ function showTable(moment) {
   if (byId("table-box").open) byId("table").innerHTML = drawTable(moment);
 }
 
-// The code of the open calls, scrolled to the line of the thread that has moved.
 function showListing(moment) {
   if (!byId("listing-box").open) return;
   const box = byId("listing");
@@ -87,7 +89,6 @@ function showListing(moment) {
   if (y < box.scrollTop + 40 || y > box.scrollTop + box.clientHeight - 80) box.scrollTop = y - box.clientHeight / 2;
 }
 
-// A press on a part of the picture tells what its tooltip says; one on the history leads to the event there.
 function pressPicture({ target, clientX }) {
   const calls = target.closest(".calls svg");
   const said = target.closest("g, svg")?.querySelector(":scope > title")?.textContent ?? "";
@@ -100,6 +101,78 @@ function pressPicture({ target, clientX }) {
 
 export function listenToBench() {
   byId("run-figure").addEventListener("click", pressPicture);
+  byId("go-on-here").onpointerdown = byId("go-on-here").onclick = aimGoOn;
   byId("turns").onclick = ({ target }) => target.dataset.event && goByHand(Number(target.dataset.event));
   for (const name of ["table-box", "listing-box", "threads-box", "turns-box"]) byId(name).ontoggle = show;
+}
+
+// ---- The bench: a run step by step, of an example or of a number, with its question above it.
+export const FIRST = { example: "marked-in-chain", event: 20 };
+
+export function seedForm(id, verb) {
+  return `<div class="start-row"><label>list <select id="${id}-list">${listOptions()}</select></label>
+    <label>number <input id="${id}-number" type="number" min="1" max="999999999" placeholder="any"></label>
+    <button id="${id}-go" class="primary">${verb}</button></div>`;
+}
+
+export function listenToSeedForm(id, more) {
+  byId(`${id}-go`).onclick = () => {
+    const kind = byId(`${id}-list`).value;
+    const number = Number(byId(`${id}-number`).value);
+    location.hash = `#seed=${number > 0 ? seedOf(kind, number) : anotherSeed(now.task.kind === "seed" ? now.task.id : null, kind)}${more}`;
+  };
+}
+
+export function openSeed(seed, count) {
+  const text = scheduleOfSeed(askNow, seed);
+  openTask({ kind: "seed", id: seed, work: works.newName(`run ${partsOfSeed(seed).number}`) }, text, count);
+}
+
+function taskOfWatch() {
+  const more = isJudging() ? "&judge" : "";
+  if (now.task.kind === "seed") drawSeedBox(now.task.id, more);
+  const names = examples().map(({ name }) => name);
+  const at = now.task.kind === "example" ? names.indexOf(now.task.id) : -1;
+  const to = (index) => (at >= 0 && names[index] !== undefined ? `#example=${names[index]}${more}` : null);
+  return { before: to(at - 1), all: more === "" ? ["#ask", "All questions"] : ["#judge", "All runs"], next: to(at + 1) };
+}
+
+function drawSeedBox(seed, more) {
+  const { kind, number } = partsOfSeed(seed);
+  byId("seed-number").textContent = number;
+  if (document.activeElement !== byId("seed-input")) byId("seed-input").value = number;
+  byId("seed-another").href = `#seed=${anotherSeed(seed, kind)}${more}`;
+  byId("seed-judge").href = `#seed=${seed}&judge`;
+  byId("seed-judge").hidden = more !== "";
+  byId("seed-open").onclick = () => {
+    const wanted = Number(byId("seed-input").value);
+    if (wanted > 0) location.hash = `#seed=${seedOf(kind, wanted)}${more}`;
+  };
+}
+
+// ---- What stands above the stage: the links to what is before and after the task, and the title of the window.
+function showHome() {
+  const homework = now.place.view === null ? homeworkOf(now.place, now.task) : null;
+  byId("home").hidden = homework === null;
+  if (homework === null) return;
+  byId("home").textContent = `← Back to ${titleOfAssignment(homework)}`;
+  byId("home").href = addressOfAssignment(homework);
+}
+
+// The link that goes on from the event that is shown has its address when it is pressed: a long run has a long one.
+function aimGoOn() {
+  const { trace, count } = now.run;
+  byId("go-on-here").hash = addressOfCode(trace.kind, trace.opening, linesOf(scheduleOfTrace(trace, count)), trace);
+}
+
+export function showPlace() {
+  document.title = titleIn(now, titleOfScene);
+  showHome();
+  if (now.place.screen !== "stage") return;
+  const links = taskOfWatch();
+  for (const name of ["before", "next"]) {
+    byId(`task-${name}`).hidden = links[name] === null;
+    if (links[name] !== null) byId(`task-${name}`).href = links[name];
+  }
+  [byId("task-all").hash, byId("task-all").textContent] = links.all;
 }

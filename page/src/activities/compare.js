@@ -1,16 +1,16 @@
 // Compare: two lists side by side, under one program of calls, with some programs to begin with. The turns are in the address.
 import { LISTS } from "../../made/rows.js";
 import { byId, redraw } from "../page/dom.js";
-import { toggleLecture } from "../page/keys.js";
+import { toggleLecture } from "../page/play.js";
 import { askNow, now } from "../page/now.js";
-import { copied, linkTo } from "../page/visit.js";
-import { addressOf, readAddress, warningOf } from "../run/address.js";
-import { chipOf, escaped, tag } from "../run/markup.js";
+import { linkTo } from "../page/visit.js";
+import { addressOf, readAddress } from "../run/address.js";
+import { chipOf, escaped, listOptions, tag } from "../run/markup.js";
 import { sentenceOf } from "../run/sentences.js";
 import { ProgramFault, programText, readProgram, Sides } from "../run/sides.js";
+import { Figure, STILL } from "../story/figure.js";
 import { ShownRun } from "../story/live_run.js";
-import { head, setScene, threadOfKey } from "../story/scene.js";
-import { StillFigure } from "../story/still_figure.js";
+import { copyText, head, part, setScene, threadOfKey } from "../story/scene.js";
 
 const PRESETS = [
   ["Who waits?", "#sides=coarse.lazy&quota=4&calls=0.add.5,1.contains.5&turns=0.0.0.0.1.1.1"],
@@ -21,14 +21,11 @@ const PICTURE = '<h2></h2><div class="pair"></div><p class="note"><a class="butt
 const SIDES = ["one", "other"];
 const shown = { sides: null, at: 0, quota: 4, opening: [], figures: [] }; // at: how many turns are shown
 const sidesPart = (name) => byId(`sides-${name}`);
-
 const listsOf = ({ given }) => (given.sides ?? "coarse.lazy").split(".");
 
 function html(place) {
   const preset = ([name, href]) => tag("a", { class: "button", href }, escaped(name));
-  const listOf = (at) => Object.entries(LISTS).map(([kind, { name }]) =>
-    tag("option", { value: kind, ...(kind === listsOf(place)[at] ? { selected: "" } : {}) }, name));
-  const choice = (name, at) => tag("label", {}, ["left ", "right "][at], tag("select", { id: `sides-${name}` }, ...listOf(at)));
+  const choice = (name, at) => tag("label", {}, ["left ", "right "][at], tag("select", { id: `sides-${name}` }, listOptions(listsOf(place)[at])));
   const lead = `<p class="lead">The same calls on two lists. A turn of a thread executes its next step in both; a call that has ended waits for
     the other list. Who has to wait, and who is done? <a class="beside" href="tables.html#progress">Progress of each list: blocking, lock-free, wait-free</a></p>`;
   return `<section class="screen">${head("", "Two lists, one program", lead)}
@@ -37,7 +34,7 @@ function html(place) {
       <label>initial keys <input id="sides-opening" spellcheck="false" placeholder="no keys" size="8"></label>
       <label>calls <textarea id="sides-program" rows="2" cols="24" spellcheck="false"></textarea></label>
       <button data-do="begin">Run this program</button> <button data-do="copy">Copy link</button></div></details>
-    <p id="sides-told" role="status"></p><div id="sides-pictures"></div></section>
+    <p id="scene-told" role="status"></p><div id="sides-pictures"></div></section>
     <footer class="foot"><button class="quiet" data-do="back" aria-label="one turn back">◂</button>
       <input id="sides-slider" type="range" min="0" value="0" aria-label="turn"> <span id="sides-where" class="small"></span> <span id="sides-turns"></span>
       <button class="quiet" id="sides-lecture" data-do="lecture" title="show this as one slide for a lecture hall; Escape leads back">Lecture view</button></footer>`;
@@ -59,7 +56,6 @@ function begin({ given }) {
   beginSides(turns.split(".").filter((thread) => thread !== "").map(Number));
 }
 
-// Begins at the first turn, with the program that stands there.
 function beginSides(turns = []) {
   try {
     const program = readProgram(sidesPart("program").value);
@@ -67,11 +63,11 @@ function beginSides(turns = []) {
     const kinds = SIDES.map((name) => sidesPart(name).value);
     Object.assign(shown, { sides: new Sides(askNow, kinds, { program, quota: shown.quota, opening }), opening });
     for (const thread of turns) if (!shown.sides.turn(thread)) break;
-    sidesPart("told").textContent = "";
+    part("#scene-told").textContent = "";
     takeTurns();
   } catch (fault) {
     if (!(fault instanceof ProgramFault)) throw fault;
-    sidesPart("told").textContent = fault.message;
+    part("#scene-told").textContent = fault.message;
   }
 }
 
@@ -86,15 +82,13 @@ function turnOf(thread) {
   if (at < sides.turns.length) beginSides(sides.turns.slice(0, at));
   const isMade = shown.sides.turn(thread);
   takeTurns();
-  if (!isMade) sidesPart("told").innerHTML = `${chipOf(thread)} has ended all its calls in both lists.`;
+  if (!isMade) part("#scene-told").innerHTML = `${chipOf(thread)} has ended all its calls in both lists.`;
 }
 
 function turnTo(at) {
   shown.at = Math.min(Math.max(at, 0), shown.sides.turns.length);
   draw();
 }
-
-// ---- what is drawn
 
 function draw() {
   const { sides, at } = shown;
@@ -108,15 +102,14 @@ function draw() {
   figuresOf(sides.sides).forEach((figure, place) => drawSide(sides.sides[place], figure));
 }
 
-// The figure of each list, while the same two lists are shown.
 function figuresOf(sides) {
   const { figures } = shown;
   if (figures.length > 0 && sides.every((side, at) => figures[at].spec.list === side.kind)) return figures;
   end();
   sidesPart("pictures").innerHTML = sides.map(({ kind }) => tag("section", { "aria-label": LISTS[kind].name }, PICTURE)).join("");
   const boxes = sidesPart("pictures").querySelectorAll(".pair");
-  const specOf = ({ kind, trace, state }) => ({ list: kind, run: new ShownRun(trace, state), code: false, sentence: sentenceOf, roomFor: 560, high: 0.3 });
-  figures.push(...sides.map((side, at) => new StillFigure(boxes[at], specOf(side))));
+  const specOf = ({ kind, trace, state }) => ({ ...STILL, list: kind, run: new ShownRun(trace, state), code: false, sentence: sentenceOf, roomFor: 560, high: 0.3 });
+  figures.push(...sides.map((side, at) => new Figure(boxes[at], specOf(side))));
   return figures;
 }
 
@@ -129,12 +122,11 @@ function drawSide(side, figure) {
   box.querySelector("h2").innerHTML = `${LISTS[side.kind].name} <small>${count} events</small>`;
   box.querySelector("a").href = addressOf(side.schedule, count) ?? "#";
   side.state.moveTo(count);
-  figure.take(new ShownRun(side.trace, side.state, count), undefined, now.prefs.hides);
+  figure.showRun(new ShownRun(side.trace, side.state, count), undefined, now.prefs.hides);
   const hasWaited = at > 0 && count === side.counts[at - 1];
   if (hasWaited) figure.tell(`${chipOf(turns[at - 1])} has ended its call here, and waits for the other list.`);
 }
 
-// The address of what is shown, from # on.
 function addressOfSides() {
   const { sides, quota, opening } = shown;
   const calls = sides.program.flatMap((own, thread) => own.map((call) => `${thread}.${call.replace(" ", ".")}`));
@@ -143,13 +135,6 @@ function addressOfSides() {
   return `#${[...parts, `calls=${calls.join()}`, `turns=${sides.turns.join(".")}`].join("&")}`;
 }
 
-async function copySides() {
-  const link = linkTo(addressOfSides());
-  const isCopied = await copied(link);
-  sidesPart("told").innerHTML = `${isCopied ? "The link is copied" : "Copy this link"}: <code>${escaped(link)}</code>${warningOf(link)}`;
-}
-
-// A turn by its letter; an arrow, and a presenter's key, goes on and back.
 function press(event) {
   const { sides, at } = shown;
   const by = { ArrowRight: 1, PageDown: 1, ArrowLeft: -1, PageUp: -1, Home: -Infinity, End: Infinity }[event.key];
@@ -160,7 +145,6 @@ function press(event) {
   } else if (threadOfKey(event) in sides.program) turnOf(threadOfKey(event));
 }
 
-/** @type {import("../story/scene.js").View} */
 export const compareView = {
   kind: "compare",
   title: (place) => `${listsOf(place).map((kind) => LISTS[kind].name).join(" beside ")} · Why not just one lock?`,
@@ -171,7 +155,7 @@ export const compareView = {
   press,
   deeds: {
     begin: () => beginSides(),
-    copy: copySides,
+    copy: () => copyText(linkTo(addressOfSides()), "The link is copied."),
     back: () => turnTo(shown.at - 1),
     turn: ({ dataset }) => turnOf(Number(dataset.thread)),
     lecture: toggleLecture,

@@ -1,23 +1,22 @@
 // Below the lessons: what is handed in, and courses: one is chosen, opened from a file or a link, written, tried, and handed out as a link or a file.
 import { BOOK, BOOK_NAME } from "../../made/book.js";
-import { courseAddress, courseOfAddress } from "../course/course_link.js";
+import { courseAddress, courseOfAddress } from "../course/course_text.js";
 import { handInText } from "../course/hand_in.js";
 import { triedCourse } from "../course/lesson.js";
 import { byId } from "../page/dom.js";
-import { saveText } from "../page/files.js";
+import { onFile, saveText } from "../page/files.js";
 import { isText, keptUnder } from "../page/kept.js";
 import { askNow, held } from "../page/now.js";
 import { copied, linkTo } from "../page/visit.js";
 import { AddressFault, warningOf } from "../run/address.js";
 import { counted } from "../run/markup.js";
-import { brokenLines } from "../story/kept_story.js";
-import { drawLearnMap } from "../story/learn_map.js";
+import { brokenLines, keepStory } from "../story/kept.js";
 import { learning } from "../story/learning.js";
 import { JUDGED } from "./judging.js";
+import { drawLearnMap } from "./maps.js";
 
 const lessonPart = (name) => byId(`lesson-${name}`);
 
-// Takes the text of a course: its lessons are shown, or its faults by their lines. Whether it is one.
 function takeCourseText(text) {
   const course = triedCourse(askNow, text);
   const { faults, name, lessons } = course;
@@ -30,7 +29,6 @@ function takeCourseText(text) {
   return faults.length === 0;
 }
 
-// Takes the course that an address has.
 export async function takeCourseOfAddress(letters) {
   if (held.engine === null) throw new AddressFault("the address names a course of lessons, which cannot be run here");
   const text = await courseOfAddress(letters);
@@ -41,7 +39,6 @@ export async function takeCourseOfAddress(letters) {
   }
 }
 
-// A course that was opened as a file: it is taken, or its faults are told beside its text.
 export function showCourseText(text) {
   lessonPart("course-text").value = text;
   lessonPart("write").open = true;
@@ -74,20 +71,16 @@ export function listenToCourses() {
   lessonPart("write").ontoggle = () => {
     if (box.value === "") box.value = learning.panel.course.text;
   };
-  lessonPart("file").onchange = async () => {
-    box.value = await lessonPart("file").files[0].text();
-    lessonPart("file").value = "";
-    lessonPart("write").open = true;
-    takeCourseText(box.value);
-  };
+  onFile(lessonPart("file"), showCourseText);
   lessonPart("try").onclick = () => takeCourseText(box.value);
   lessonPart("link").onclick = () => takeCourseText(box.value) && copyCourseLink();
   lessonPart("save").onclick = () => saveText("lessons.course", box.value);
+  lessonPart("hand-in").onclick = handIn;
+  lessonPart("student").onchange = () => {
+    if (!keepStory({ student: lessonPart("student").value.trim() })) lessonPart("told").textContent = "This browser keeps nothing: hand in before you leave the page.";
+  };
 }
 
-// ---- what is handed in
-
-// The text with all solutions is shown, and copied where the browser does that.
 async function handIn() {
   const { panel } = learning;
   const lessons = panel.course.lessons.filter(({ name }) => panel.isSolved(name));
@@ -103,11 +96,3 @@ async function handIn() {
   lessonPart("told").textContent = (await copied(box.value)) ? `The text with ${count} is copied.` : `Copy this text: it has ${count}.`;
 }
 
-export function listenToHandIn() {
-  lessonPart("hand-in").onclick = handIn;
-  lessonPart("student").onchange = () => {
-    const { panel } = learning;
-    panel.kept.student = lessonPart("student").value.trim();
-    if (!panel.kept.save()) lessonPart("told").textContent = "This browser keeps nothing: hand in before you leave the page.";
-  };
-}

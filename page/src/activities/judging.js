@@ -1,5 +1,4 @@
-// The panel in which the reader judges the run that is shown: it stands in the place of the history and of the order. The bars on
-// which points are put, the replies, the verdict. Of a broken list the report alone is judged, as a claim.
+// The panel in which the reader judges the run that is shown. Of a broken list the report alone is judged, as a claim.
 import { CLASSICS } from "../../made/classics.js";
 import { drawJudged, drawOwnOrder, judgeScale, momentOfReport } from "../draw/judged.js";
 import { byId, redraw } from "../page/dom.js";
@@ -11,7 +10,6 @@ import { exerciseOf, LEVELS, MOST_JUDGED, OwnAnswer, repliesOf, verdictOn, wordO
 import { callText, chipOf, escaped } from "../run/markup.js";
 
 export const JUDGED = "listset-judged"; // in the browser's storage: of each run and level the order that was right
-
 const HALF_STEPS = { ArrowLeft: -0.5, ArrowDown: -0.5, ArrowRight: 0.5, ArrowUp: 0.5 };
 const SLIDER_KEYS = { ...HALF_STEPS, PageDown: -5, PageUp: 5, Home: -Infinity, End: Infinity };
 const judgePart = (name) => byId(`judge-${name}`);
@@ -23,7 +21,6 @@ class Judging {
   held = null; // the call whose point is dragged
   tries = 0; // that were refused
   moment = 0; // of a claim
-  told = "";
 
   // Begins an exercise of this level about the run that is shown. At the third the report may be that of a broken list.
   begin(level) {
@@ -36,13 +33,10 @@ class Judging {
   }
 
   take(exercise) {
-    Object.assign(this, { exercise, answer: new OwnAnswer(exercise) });
-    Object.assign(this, { held: null, verdict: null, tries: 0, moment: 0, told: LEVELS[exercise.level].task });
+    Object.assign(this, { exercise, answer: new OwnAnswer(exercise), held: null, verdict: null, tries: 0, moment: 0 });
     if (now.run.lacks === null) judgePart("level").value = exercise.level;
     dispatch("exercise", { exercise });
   }
-
-  // ---- what the reader does
 
   callAt(event) {
     const id = event.target.closest("[data-call]")?.dataset.call;
@@ -81,12 +75,6 @@ class Judging {
     event.preventDefault();
   }
 
-  say(call, reply) {
-    this.answer.say(call, reply);
-    this.changed();
-  }
-
-  // An answer that was changed is judged when the reader asks for it.
   changed() {
     this.verdict = null;
     this.draw();
@@ -102,20 +90,17 @@ class Judging {
     judgePart("verdict").scrollIntoView({ block: "nearest" });
   }
 
-  // What is handed in of a run that was judged right: it goes with the solutions of the lessons.
   keep() {
     const run = exampleShown() === "" ? addressOf(now.run.text, now.run.count) : exampleShown();
     this.line = `judge ${run} ${this.exercise.level} ${wordOfAnswer(this.answer)}`;
     if (run !== null) keepUnder(JUDGED, { ...keptUnder(JUDGED), [`${run} ${this.exercise.level}`]: this.line });
   }
 
-  // ---- what is drawn
-
   draw() {
     const { level, calls } = this.exercise;
     this.count = now.run.count;
     this.scale = judgeScale(this.exercise, Math.max(300, judgePart("bars").clientWidth));
-    judgePart("task").textContent = this.told;
+    judgePart("task").textContent = LEVELS[level].task;
     judgePart("none").hidden = level !== "claim";
     redraw(judgePart("bars"), drawJudged(this));
     const asked = level === "replies" ? calls.filter((call) => call.ended !== null) : [];
@@ -130,7 +115,10 @@ class Judging {
     choice.dataset.call = call.id;
     choice.append(new Option("?", ""), ...repliesOf(this.exercise, call).map((reply) => new Option(reply, reply)));
     choice.value = this.answer.replies.get(call.id) ?? "";
-    choice.onchange = () => this.say(call, choice.value === "" ? undefined : choice.value);
+    choice.onchange = () => {
+      this.answer.say(call, choice.value === "" ? undefined : choice.value);
+      this.changed();
+    };
     const box = document.createElement("label");
     box.innerHTML = `${chipOf(call.thread)} ${callText(call)} answers `;
     box.append(choice);
@@ -171,8 +159,6 @@ function hintOfRun() {
   const changes = now.run.trace.changes.map(({ number }) => number);
   return changes.length === 0 ? "No event changes the set." : `The set changes at the events ${changes.join(", ")}.`;
 }
-
-// ---- when an exercise can begin, and what the panel's buttons and bars do
 
 export function beginJudging() {
   const { trace } = now.run;

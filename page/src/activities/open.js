@@ -2,26 +2,23 @@
 import { TRACES } from "../../made/traces.js";
 import { numberOfLevel } from "../data/levels.js";
 import { byId } from "../page/dom.js";
-import { showMarks } from "../page/editor.js";
-import { isExample, openKept } from "../page/example.js";
+import { isExample, openKept, openTask, openWork, ownTask, showMarks } from "../page/work.js";
 import { HERE, isText, keepWork, keptUnder, works } from "../page/kept.js";
-import { fillWorks, pickExample } from "../page/menu.js";
+import { fillWorks, pickExample } from "../page/controls.js";
 import { exampleShown, goTo, held, now, tell } from "../page/now.js";
-import { setView } from "../page/places.js";
+import { setView } from "../page/seen.js";
 import { stopPlay } from "../page/play.js";
 import { entryOf } from "../page/state.js";
-import { keepSoon, visit } from "../page/visit.js";
-import { sceneOfHash } from "../page/scene_address.js";
-import { openTask, openWork, ownTask } from "../page/work.js";
+import { keepSoon, sceneOfHash, visit } from "../page/visit.js";
 import { AddressFault, readAddress } from "../run/address.js";
 import { escaped } from "../run/markup.js";
 import { learning } from "../story/learning.js";
-import { keptStory } from "../story/kept_story.js";
+import { keptStory } from "../story/kept.js";
 import { faultOfScene, openScene } from "../story/scene.js";
 import { showCourseText, takeCourseOfAddress } from "./courses.js";
 import { beginJudging } from "./judging.js";
 import { showRecorded } from "./recorded.js";
-import { FIRST, openSeed } from "./watch.js";
+import { FIRST, openSeed } from "./bench.js";
 
 const WANTS_ENGINE = { learn: "a lesson", judge: "runs to judge", break: "a broken list", compare: "two lists side by side" };
 
@@ -39,15 +36,11 @@ function openStory(place) {
   openScene(place);
 }
 
-const openLevel = (id, text, view) => openStory({ activity: "break", id, given: text === null ? {} : { text }, view });
-
 /** @param {string[]} place @param {any} wanted */
 function openPlace([activity, value], { text, event, view }) {
-  if (activity === "break") return openLevel(value, text, view);
-  if (activity === "watch" && value === "") return openStory({ activity: "ask", view });
-  if (activity === "learn") return openStory({ activity, id: value, given: text === null ? {} : { text }, view });
-  if (activity !== "watch") return openStory({ activity, view });
-  if (text === null) openRun({ seed: null, example: value, event });
+  if (value === "" || activity !== "watch") {
+    openStory({ activity: activity === "watch" ? "ask" : activity, id: value, given: text === null ? {} : { text }, view });
+  } else if (text === null) openRun({ seed: null, example: value, event });
   else openLink({ text, event, lacks: null });
 }
 
@@ -57,17 +50,13 @@ async function openCourse(wanted) {
   openPlace(wanted.place ?? ["learn", (panel.firstUnsolved() ?? panel.course.lessons[0]).name], wanted);
 }
 
-function needExample(name) {
-  if (!isExample(name)) throw new AddressFault(`the address names the example "${name}", which there is not`);
-}
-
 function openRun(wanted) {
   if (wanted.seed !== null) {
     needEngine("a run by its number");
     openSeed(wanted.seed, wanted.event);
   } else if (wanted.example !== null) {
-    needExample(wanted.example);
-    const isShown = exampleShown() === wanted.example && now.run.isRun;
+    if (!isExample(wanted.example)) throw new AddressFault(`the address names the example "${wanted.example}", which there is not`);
+    const isShown = exampleShown() === wanted.example && now.run.isRun && now.place.screen === "stage";
     const isBeforehand = isShown && now.task.work === "" && held.engine !== null; // from its trace, and the reader may have gone on
     if (isBeforehand) pickExample(wanted.example, now.run.count);
     else if (isShown) goTo(wanted.event);
@@ -79,7 +68,7 @@ function openRun(wanted) {
 // A link opens under a name of its own: that of the reader's work with this very text, or a new one.
 function openLink({ text, event, lacks, view = null }) {
   needEngine("a schedule");
-  if (lacks !== null) return openLevel(String(numberOfLevel(lacks)), text, view);
+  if (lacks !== null) return openStory({ activity: "break", id: String(numberOfLevel(lacks)), given: { text }, view });
   if (text === now.run.text && now.run.isRun && now.place.screen === "stage") return goTo(event);
   const own = works.nameOf(text);
   if (own !== null) return openWork(own, event);
@@ -88,7 +77,6 @@ function openLink({ text, event, lacks, view = null }) {
   openTask(ownTask("from a link"), text, event, `${told}${others}.`);
 }
 
-// Opens what an address names: false, with a line, if it names nothing that there is.
 async function openAddress(hash) {
   try {
     const place = sceneOfHash(hash);
@@ -111,7 +99,6 @@ async function openAddress(hash) {
   }
 }
 
-// Recorded calls, or a course, that were opened as a file stand at their activity.
 export function openRecorded(text) {
   openStory({ activity: "judge" });
   showRecorded(text);
@@ -129,7 +116,7 @@ export async function followAddress(event) {
   const kept = event.state;
   if (typeof kept?.text === "string") openLink({ text: kept.text, event: kept.count, lacks: kept.lacks });
   else await openAddress(location.hash);
-  visit.entry = entryOf(held.state);
+  visit.entry = entryOf(now);
   keepSoon();
 }
 
@@ -145,13 +132,11 @@ export function showBeforehand() {
   return true;
 }
 
-// A first visit: the path; without an engine an example, from its trace.
 function firstVisit() {
   if (held.engine === null) pickExample(FIRST.example, FIRST.event);
   else openStory({ activity: "story", id: "1" });
 }
 
-// What the address names; else where the reader was; else the beginning.
 export async function openFirst() {
   fillWorks();
   const isNamed = location.hash !== "" && (await openAddress(location.hash));
@@ -160,14 +145,13 @@ export async function openFirst() {
   if (!isNamed && (isWrong || addressKept() === "" || !(await openAddress(addressBack())))) firstVisit();
   bringBack();
   if (!isNamed && said !== "") tell(said);
-  Object.assign(visit, { isRead: true, entry: entryOf(held.state) });
+  Object.assign(visit, { isRead: true, entry: entryOf(now) });
   keepSoon();
 }
 
 // Where the reader was; a screen of the path welcomes who comes back to it.
 const addressBack = () => addressKept().replace(/^#story=(?!1$)\d+$/, "$&&back=yes");
 
-// What stood in the box of this work, and was not run.
 function bringBack() {
   const kept = works.byName.get(now.task.work);
   if (kept === undefined || kept.text !== now.run.text || kept.box === kept.text) return;

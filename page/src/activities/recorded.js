@@ -1,6 +1,7 @@
 // Judge, calls recorded from a set of the reader's own: their text is pasted or opened as a file, and the proved judge decides.
 import { drawRecorded } from "../draw/judged.js";
 import { byId } from "../page/dom.js";
+import { onFile } from "../page/files.js";
 import { askLong, LONG_TEXT } from "../page/long_run.js";
 import { askNow } from "../page/now.js";
 import { tag } from "../run/markup.js";
@@ -43,7 +44,6 @@ async function judgeCalls() {
   if (withNewline(recordedPart("text").value) === text) showVerdict(verdictOnCalls(askNow, said, text));
 }
 
-// Shows a text in the box, and what the judge says of it.
 export function showRecorded(text) {
   recordedPart("box").open = true;
   recordedPart("text").value = text;
@@ -60,9 +60,5 @@ export function listenToRecorded() {
   recordedPart("box").ontoggle = () => (recorded.isOpen = recordedPart("box").open);
   recordedPart("judge").onclick = judgeCalls;
   recordedPart("example").onclick = () => showRecorded(RECORDED_EXAMPLE);
-  recordedPart("file").onchange = async () => {
-    const text = await recordedPart("file").files[0].text();
-    recordedPart("file").value = "";
-    showRecorded(text);
-  };
+  onFile(recordedPart("file"), showRecorded);
 }

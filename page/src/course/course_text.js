@@ -1,7 +1,6 @@
-// Lessons as text, so that a teacher writes them without a script. A course is a title line, its name, and one lesson after
-// another; the head of book.course tells of each word. Each fault is told by its line.
+// Lessons as text; the head of book.course tells of each word. Each fault is told by its line.
 import { LACKING } from "../../made/classics.js";
-import { titleOf } from "../run/schedule_text.js";
+import { AddressFault, LONGEST_ADDRESS } from "../run/address.js";
 import { GoalFault, readGoal } from "./goal_words.js";
 
 export const COURSE_TITLE = "listset-course 1";
@@ -33,7 +32,6 @@ function withoutIndent(text) {
   return lines.map((line, index) => (index === first ? line.trimStart() : line.slice(Math.min(most, line.search(/\S|$/)))));
 }
 
-// The lines of a course, one after another: its name, the parts of each lesson by their words, and the faults.
 class CourseReader {
   constructor(text) {
     this.faults = [];
@@ -85,7 +83,6 @@ class CourseReader {
     parts[word] = part;
   }
 
-  // The lesson as the panel has it, or null where something of it is missing.
   lessonOf(parts) {
     const isDue = (word) => !LESSON_WORDS[word].isOptional && !(word === "goal" && "lacks" in parts);
     const missing = WORDS.filter((word) => !(word in parts) && isDue(word));
@@ -123,7 +120,6 @@ class CourseReader {
     }
   }
 
-  // Each line `say ..` ends a dead end of its own.
   deadEndsOf(part) {
     if (part === undefined) return [];
     const ends = [[]];
@@ -136,7 +132,6 @@ class CourseReader {
   }
 }
 
-// The name and the lessons of a text, and its faults, each with the number of its line.
 export function readCourse(text) {
   const reader = new CourseReader(text.slice(0, MOST_COURSE));
   if (text.length > MOST_COURSE) reader.fault(1, `a course has at most ${MOST_COURSE} letters`);
@@ -146,9 +141,24 @@ export function readCourse(text) {
   return { name: reader.name, lessons, faults: reader.faults };
 }
 
-// The text of a schedule, or of a draft, of the lesson's set with these lines.
-export function lessonText({ list, threads, quota, opening }, lines) {
-  const isOfVersionTwo = opening.length > 0 || lines.some((line) => line.includes(" ceiling "));
-  const header = [titleOf(isOfVersionTwo ? 2 : 1), `list ${list}`, `threads ${threads}`, `quota ${quota}`];
-  return [...header, ...opening.map((key) => `opening ${key}`), ...lines, ""].join("\n");
+// ---- A course in a link: its text, packed, behind #course=, so that nothing comes from a network.
+async function passed(bytes, stream) {
+  return new Uint8Array(await new Response(new Blob([bytes]).stream().pipeThrough(stream)).arrayBuffer());
+}
+
+export async function courseAddress(text) {
+  const lines = text.split("\n").filter((line) => line.trim() !== "" && !line.startsWith("#"));
+  const bytes = await passed(new TextEncoder().encode(`${lines.join("\n")}\n`), new CompressionStream("deflate-raw"));
+  const letters = btoa(Array.from(bytes, (byte) => String.fromCharCode(byte)).join(""));
+  const address = `#course=${letters.replaceAll("+", "-").replaceAll("/", "_").replace(/=+$/, "")}`;
+  return address.length <= LONGEST_ADDRESS ? address : null;
+}
+
+export async function courseOfAddress(letters) {
+  try {
+    const bytes = Uint8Array.from(atob(letters.replaceAll("-", "+").replaceAll("_", "/")), (letter) => letter.charCodeAt(0));
+    return new TextDecoder().decode(await passed(bytes, new DecompressionStream("deflate-raw")));
+  } catch {
+    throw new AddressFault("the course of the address cannot be unpacked: the link is cut");
+  }
 }

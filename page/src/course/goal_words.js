@@ -1,7 +1,6 @@
-// The goals of lessons, in words. A goal is a list of lines, each of which finds something in the run (a call, a step, a time in
-// which a thread rests) and gives it a name, or asks for a number of such things, or for more of one that has a name. A line
-// `say ..` is a condition as the student reads it: it is met where all lines above it can be met at once. book.course has a list.
-import { isFailedStep, isFailedTry, isInChain, isMarkSeen, isReadOfLink, isWithin, locksOf, nodeOf } from "../run/moments.js";
+// The goals of lessons: each line finds something in the run and may name it; `say ..` is met where all lines above it can be met at once.
+import { isFailed, isLock, ownerIn } from "../run/outcomes.js";
+import { State } from "../run/state.js";
 
 export class GoalFault extends Error {
   constructor(line, fault) {
@@ -26,7 +25,7 @@ const CALL_CLAUSES = [
   [/^begins after ([A-Z]\w*)$/, (call, [other]) => other.begun < call.begun],
   [/^takes effect after ([A-Z]\w*)$/, (call, [other]) => isRising(other.at, call.at)],
   [/^ends during ([A-Z]\w*)$/, (call, [other]) => other.begun < endOf(call) && endOf(call) < (other.ended ?? Infinity)],
-  [/^within ([A-Z]\w*)$/, (call, [rest]) => isWithin(call, rest)],
+  [/^within ([A-Z]\w*)$/, (call, [{ step, others }]) => call.begun > step.event.number && endOf(call) <= step.event.number + others.length],
   [/^its key always in the set$/, (call, _, run) => run.ofCall(call).every(({ keys }) => keys.has(call.key))],
   [/^a smaller key always in the set$/, (call, _, run) => run.ofCall(call).every((moment) => hasSmaller(call, moment))],
   [/^its node in the chain at its end$/, (call, _, run) => run.lastOf(call)?.chain.includes(run.nodeOf(call)) === true],
@@ -35,13 +34,13 @@ const STEP_CLAUSES = [
   [/^row (\d+)$/, (step, [row]) => step.row === Number(row)],
   [/^to row (\d+)$/, (step, [row]) => step.thread.pc === Number(row)],
   [/^without a reply$/, (step) => step.thread.reply === "none"],
-  [/^fails$/, (step) => isFailedStep(step)],
-  [/^tries in vain a lock of (\d+)$/, (step, [thread]) => isFailedTry(step) && step.event.saw === `t${thread}`],
-  [/^sees a mark$/, (step) => isMarkSeen(step)],
-  [/^reads a link$/, (step) => isReadOfLink(step)],
+  [/^fails$/, ({ event }) => isFailed(event)],
+  [/^tries in vain a lock of (\d+)$/, ({ event }, [thread]) => isFailed(event) && isLock(event.word) && event.saw === `t${thread}`],
+  [/^sees a mark$/, ({ event }) => event.saw?.endsWith("*") === true],
+  [/^reads a link$/, ({ event }) => event.deed === "load" && event.word.endsWith(".link")],
   [/^in the chain$/, (step) => isInChain(step)],
   [/^out of the chain$/, (step) => !isInChain(step)],
-  [/^holding (\d+)$/, (step, [count]) => locksOf(step, step.event.thread) === Number(count)],
+  [/^holding (\d+)$/, (step, [count]) => locksHeld(step) === Number(count)],
   [/^last$/, (step) => step.event.answer !== undefined],
   [/^pred leads to curr$/, (step) => step.linkOfPred === step.thread.curr],
   [/^at another node than ([A-Z]\w*)$/, (step, [other]) => nodeOf(step.event) !== nodeOf(other.event)],
@@ -50,15 +49,13 @@ const STEP_CLAUSES = [
   [/^in ([A-Z]\w*)$/, (step, [rest]) => rest.others.includes(step)],
   [/^takes out the node of ([A-Z]\w*)$/, (step, [call], run) => run.isTakenOut(run.nodeOf(call), step)],
 ];
-const REST_CLAUSES = [[/^holding (\d+)$/, (rest, [count]) => locksOf(rest.step, rest.step.event.thread) === Number(count)]];
+const REST_CLAUSES = [[/^holding (\d+)$/, (rest, [count]) => locksHeld(rest.step) === Number(count)]];
 export const CLAUSES = { call: CALL_CLAUSES, step: STEP_CLAUSES, rest: REST_CLAUSES };
-// What a name in a clause is to stand for.
 const NAMED = { "begins after": "call", "takes effect after": "call", "ends during": "call", within: "rest", in: "rest",
   "at another node than": "step", "takes out the node of": "call" };
 const GOAL_FORMS = '"call C of 0: ..", "step S in C: ..", "rest R of 0", "3 steps of 1: ..", "all calls ended", "say .."';
 const GOAL_LINE = /^(?:(call|step|rest) ([A-Z]\w*)|(\d+) (call|step)s?)(?: (of|in) (\w+))?(?:: (.+))?$/;
 
-// One line of a goal, in the light of the names that stand above it.
 function readGoalLine(text, number, names) {
   const fail = (fault) => {
     throw new GoalFault(number, fault);
@@ -82,7 +79,6 @@ function readGoalLine(text, number, names) {
   return { sort, name, isNew, count: count === undefined ? null : Number(count), join, whose, tests };
 }
 
-// The forms of clauses as they are told: X is a name that was given above, and N a number.
 function formOf([pattern]) {
   const bare = pattern.source.replace(/^\^|\$$/g, "").replaceAll("([A-Z]\\w*)", "X").replace(/\\d\+/g, "N");
   return bare.replace(/\(([^)]*)\)/g, "$1");
@@ -108,7 +104,6 @@ export function readGoal(lines) {
   return read;
 }
 
-// What a line may find: where its name is taken already, just that.
 function foundBy(line, run, bound) {
   if (line.name !== undefined && !line.isNew) return [bound.get(line.name)];
   const thread = line.join === "of" ? Number(line.whose) : null;
@@ -121,7 +116,6 @@ function foundBy(line, run, bound) {
 const MOST_WAYS = 100000; // to meet the lines of a goal, that are tried: some 0.2 s
 export class TooManyWays extends Error {}
 
-// Whether all lines can be met at once: tried one after another, up to a bound.
 function canMeet(lines, run) {
   let left = MOST_WAYS;
   const from = (at, bound) => {
@@ -137,8 +131,56 @@ function canMeet(lines, run) {
   return from(0, new Map());
 }
 
-// The conditions of a goal in a run, each { says, isMet }.
 export function conditionsOf(goal, run) {
   const ends = goal.map(({ says }, index) => ({ says, index })).filter(({ says }) => says !== undefined);
   return ends.map(({ says, index }) => ({ says, isMet: canMeet(goal.slice(0, index), run) }));
 }
+
+// ---- a run moment by moment: each event, the row at which its thread stood before, and what there is just after it
+export class Run {
+  constructor(trace) {
+    const state = new State(trace);
+    const keys = new Set(trace.opening);
+    this.calls = trace.calls;
+    this.moments = trace.events().map((event) => momentAfter(state, keys, event));
+  }
+
+  ofCall(call) {
+    return this.moments.filter(({ event }) => event.call === call);
+  }
+
+  lastOf(call) {
+    return this.moments[call.ended - 1];
+  }
+
+  // The stretches in which a thread makes no step: the moment of its step before, and those of the others up to its next.
+  restsOf(thread) {
+    const steps = this.moments.filter(({ event }) => event.thread === thread);
+    return steps.map((step, at) => {
+      const next = steps[at + 1]?.event.number ?? this.moments.length + 1;
+      return { step, others: this.moments.slice(step.event.number, next - 1) };
+    });
+  }
+
+  nodeOf(call) {
+    return call.changes ? nodeOf(this.moments[call.at - 1].event) : null;
+  }
+
+  isTakenOut(node, { event, chain }) {
+    return this.moments[event.number - 2]?.chain.includes(node) === true && !chain.includes(node);
+  }
+}
+
+function momentAfter(state, keys, event) {
+  const row = state.threads[event.thread].pc;
+  state.moveTo(event.number);
+  if (event.put !== undefined) keys.add(event.put);
+  if (event.took !== undefined) keys.delete(event.took);
+  const thread = { ...state.threads[event.thread] };
+  const linkOfPred = state.nodes[thread.pred]?.link;
+  return { event, row, thread, linkOfPred, chain: state.chain(), locks: state.locks(), keys: new Set(keys) };
+}
+
+const locksHeld = ({ locks, event }) => locks[`t${event.thread}`]?.length ?? 0;
+const nodeOf = (event) => ownerIn(event.word);
+const isInChain = (moment) => moment.chain.includes(nodeOf(moment.event));

@@ -22,14 +22,11 @@ import { judged, missingIn, MOST_EVENTS } from "./lesson.js";
 
 const HAND_IN_TITLE = "listset-lessons 2";
 
-// The text with these solutions, each with the name of its lesson and its schedule, and these lines about runs that were judged and
-// lists that were broken.
 export function handInText(course, student, solutions, otherLines) {
   const lines = solutions.map(({ name, schedule }) => `${name} ${addressOf(schedule, eventsAsked(schedule))}`);
   return [HAND_IN_TITLE, `course ${course}`, `student ${student}`, ...lines, ...otherLines, "end", ""].join("\n");
 }
 
-// The lines of a text without what mail has done to them, each with the number of its first line.
 function unmailed(text) {
   const isCoded = /=3D/i.test(text); // quoted-printable: a line goes on behind =, and =3D is =
   const lines = [];
@@ -46,7 +43,6 @@ function unmailed(text) {
   return lines.map(({ line, number }) => ({ line: decoded(line).replaceAll("&amp;", "&"), number }));
 }
 
-// The texts that a file has, by their titles: courses as they stand, and what was handed in.
 export function textsIn(text) {
   /** @type {any[]} */
   const found = [];
@@ -71,7 +67,6 @@ const lacksWords = (line) =>
   /^judge /.test(line) ? line.split(" ").length < 4 : !/^(student|course) /.test(line) && !line.includes("#");
 const isPiece = (line) => !line.includes(" ") || /^\S*[.,=&]\S* /.test(line);
 
-// What was handed in: the course and the student, or null, the parts with the numbers of their lines, and the faults.
 export function readHandIn({ lines, isEnded, number }) {
   const parts = [];
   const faults = [];
@@ -89,7 +84,6 @@ export function readHandIn({ lines, isEnded, number }) {
   return { course: valueOf("course"), student: valueOf("student"), solutions, faults };
 }
 
-// The schedule of a link or an address, or its fault.
 function readSchedule(link) {
   try {
     const { text } = readAddress(link.slice(link.indexOf("#")).replace(/>$/, ""));
@@ -100,7 +94,6 @@ function readSchedule(link) {
   }
 }
 
-// What is said of a part: the task, whether it is solved, and why not.
 export function judgedPart(ask, lessons, line) {
   const [word, ...words] = line.split(/ +/);
   if (word === "judge") return judgedOrder(ask, words);
@@ -117,7 +110,6 @@ export function judgedPart(ask, lessons, line) {
   return { task: lesson.name, isSolved: true, says: "", schedule, isVeryAnswer: schedule === lesson.solution };
 }
 
-// Of a line `judge RUN LEVEL ORDER`: the order is judged by `check`. The run is an example or the address of a schedule.
 function judgedOrder(ask, [run = "", level = "", word = "", ...more]) {
   const task = `judge ${run} ${level}`;
   const not = (says) => ({ task, isSolved: false, says });
@@ -133,7 +125,6 @@ function judgedOrder(ask, [run = "", level = "", word = "", ...more]) {
   return { task, isSolved: isRight === true, says: isRight === true ? "" : says };
 }
 
-// Of a line `break NAME SCHEDULE`: whether no order explains the run of the list that lacks this check.
 function judgedBreak(ask, [name = "", link = "", ...more]) {
   const task = `break ${name}`;
   const not = (says) => ({ task, isSolved: false, says });
@@ -148,7 +139,6 @@ function judgedBreak(ask, [name = "", link = "", ...more]) {
   return { task, isSolved: true, says: "", schedule, ofExample: exampleBy(ask, name, schedule) };
 }
 
-// The example whose own schedule this is, on the broken list, as the page shows it without the check; or null.
 function exampleBy(ask, name, schedule) {
   const shown = (example) => {
     const text = ask("listset_example", example).text;

@@ -1,22 +1,15 @@
-// What a lesson says of a schedule: whether it is a solution, which conditions of the goal its run meets, and why none is looked
-// at. A lesson is tried when it is read: its start does not reach its goal, and its answer does.
-import { readFault } from "../engine/answers.js";
+// What a lesson says of a schedule. A lesson is tried when it is read: its start does not reach its goal, and its answer does.
+import { readFault, sentenceOn } from "../engine/answers.js";
 import { askList, TO_BREAK, verdictOnLacking } from "../run/broken.js";
-import { scheduleOfDraft } from "../run/draft.js";
-import { sentenceOn } from "../run/faults.js";
-import { Run } from "../run/moments.js";
-import { eventsAsked, versionOf } from "../run/schedule_text.js";
+import { eventsAsked, scheduleOfDraft, scheduleText, versionOf } from "../run/schedule_text.js";
+import { conditionsOf, Run, TooManyWays } from "./goal_words.js";
 import { HEADER_LINES, isTrace, Trace } from "../run/trace.js";
-import { lessonText, readCourse } from "./course_text.js";
-import { conditionsOf, TooManyWays } from "./goal_words.js";
+import { readCourse } from "./course_text.js";
 
 export const MOST_EVENTS = 1000; // of a solution
 const OTHER_SET = "The list, the number of threads, the quota and the opening keys are to be those of the lesson.";
-
-// The lines of a schedule that tell its set: list, threads, quota and opening keys.
 const setOf = (schedule) => schedule.split("\n").slice(1).filter((line) => !/^(begin|go) /.test(line)).join("\n");
 
-// The run of a schedule by the engine, or the fault for which there is none: `ask` gives what a function of the engine says of a text.
 function runOfSchedule(ask, schedule, lacks) {
   const made = askList(ask, "listset_trace", lacks, schedule).text;
   if (!isTrace(made)) return { trace: null, fault: { ...readFault(made), says: `The schedule is refused: ${made.trim()}.` } };
@@ -29,7 +22,6 @@ function runOfSchedule(ask, schedule, lacks) {
 
 const unjudged = (reason, fault = null) => ({ isSolved: false, reason, fault, conditions: [], deadEnd: null });
 
-// Judges a schedule of a lesson that was tried.
 export function judged(ask, lesson, schedule) {
   if (setOf(schedule) !== setOf(lesson.begun)) return unjudged(OTHER_SET);
   if (eventsAsked(schedule) > MOST_EVENTS) return unjudged(`A solution has at most ${MOST_EVENTS} events.`);
@@ -39,10 +31,10 @@ export function judged(ask, lesson, schedule) {
   const conditions = withinBound(() => conditionsOfLesson(ask, lesson, schedule, run));
   if (conditions === null) return unjudged("This run is not judged: there are too many ways in which it could meet the goal.");
   const isSolved = conditions.every(({ isMet }) => isMet);
-  return { isSolved, reason: null, fault: null, conditions, deadEnd: isSolved ? null : withinBound(() => deadEndIn(lesson, run)) };
+  const deadEnd = withinBound(() => lesson.deadEnds.map((lines) => conditionsOf(lines, run)[0]).find(({ isMet }) => isMet));
+  return { isSolved, reason: null, fault: null, conditions, deadEnd: isSolved ? null : (deadEnd?.says ?? null) };
 }
 
-// What a search of a goal finds, or null where it has too many ways to look at.
 function withinBound(search) {
   try {
     return search();
@@ -59,7 +51,6 @@ function isBounded(ask, { list, threads, goal }) {
   return trace === null || withinBound(() => conditionsOf(goal, new Run(trace))) !== null;
 }
 
-// What a solution shows, as the student reads it: the conditions of the goal, and of a broken list that the schedule breaks it.
 export const conditionTexts = ({ goal, lacks }) =>
   [...goal.map(({ says }) => says), lacks === null ? undefined : TO_BREAK].filter((says) => says !== undefined);
 
@@ -69,21 +60,13 @@ function conditionsOfLesson(ask, { goal, lacks }, schedule, run) {
   return [...conditions, { says: TO_BREAK, isMet: verdictOnLacking(ask, lacks, schedule).kind === "broken" }];
 }
 
-// What the lesson's text says of a run that leads nowhere, or null.
-function deadEndIn(lesson, run) {
-  const met = lesson.deadEnds.map((lines) => conditionsOf(lines, run)[0]).find(({ isMet }) => isMet);
-  return met?.says ?? null;
-}
-
-// Why a schedule that was judged is no solution: why it was not looked at, or the first condition that it does not meet.
 export function missingIn({ reason, conditions }) {
   const missing = conditions.find(({ isMet }) => !isMet);
   return reason ?? (missing === undefined ? null : `missing: ${missing.says}`);
 }
 
-// Tries a lesson, which then has the schedules of its start and of its answer: what is wrong with it and at which line, or null.
 function troubleOf(ask, lesson) {
-  const start = scheduleOfDraft(ask, lessonText(lesson, lesson.start), lesson.lacks);
+  const start = scheduleOfDraft(ask, scheduleText(lesson, lesson.start), lesson.lacks);
   if (start.fault !== null) return refusedLine(ask, lesson, "start", readFault(start.fault));
   lesson.begun = start.text;
   const begin = runOfSchedule(ask, start.text, lesson.lacks);
@@ -95,7 +78,7 @@ function troubleOf(ask, lesson) {
   if (met.every(({ isMet }) => isMet)) return { line: lesson.line, says: "its start meets the goal already" };
   lesson.solution = null;
   if (lesson.answer.length === 0) return null;
-  const answer = scheduleOfDraft(ask, lessonText(lesson, [...lesson.start, ...lesson.answer]), lesson.lacks);
+  const answer = scheduleOfDraft(ask, scheduleText(lesson, [...lesson.start, ...lesson.answer]), lesson.lacks);
   if (answer.fault !== null) return refusedLine(ask, lesson, "answer", readFault(answer.fault));
   lesson.solution = answer.text;
   const verdict = judged(ask, lesson, answer.text);
@@ -104,7 +87,6 @@ function troubleOf(ask, lesson) {
   return { line: lesson.line, says: `its answer does not solve it: ${missingIn(verdict)}` };
 }
 
-// A fault of the schedule of a start or an answer, told by the line of the course and in words.
 function refusedLine(ask, lesson, part, { line, cause, says }) {
   const given = lesson.events[line - HEADER_LINES - lesson.opening.length - 1];
   const why = sentenceOn(ask, cause, "a schedule", "a draft");
@@ -112,7 +94,6 @@ function refusedLine(ask, lesson, part, { line, cause, says }) {
   return { line: given.number, says: `its ${part} is refused at "${given.line}": ${why}` };
 }
 
-// A course that is read and, where its text has no fault, tried: its name, its lessons, and all faults by their lines.
 export function triedCourse(ask, text) {
   const { name, lessons, faults } = readCourse(text);
   for (const lesson of faults.length === 0 ? lessons : []) {

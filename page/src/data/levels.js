@@ -1,6 +1,5 @@
-// Break it: of each list that lacks a check a story, three hints, what it lacks, and two sentences that are not so, each with the reply
-// to it; the calls that A and B begin with; what is struck out of the code (of the line of a row); and the events and calls of the
-// schedule in examples/schedules/lacks. Who links to a level, or sets it as homework, names its number, the place here: none is given anew.
+// Break it, of each list that lacks a check: what it lacks, what is not so and the reply to that, the first calls, the events and calls of
+// the shortest run known, and what is struck out. A level is linked by its number, its place here: none is given anew.
 
 export const BREAK_LEVELS = {
   lock: {
@@ -15,8 +14,7 @@ export const BREAK_LEVELS = {
       "It releases the lock before it writes the arrow.": "it releases the lock only after that",
       "It writes the arrow of pred before that of its own node.": "it writes the arrow of its own node first",
     },
-    start: [["add", 5], ["add", 4]], shortest: [20, 2],
-    missing: [{ row: 1, part: "lock the list" }],
+    start: [["add", 5], ["add", 4]], shortest: [20, 2], missing: [{ row: 1, part: "lock the list" }],
   },
   "mark-in-remove": {
     story: "Two threads remove one key. One of them should answer that it came too late.",
@@ -30,8 +28,7 @@ export const BREAK_LEVELS = {
       "A remove takes its node out before it marks it.": "it marks the node first",
       "A remove does not look whether its key is there.": "it compares curr.key with its key",
     },
-    start: [["remove", 3], ["remove", 3]], shortest: [14, 2],
-    missing: [{ row: 9, part: "no mark" }],
+    start: [["remove", 3], ["remove", 3]], shortest: [14, 2], missing: [{ row: 9, part: "no mark" }],
   },
   mark: {
     story: "Removing a node is one compare-and-set here. Fast. Too fast?",
@@ -45,8 +42,7 @@ export const BREAK_LEVELS = {
       "A remove marks a node that is marked already.": "it marks no node at all",
       "An add writes its arrow without comparing.": "it compares with what it saw",
     },
-    start: [["add", 5], ["remove", 3]], shortest: [15, 2],
-    missing: [{ row: 9, part: "CAS curr.next: succ, no mark → mark" }],
+    start: [["add", 5], ["remove", 3]], shortest: [15, 2], missing: [{ row: 9, part: "CAS curr.next: succ, no mark → mark" }],
   },
   "new-slot": {
     story: "Each key that is added needs a node of its own. Does it get one?",
@@ -56,8 +52,7 @@ export const BREAK_LEVELS = {
       "An add does not look whether its key is there.": "it compares curr.key with its key",
       "An add writes its arrow without comparing.": "it compares with what it saw",
     },
-    start: [["add", 4], ["add", 5]], shortest: [20, 2],
-    missing: [{ row: 5, part: "new " }],
+    start: [["add", 4], ["add", 5]], shortest: [20, 2], missing: [{ row: 5, part: "new " }],
   },
   "second-lock": {
     story: "Hand over hand means two locks at a time. Here one hand stays in the pocket.",
@@ -71,8 +66,7 @@ export const BREAK_LEVELS = {
       "A remove does not lock pred.": "it locks pred, and keeps that lock until it has written",
       "A remove releases its lock before it writes.": "it releases its lock only after that",
     },
-    start: [["remove", 3], ["add", 5]], shortest: [21, 2],
-    missing: [{ row: 3, part: "lock curr," }],
+    start: [["remove", 3], ["add", 5]], shortest: [21, 2], missing: [{ row: 3, part: "lock curr," }],
   },
   "hand-over-hand": {
     story: "A walk should never be without a lock, not for one moment.",
@@ -86,8 +80,7 @@ export const BREAK_LEVELS = {
       "It releases its locks before it writes.": "it releases them only after that",
       "A walk does not lock the head.": "it locks the head first of all",
     },
-    start: [["remove", 3], ["add", 5]], shortest: [24, 2],
-    missing: [{ row: 3, part: "pred still locked" }],
+    start: [["remove", 3], ["add", 5]], shortest: [24, 2], missing: [{ row: 3, part: "pred still locked" }],
   },
   "second-walk": {
     story: "It locks two nodes, and looks again. But what does it look at?",
@@ -131,8 +124,7 @@ export const BREAK_LEVELS = {
       "A remove does not mark its node.": "it marks the node before it unlinks it",
       "An add does not look whether its key is there.": "it compares curr.key with its key",
     },
-    start: [["add", 5], ["remove", 3]], shortest: [17, 2],
-    missing: [{ row: 7, part: "no mark" }],
+    start: [["add", 5], ["remove", 3]], shortest: [17, 2], missing: [{ row: 7, part: "no mark" }],
   },
   "same-node": {
     story: "The second walk looks for pred. It meets something that looks like it.",
@@ -146,8 +138,7 @@ export const BREAK_LEVELS = {
       "It does not walk a second time.": "it walks from the head again, with its locks",
       "It does not lock pred.": "it locks pred and curr",
     },
-    start: [["add", 5], ["remove", 3]], shortest: [36, 3],
-    missing: [{ row: 7, part: "pred is met" }],
+    start: [["add", 5], ["remove", 3]], shortest: [36, 3], missing: [{ row: 7, part: "pred is met" }],
   },
   "mark-at-key": {
     story: "A marked node can stay in the chain for a while. Who reads it there?",
@@ -161,8 +152,7 @@ export const BREAK_LEVELS = {
       "A remove does not mark its node.": "it marks the node before it unlinks it",
       "A contains stops before it comes to its key.": "it walks on while curr.key is below its key",
     },
-    start: [["add", 5], ["remove", 7]], shortest: [26, 3],
-    missing: [{ row: 22, part: "and unmarked" }],
+    start: [["add", 5], ["remove", 7]], shortest: [26, 3], missing: [{ row: 22, part: "and unmarked" }],
   },
   "mark-in-ceiling": {
     story: "ceiling(2) asks for the smallest key from 2 on. It takes the first node that it finds. Any node?",
@@ -176,8 +166,7 @@ export const BREAK_LEVELS = {
       "A ceiling stops before it comes to its key.": "it walks on while curr.key is below its key",
       "A remove does not mark its node.": "it marks the node before it unlinks it",
     },
-    start: [["remove", 3], ["contains", 3]], shortest: [16, 3],
-    missing: [{ row: 25, part: "if marked: start again;" }],
+    start: [["remove", 3], ["contains", 3]], shortest: [16, 3], missing: [{ row: 25, part: "if marked: start again;" }],
   },
   "mark-in-contains": {
     story: "Here contains does not look at the mark. No schedule is known after which no order explains the calls. Why not?",
@@ -188,21 +177,14 @@ export const BREAK_LEVELS = {
     ],
     lacks: "A contains does not look at the mark of its node.",
     others: {},
-    start: [["remove", 3], ["contains", 3]], shortest: null,
-    missing: [{ row: 22, part: "and unmarked" }],
+    start: [["remove", 3], ["contains", 3]], shortest: null, missing: [{ row: 22, part: "and unmarked" }],
   },
 };
 
-// From one lock to none, and three more.
-export const TEN = [
-  "lock", "second-lock", "hand-over-hand", "second-walk", "same-node", "marks-in-validation", "mark-in-remove", "mark", "mark-in-add",
-  "mark-at-key",
-];
+export const TEN = ["lock", "second-lock", "hand-over-hand", "second-walk", "same-node", "marks-in-validation", "mark-in-remove", "mark",
+  "mark-in-add", "mark-at-key"];
 export const THREE_MORE = ["new-slot", "mark-in-ceiling", "mark-in-contains"];
-
 const NUMBERED = Object.keys(BREAK_LEVELS);
 export const numberOfLevel = (name) => NUMBERED.indexOf(name) + 1;
 export const levelOfNumber = (number) => NUMBERED[Number(number) - 1];
-
-// The reply to a sentence that is not what a list lacks.
 export const whyWrong = (name, sentence) => `No: ${BREAK_LEVELS[name].others[sentence]}. Look for the line that this list makes differently.`;

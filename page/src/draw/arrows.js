@@ -5,7 +5,6 @@ import { FOLD_WIDTH, LEAST_GAP, NODE_HEIGHT, TOP } from "./places.js";
 
 export const LINK_WIDTH = 24;
 
-// The arrow of a node's link.
 export function drawLink(state, name, places, event) {
   const { link, reached } = state.nodes[name];
   const target = linkTarget(link);
@@ -16,9 +15,7 @@ export function drawLink(state, name, places, event) {
   const isMarked = link.endsWith("*");
   const x = from.x + from.width - (isMarked ? 1 : LINK_WIDTH / 2);
   const y = from.y + NODE_HEIGHT / 2;
-  return tag(
-    "g",
-    { class: `link ${kind}${from.aside ? " aside" : ""}`, "data-part": `link ${name}`, "data-to": target },
+  return tag("g", { class: `link ${kind}${from.aside ? " aside" : ""}`, "data-part": `link ${name}`, "data-to": target },
     title(`${name}.link: ${said(link)}`),
     isMarked ? "" : tag("circle", { cx: x, cy: y, r: 4 }),
     tag("path", { d: pathOf(from, to, x, y), "marker-end": `url(#tip-${kind})` }),
@@ -43,11 +40,9 @@ function bent(start, ...turns) {
   return `M${start[0]} ${start[1]}${corners.join("")}`;
 }
 
-// From a node to itself: around its corner, and into its top.
 const pathAround = (from, x1, y1) => bent([x1, y1], from.x + from.width + 10, from.y - 12, from.x + from.width - 12, from.y - 3);
 
-// From a node below the chain to one in it: along under the registers, and up through the gap left of the node into its side. No
-// register is written there.
+// From a node below the chain to one in it: along under the registers, and up through the gap left of the node.
 function pathUp(from, to, x1, y1) {
   const beside = from.x + from.width + 8;
   const under = from.y - 34 - 6 * from.lane;
@@ -65,7 +60,6 @@ const ARROW = { viewBox: "0 0 10 10", refX: 9, refY: 5, markerWidth: 11, markerH
 export const drawTip = (kind) =>
   tag("marker", { id: `tip-${kind}`, class: `tip ${kind}`, ...ARROW, orient: "auto" }, tag("path", { d: "M0 0 L10 5 L0 10 z" }));
 
-// The arrow from a fold to what comes after it; the tail is never folded.
 export function drawFoldLink(item, next) {
   const y = TOP + NODE_HEIGHT / 2;
   const path = { d: `M${item.x + FOLD_WIDTH} ${y} L${next.x - 3} ${y}`, "marker-end": "url(#tip-in)" };

@@ -1,12 +1,9 @@
-// Gentle changes of a drawing: what has a name (data-part) moves from where it stood, what is new comes in, and an arrow that leads
-// elsewhere draws itself. The drawing is complete at once: this only plays over it, and not for who asks for less motion.
+// Gentle changes of a drawing, which is complete at once: what has a name (data-part) glides over it from where it stood.
 
 const TIME = 260; // milliseconds
 const EASE = { duration: TIME, easing: "cubic-bezier(.2, .7, .2, 1)" };
-
 const wantsStill = () => matchMedia("(prefers-reduced-motion: reduce)").matches;
 
-// Of each named part of a drawing where it stands, in its own coordinates, and where its arrow leads.
 function placesIn(box) {
   const places = new Map();
   for (const part of box.querySelectorAll("[data-part]")) {
@@ -29,7 +26,6 @@ function glideArrow(part, before) {
   }
 }
 
-// Draws, and lets the parts glide from where they stood before, where the two drawings are of one run and one event apart.
 export function glide(box, draw, isNear) {
   const before = isNear && !wantsStill() && !document.hidden ? placesIn(box) : null;
   draw();

@@ -1,6 +1,5 @@
 // Draws the history: a bar for each call, the moment at which it takes effect, the contents of the set below, and the order.
 import { callText, colourOf, label, letterOf, tag, title } from "../run/markup.js";
-import { labelWidth, placeLabels, ROW_HEIGHT, signOf, SIGNS_IN_WORDS } from "./labels.js";
 
 export const HISTORY_LEFT = 50;
 const HISTORY_RIGHT = 16;
@@ -20,26 +19,22 @@ function windowOf(total, count, room) {
 
 const shownIn = ({ calls }, first, last) => calls.filter(({ begun, ended }) => begun <= last && (ended === null || ended >= first));
 
-// How high the bars are, and how many rows of labels a lane may have, by the number of threads.
 function formOf(threads) {
   if (threads > 12) return { bar: 9, below: 1, mostRows: 1 };
   if (threads > 6) return { bar: 13, below: 4, mostRows: 1 };
   return { bar: BAR, below: BELOW, mostRows: threads > 3 ? 2 : 3 };
 }
 
-// The labels of the calls that are drawn, by the numbers of the calls, and how many rows they take.
-function layLabels(trace, calls, spanOf, edge, mostRows) {
+export function layLabels(threads, calls, itemOf, room) {
   const places = new Map();
-  for (let thread = 0; thread < trace.threads; thread++) {
+  for (let thread = 0; thread < threads; thread++) {
     const own = calls.filter((call) => call.thread === thread);
-    const items = own.map((call) => ({ ...spanOf(call), wide: labelWidth(call) }));
-    placeLabels(items, { start: HISTORY_LEFT - 6, edge, mostRows }).forEach((place, at) => places.set(own[at].id, place));
+    placeLabels(own.map(itemOf), room).forEach((place, at) => places.set(own[at].id, place));
   }
   const found = [...places.values()].filter((place) => place !== null);
   return { places, rows: Math.max(1, ...found.map(({ row }) => row + 1)), areWhole: found.length === places.size };
 }
 
-// Where an event stands, a thread's lane, and the labels of the calls. What comes after the event that is shown may be hidden.
 export function scaleOf(trace, count, width, hides = false) {
   const { first, last } = windowOf(trace.total, count, width - HISTORY_LEFT - HISTORY_RIGHT);
   const isWhole = first === 1 && last >= trace.total;
@@ -50,33 +45,22 @@ export function scaleOf(trace, count, width, hides = false) {
   const leftOf = ({ begun }) => (begun < first ? HISTORY_LEFT - 6 : x(begun));
   const rightOf = ({ ended }) => (ended === null || ended > last ? edge : x(ended));
   const spanOf = (call) => ({ left: leftOf(call), right: rightOf(call) });
-  const labels = layLabels(trace, shownIn(trace, first, last), spanOf, width, mostRows);
+  const itemOf = (call) => ({ ...spanOf(call), wide: widthOf(callText(call), call.reply ?? "") });
+  const labels = layLabels(trace.threads, shownIn(trace, first, last), itemOf, { start: HISTORY_LEFT - 6, edge: width, mostRows });
   const above = ROW_HEIGHT * (isWhole ? labels.rows : mostRows);
   const lane = above + bar + below;
-  return {
-    first,
-    last,
-    step,
-    lane,
-    bar,
-    width,
-    count,
-    now: hides ? count : Infinity, // the last event of which something is told
-    edge,
-    height: 6 + trace.threads * lane + (isWhole && labels.areWhole ? 0 : ROW_HEIGHT),
-    x,
-    y: (thread) => 2 + thread * lane + above + bar / 2,
-    spanOf,
-    labels: labels.places,
-    areWhole: labels.areWhole,
-  };
+  const now = hides ? count : Infinity; // the last event of which something is told
+  const height = 6 + trace.threads * lane + (isWhole && labels.areWhole ? 0 : ROW_HEIGHT);
+  const y = (thread) => 2 + thread * lane + above + bar / 2;
+  const { places, areWhole } = labels;
+  return { first, last, step, lane, bar, width, count, now, edge, height, x, y, spanOf, labels: places, areWhole };
 }
 
 // A point is reached once the call that has it is known to stand there: at its change, or when it answers.
 export const isReached = (call, count) => call.at <= count && (call.changes || (call.ended !== null && call.ended <= count));
 
-function drawLane(scale, thread) {
-  const y = scale.y(thread);
+export function drawLane(scale, thread, place = thread) {
+  const y = scale.y(place);
   const badge = tag("rect", { x: 2, y: y - 10, width: 38, height: 20, rx: 4 }) + label({ x: 21, y: y + 5 }, letterOf(thread));
   return (
     tag("line", { class: "lane", x1: HISTORY_LEFT - 6, x2: scale.edge, y1: y, y2: y }) +
@@ -97,16 +81,13 @@ function drawBar(call, scale) {
   const isOpen = call.ended === null || call.ended > now;
   const right = isOpen && now <= last ? Math.min(end, scale.x(now)) : end;
   const state = `${call.begun <= count ? "begun" : "later"}${isOpen ? " open" : ""}`;
-  return tag(
-    "g",
-    { class: `bar ${state} ${colourOf(call.thread)}` },
+  return tag("g", { class: `bar ${state} ${colourOf(call.thread)}` },
     title(callInWords(call, now)),
     tag("rect", { x: left, y: top, width: Math.max(right - left, 4), height: bar, rx: 4 }),
     drawLabel(call, scale, left, top),
   );
 }
 
-// The call and its reply above its bar, whole if there is space.
 function drawLabel(call, scale, left, top) {
   const place = scale.labels.get(call.id);
   if (place === null) return label({ class: "call", x: left, y: top - 4 }, signOf(call));
@@ -116,25 +97,20 @@ function drawLabel(call, scale, left, top) {
   return tag("text", { class: "call", x: place.x, y: top - 4 - ROW_HEIGHT * place.row }, callText(call), reply);
 }
 
-// Whether the point of a call is drawn.
 const isShown = (call, scale) => scale.now === Infinity || isReached(call, scale.now);
 
-// The point of a call: a disc where it changes the set, a ring where its reply fits there.
 function drawPoint(call, scale) {
   const x = scale.x(call.at);
   const y = scale.y(call.thread);
   const state = isReached(call, scale.count) ? "reached" : "later";
   const how = call.changes ? "changes the set at" : "does not change the set; its reply is correct at";
-  return tag(
-    "g",
-    { class: `point ${state} ${colourOf(call.thread)}` },
+  return tag("g", { class: `point ${state} ${colourOf(call.thread)}` },
     title(`call ${call.id}, ${callText(call)}, ${how} event ${call.at}`),
     tag("circle", { cx: x, cy: y, r: 6.5 }),
     call.changes ? "" : tag("circle", { class: "hole", cx: x, cy: y, r: 3 }),
   );
 }
 
-// The line from a point down to the contents of the set, behind the labels.
 function drawStem(call, scale) {
   const x = scale.x(call.at);
   const state = isReached(call, scale.count) ? "reached" : "later";
@@ -148,7 +124,6 @@ export function drawCursor(scale, bottom, top = 0) {
   return tag("line", { class: "cursor", x1: x, x2: x, y1: top, y2: bottom });
 }
 
-// The bars and points: the part that scrolls where there are many threads.
 export function drawCalls(trace, scale) {
   const { first, last, width, height } = scale;
   const shown = shownIn(trace, first, Math.min(last, scale.now));
@@ -163,3 +138,35 @@ export function drawCalls(trace, scale) {
   const signs = scale.areWhole ? "" : label({ class: "note", x: 2, y: height - 4 }, SIGNS_IN_WORDS);
   return tag("svg", frame, ...lanes, drawCursor(scale, height, scale.y(0) - scale.bar / 2 - 2), ...stems, ...bars, ...points, signs);
 }
+
+// ---- the words of calls above their bars: their places follow from the whole run, so that nothing jumps
+const LETTER = 7.1; // pixels of a letter of a label
+const BOLD = 8; // and of one of a reply
+const BETWEEN = 8; // two labels of a row
+export const ROW_HEIGHT = 15;
+export const widthOf = (text, reply = "") => LETTER * text.length + (reply === "" ? 0 : LETTER + BOLD * reply.length);
+
+// Of each item, { left, right, wide } by their left ends, its place { x, row }; null if no row has space. A label begins at the left end of
+// its bar, in the first row (0 is next to the bar) that is free there, or else ends at its right end.
+function placeLabels(items, { start, edge, mostRows }) {
+  const taken = Array.from({ length: mostRows }, () => start);
+  return items.map(({ left, right, wide }) => {
+    for (const x of [Math.min(left, edge - wide), Math.min(right, edge) - wide]) {
+      const row = taken.findIndex((end) => x >= end);
+      if (row === -1) continue;
+      taken[row] = x + wide + BETWEEN;
+      return { x, row };
+    }
+    return null;
+  });
+}
+
+// If a label has no space its call is written by signs, which a line of the drawing explains.
+const SIGNS = {
+  add: (key) => `+${key}`,
+  remove: (key) => `\u2212${key}`,
+  contains: (key) => `${key}?`,
+  ceiling: (key) => `\u2308${key}\u2309`,
+};
+const SIGNS_IN_WORDS = "+5 add, \u22125 remove, 5? contains, \u23085\u2309 ceiling of 5; more by a click on a bar";
+export const signOf = ({ operation, key }) => SIGNS[operation](key);

@@ -1,16 +1,14 @@
 // Draws the bars on which the reader puts points: each is a slider for the keyboard; the call that clashes is red.
 import { lastMoment, nameOfCall } from "../run/judged.js";
-import { callText, chipOf, colourOf, escaped, label, letterOf, tag, title } from "../run/markup.js";
+import { callText, chipOf, colourOf, escaped, label, tag, title } from "../run/markup.js";
 import { recordedInWords } from "../run/recorded.js";
-import { placeLabels, ROW_HEIGHT, signOf, widthOf } from "./labels.js";
+import { drawLane, HISTORY_LEFT, layLabels, ROW_HEIGHT, signOf, widthOf } from "./history.js";
 
-const JUDGE_LEFT = 50;
 const JUDGE_RIGHT = 20;
 const JUDGE_BAR = 30;
 const JUDGE_BELOW = 8; // pixels between a bar and the labels of the next lane
 const MOST_ROWS = 3; // of labels
 const SLOT_WIDTH = 60; // of the words of a point
-
 const leftOf = ({ begun }, { x, step }) => x(begun) - step / 2;
 const rightOf = (call, { x, step, last }) => x(call.ended ?? last) + step / 2;
 
@@ -21,37 +19,20 @@ function widthOfCall(call) {
   return Math.max(...replies.map((reply) => widthOf(callText(call), reply)));
 }
 
-// Where a moment stands, a thread's lane, and the labels of the calls.
 export function judgeScale({ last, threads, calls }, width) {
-  const step = (width - JUDGE_LEFT - JUDGE_RIGHT) / last;
-  const across = { step, last, x: (moment) => JUDGE_LEFT + (moment - 0.5) * step };
-  const labels = new Map();
-  for (let thread = 0; thread < threads; thread++) {
-    const own = calls.filter((call) => call.thread === thread).sort((one, other) => one.begun - other.begun);
-    const items = own.map((call) => ({ left: leftOf(call, across), right: rightOf(call, across), wide: widthOfCall(call) }));
-    placeLabels(items, { start: 2, edge: width, mostRows: MOST_ROWS }).forEach((place, at) => labels.set(own[at].id, place));
-  }
-  const above = ROW_HEIGHT * Math.max(1, ...[...labels.values()].map((place) => (place?.row ?? 0) + 1)) + 4;
+  const step = (width - HISTORY_LEFT - JUDGE_RIGHT) / last;
+  const across = { step, last, x: (moment) => HISTORY_LEFT + (moment - 0.5) * step };
+  const itemOf = (call) => ({ left: leftOf(call, across), right: rightOf(call, across), wide: widthOfCall(call) });
+  const inOrder = [...calls].sort((one, other) => one.begun - other.begun);
+  const { places: labels, rows } = layLabels(threads, inOrder, itemOf, { start: 2, edge: width, mostRows: MOST_ROWS });
+  const above = ROW_HEIGHT * rows + 4;
   const lane = above + JUDGE_BAR + JUDGE_BELOW;
-  return {
-    ...across,
-    width,
-    labels,
-    height: 4 + threads * lane,
-    y: (thread) => 2 + thread * lane + above + JUDGE_BAR / 2,
-    momentAt: (x) => (x - JUDGE_LEFT) / step + 0.5,
-  };
+  const y = (thread) => 2 + thread * lane + above + JUDGE_BAR / 2;
+  const momentAt = (x) => (x - HISTORY_LEFT) / step + 0.5;
+  return { ...across, width, edge: width - JUDGE_RIGHT, labels, height: 4 + threads * lane, y, momentAt };
 }
 
 const momentInWords = (at) => (Number.isInteger(at) ? `at ${at}` : `after ${Math.floor(at)}`);
-
-function drawJudgedLane(scale, place, thread = place) {
-  const y = scale.y(place);
-  const badge = tag("rect", { x: 2, y: y - 10, width: 38, height: 20, rx: 4 }) + label({ x: 21, y: y + 5 }, letterOf(thread));
-  const lane = { class: "lane", x1: JUDGE_LEFT - 6, x2: scale.width - JUDGE_RIGHT, y1: y, y2: y };
-  return tag("line", lane) + tag("g", { class: `badge ${colourOf(thread)}` }, badge);
-}
-
 const OPEN = "(pending)";
 const saidOf = (call, answer) => (call.ended === null ? OPEN : (answer.replyOf(call) ?? "?"));
 
@@ -62,13 +43,9 @@ function drawJudgedCall(call, { answer, exercise, verdict, scale }) {
   const isClash = verdict?.clash === call.id;
   const where = point === undefined ? "not placed yet" : momentInWords(point.at);
   const slider = {
-    role: "slider",
-    tabindex: 0,
-    "data-call": call.id,
+    role: "slider", tabindex: 0, "data-call": call.id,
     "aria-label": `where ${nameOfCall(call)}, ${reply === "?" ? "its reply not said yet" : reply}, takes effect`,
-    "aria-valuemin": call.begun,
-    "aria-valuemax": lastMoment(exercise, call),
-    "aria-valuenow": point?.at ?? call.begun,
+    "aria-valuemin": call.begun, "aria-valuemax": lastMoment(exercise, call), "aria-valuenow": point?.at ?? call.begun,
     "aria-valuetext": `${where}${isClash ? ", and clashes there" : ""}`,
     class: `bar own ${colourOf(call.thread)}${isClash ? " clash" : ""}${call.ended === null ? " open" : ""}`,
   };
@@ -76,7 +53,6 @@ function drawJudgedCall(call, { answer, exercise, verdict, scale }) {
   return tag("g", slider, bar, point === undefined ? "" : drawOwnPoint(call, point.at, y, scale));
 }
 
-// A bar with its call and reply above it, whole if there is space.
 function drawJudgedBar(call, reply, scale, y) {
   const [left, right] = [leftOf(call, scale), rightOf(call, scale)];
   const rect = { x: left, y: y - JUDGE_BAR / 2, width: Math.max(right - left, 12), height: JUDGE_BAR, rx: 4 };
@@ -88,8 +64,7 @@ function drawJudgedBar(call, reply, scale, y) {
 
 const frameOf = ({ width, height }) => ({ width, height, viewBox: `0 0 ${width} ${height}` });
 
-// Recorded calls as bars, each thread's in a lane and their moments one after the other: a clock may leave any room between two. A line
-// stands at the moment from which those of a refusal have no order.
+// Recorded calls as bars, their moments one after the other; a line stands where those of a refusal begin to have no order.
 export function drawRecorded(calls, from, width) {
   const inOrder = (numbers) => [...new Set(numbers)].sort((one, other) => (one < other ? -1 : 1));
   const threads = inOrder(calls.map(({ thread }) => thread));
@@ -104,7 +79,7 @@ export function drawRecorded(calls, from, width) {
     const still = { class: `bar own still ${colourOf(threads[call.thread])}${call.ended === null ? " open" : ""}` };
     return tag("g", still, title(recordedInWords(calls[call.id])), bar);
   });
-  const lanes = threads.map((thread, at) => drawJudgedLane(scale, at, thread));
+  const lanes = threads.map((thread, at) => drawLane(scale, thread, at));
   const below = from === null ? 0 : ROW_HEIGHT;
   const frame = { ...frameOf({ ...scale, height: scale.height + below }), role: "img", "aria-label": calls.map(nameOfCall).join(", ") };
   return tag("svg", frame, ...lanes, from === null ? "" : drawFrom(from.says, scale, momentOf(from.moment)), ...bars);
@@ -133,7 +108,7 @@ function drawWhen(call, at, y, scale) {
 
 export function drawJudged(judged) {
   const { exercise, scale, moment } = judged;
-  const lanes = Array.from({ length: exercise.threads }, (_, thread) => drawJudgedLane(scale, thread));
+  const lanes = Array.from({ length: exercise.threads }, (_, thread) => drawLane(scale, thread));
   const at = exercise.level === "claim" ? moment : judged.count;
   const line = { class: "cursor", x1: scale.x(at), x2: scale.x(at), y1: 0, y2: scale.height };
   const frame = { ...frameOf(scale), role: "group", "aria-label": "the calls, each with a point to place" };
@@ -153,7 +128,6 @@ export function drawOwnOrder(answer) {
   return `<ol>${placed.join("")}${others.join("")}</ol>`;
 }
 
-// What a report tells of a moment of it.
 export function momentOfReport({ calls, last }, moment) {
   if (moment === 0) return `Before the first of ${last} moments.`;
   const begun = calls.find((call) => call.begun === moment);

@@ -7,7 +7,6 @@ import { drawFoldLink, drawLink, drawTip, LINK_WIDTH } from "./arrows.js";
 import { FOLD_WIDTH, isPointing, NODE_HEIGHT, TOP } from "./places.js";
 const LOCK_HEIGHT = 31; // of what stands above a node
 
-// What a node is: one of the chain, a thread's own that is not in it yet, or one that was taken out.
 function kindOf(state, name, place) {
   if (!state.nodes[name].reached) return `own ${colourOf(ownerOf(state.trace, name))}`;
   return place.aside ? "out" : "in";
@@ -31,9 +30,7 @@ function drawNode(state, name, place, event) {
   const size = { x, y, width, height: NODE_HEIGHT, rx: 5 };
   const box = isMarked ? { ...size, class: "box marked", style: "fill:url(#hatch)" } : { ...size, class: "box" };
   const side = x + width - LINK_WIDTH;
-  return tag(
-    "g",
-    { class: `node ${kind}`, "data-part": `node ${name}`, "data-x": x, "data-y": y },
+  return tag("g", { class: `node ${kind}`, "data-part": `node ${name}`, "data-x": x, "data-y": y },
     title(nodeInWords(node, name, kind)),
     hot === name ? drawHot(place) : "",
     tag("rect", box),
@@ -42,11 +39,10 @@ function drawNode(state, name, place, event) {
     drawKey(node, (x + side) / 2, y + 34, isRead),
     label({ class: "name", x: x + 2, y: y - 10 }, name),
     isMarked ? label({ class: "cross", x: side + LINK_WIDTH / 2, y: y + 34 }, "✗") : "",
-    node.lock === "free" ? "" : drawLock(node.lock, x + width - 38, y - 28),
+    node.lock === "free" ? "" : drawLock(node.lock, x + Math.max(width - 38, 44), y - 28),
   );
 }
 
-// The frame of the node that the event touches.
 const drawHot = ({ x, y, width }) =>
   tag("rect", { "data-hot": x, class: "hot", x: x - 6, y: y - 6, width: width + 12, height: NODE_HEIGHT + 12, rx: 9 });
 
@@ -56,12 +52,9 @@ function drawKey(node, x, y, isTouched) {
   return label({ class: isTouched ? "key touched" : "key", x, y, style: `font-size:${size}px` }, text);
 }
 
-// A padlock with the thread that has it.
 function drawLock(lock, x, y) {
   const thread = Number(lock.slice(1));
-  return tag(
-    "g",
-    { class: `lock ${colourOf(thread)}`, transform: `translate(${x},${y})` },
+  return tag("g", { class: `lock ${colourOf(thread)}`, transform: `translate(${x},${y})` },
     title(`locked by ${holderOf(lock)}`),
     tag("path", { d: "M12 9 v-3 a6 6 0 0 1 12 0 v3" }),
     tag("rect", { x: 0, y: 8, width: 36, height: 18, rx: 4 }),
@@ -72,9 +65,7 @@ function drawLock(lock, x, y) {
 function drawFold(item) {
   const { x } = item;
   const count = item.folded.length;
-  return tag(
-    "g",
-    { class: "fold" },
+  return tag("g", { class: "fold" },
     title(`${count} nodes of the chain that no thread is at`),
     tag("rect", { x, y: TOP + 9, width: FOLD_WIDTH, height: NODE_HEIGHT - 18, rx: 18 }),
     label({ x: x + FOLD_WIDTH / 2, y: TOP + NODE_HEIGHT / 2 + 5 }, `… ${count} …`),
@@ -93,19 +84,9 @@ function drawListLock(state) {
   return label({ class: "name", x: 16, y: 20 }, "the list's lock") + lock;
 }
 const HATCH = { id: "hatch", width: 7, height: 7, patternUnits: "userSpaceOnUse", patternTransform: "rotate(45)" };
-const DEFINITIONS = tag(
-  "defs",
-  {},
-  tag(
-    "pattern",
-    HATCH,
-    tag("rect", { class: "ground", width: 7, height: 7 }),
-    tag("line", { class: "stripe", x1: 0, x2: 0, y1: 0, y2: 7 }),
-  ),
-  ...["in", "out", "hot"].map(drawTip),
-);
+const STRIPES = tag("rect", { class: "ground", width: 7, height: 7 }) + tag("line", { class: "stripe", x1: 0, x2: 0, y1: 0, y2: 7 });
+const DEFINITIONS = tag("defs", {}, tag("pattern", HATCH, STRIPES), ...["in", "out", "hot"].map(drawTip));
 
-// The list as it is arranged, at least so high. Where several lists are drawn, each has a name for what its arrows and hatches refer to.
 export function drawList(state, event, { chain, items, places, labels, names, more, width, height: high }, least = 0, own = "") {
   const above = state.trace.kind === "coarse" ? -4 : TOP - LOCK_HEIGHT; // the list's own lock stands there
   const height = Math.max(high, least) - above;
@@ -119,7 +100,6 @@ export function drawList(state, event, { chain, items, places, labels, names, mo
   return named + (more > 0 ? tag("p", { class: "note" }, `and ${more} more nodes that are not in the chain`) : "");
 }
 
-// The chain for a reader of the screen, and who has what: the locks, and where each thread with a call stands.
 function listInWords(chain, state) {
   const inside = chain.filter((name) => name !== "head" && name !== "tail").map((name) => state.nodes[name]);
   const keys = inside.map((node) => keyText(node.key) + (node.link.endsWith("*") ? " marked" : ""));

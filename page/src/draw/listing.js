@@ -1,23 +1,19 @@
-// Draws the listing: the proved code of the open calls, each thread at its line. A call that has no loop of its own is made by the
-// interpreter: of it the rows of the table.
+// Draws the proved code of the open calls, each thread at its line; of a call without a loop of its own the rows of the table.
 import { CODE, CODE_OF } from "../../made/code.js";
 import { LISTS } from "../../made/rows.js";
 import { callText, chipOf, escaped, tag } from "../run/markup.js";
 
-// The steps of these functions that make a row, each with its function.
 function stepsAt(functions, row) {
   return functions.flatMap((code) => code.steps.filter(({ rows }) => rows.includes(row)).map((step) => ({ code, ...step })));
 }
 
-// The functions of a call: of the file that has a line for each of its rows. Null where none has.
 export function codeOf(kind, { operation }) {
   const { rows } = LISTS[kind].calls[operation];
   const file = CODE_OF[kind].find((name) => rows.every((row) => stepsAt(CODE[name], row).length > 0));
   return file === undefined ? null : { file, functions: CODE[file] };
 }
 
-// The line at which a thread stands. Where several make its row, that which comes where its call has come to: at its beginning, or
-// with a reply, or in the function that made the row before, or that called this one.
+// The line at which a thread stands. Where several make its row, that which comes where its call has come to.
 export function stepOf(functions, held) {
   let found = stepsAt(functions, held.pc);
   const came = stepsAt(functions, held.came).map(({ code }) => code.name);
@@ -31,7 +27,6 @@ export function stepOf(functions, held) {
   return found[0];
 }
 
-// The lines that have called the function of a step, from call to call.
 function callersOf(functions, name) {
   const calls = functions.flatMap((code) => code.calls.map(([line, called]) => ({ line, called, name: code.name })));
   const direct = calls.filter(({ called }) => called === name);
@@ -43,7 +38,6 @@ const rowText = (kind, number) => {
   return `row ${number}: ${escaped(step)} <span class="then">→ ${escaped(then)}</span> <small>${escaped(book)}</small>`;
 };
 
-// What is said at a line of the threads that stand there, by their rows.
 function standingText(kind, threads) {
   const rows = [...new Set(threads.map(({ held }) => held.pc))];
   const chips = (row) => threads.filter(({ held }) => held.pc === row).map(({ thread }) => chipOf(thread)).join(" ");
@@ -59,7 +53,6 @@ function lineItem(number, text, isSaid, kind, threads) {
   return tag("li", inside.length > 0 ? { class: "inside" } : {}, ...shown);
 }
 
-// A function, and the threads that stand in it or in what it calls. What is said of it ends where its body begins.
 function functionOf(code, kind, threads) {
   const lines = code.text.trimStart().split("\n");
   const body = lines.indexOf("{");
@@ -67,13 +60,11 @@ function functionOf(code, kind, threads) {
   return tag("ol", { class: "code" }, ...items);
 }
 
-// The code of a file, and the calls that are in it.
 function fileOf(file, functions, kind, threads) {
   const calls = threads.map(({ thread, held }) => `${chipOf(thread)} ${callText(held.call)}`).join(" ");
   return tag("section", {}, tag("h3", {}, `${calls} <small>${file}</small>`), ...functions.map((code) => functionOf(code, kind, threads)));
 }
 
-// The rows of a call, as the table has them.
 function rowsOf(kind, { thread, held }) {
   const items = LISTS[kind].calls[held.call.operation].rows.map((number) => {
     const given = number === held.pc ? { class: "here", "aria-current": "step" } : {};

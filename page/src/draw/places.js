@@ -10,7 +10,6 @@ const WIDE = { node: 94, gap: 48, share: 1 };
 const COMPACT = { node: 76, gap: 32, share: 0.76 }; // share: of the room that a wide one needs
 const NARROW = 480; // pixels
 export const shapeFor = (room) => (room < NARROW ? COMPACT : WIDE);
-
 export const NODE_HEIGHT = 54;
 export const LEAST_GAP = 12; // between nodes that are not in the chain
 export const FOLD_WIDTH = 84;
@@ -20,7 +19,6 @@ const MOST_ASIDE = 10; // nodes drawn that are not in the chain
 const MOST_POINTING = 6; // threads whose registers are drawn
 export const SIGN_WIDTH = 8.6; // of a register's label
 
-// The registers of the threads that point at nodes: of the thread of this event, and then of those with the least numbers.
 function pointersOf(state, event) {
   const inCall = state.threads.map((held, thread) => ({ held, thread })).filter(({ held }) => held.pc !== 0);
   inCall.sort((one, other) => Number(other.thread === event?.thread) - Number(one.thread === event?.thread));
@@ -36,7 +34,6 @@ function pointersOf(state, event) {
 // A register that has the head is drawn only as `pred` of a walk that has begun: it may not have been set yet.
 export const isPointing = (held, name) => held[name] !== "head" || (name === "pred" && held.curr !== "head");
 
-// The nodes that are to be seen whatever is folded.
 function importantNodes(state, event, pointers) {
   const important = new Set(["head", "tail"]);
   if (event?.word) important.add(event.word.split(".")[0]);
@@ -46,7 +43,6 @@ function importantNodes(state, event, pointers) {
   return important;
 }
 
-// The chain with its long stretches that nobody looks at folded.
 function foldedChain(chain, important) {
   if (chain.length <= MOST_UNFOLDED) return chain.map((name) => ({ name }));
   const isNear = (index) => chain.slice(Math.max(index - 1, 0), index + 2).some((name) => important.has(name));
@@ -60,7 +56,6 @@ function foldedChain(chain, important) {
   return items.flatMap((item) => (item.folded?.length === 1 ? [{ name: item.folded[0] }] : [item]));
 }
 
-// The places of the chain's nodes; the nodes of a fold have the fold's place.
 function placesOfChain(items, shape) {
   const places = {};
   let x = 16;
@@ -111,7 +106,6 @@ function roomsUnder(state, items, shown, shape) {
   return rooms;
 }
 
-// The registers of a thread at one node as labels, as many in one as there is room for.
 function labelTexts(thread, registers, room) {
   const texts = [];
   for (const register of registers) {
@@ -142,7 +136,6 @@ function pointerLabels(pointers, places, rooms) {
   return labels;
 }
 
-// The places of all nodes that are drawn, of the registers under them, and the size of the whole.
 export function arranged(state, event, shape) {
   const chain = state.chain();
   const pointers = pointersOf(state, event);

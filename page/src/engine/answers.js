@@ -17,7 +17,6 @@ function callOfRecording(line) {
   return { thread: Number(thread), operation, key: Number(key), ...moments, reply: isOpen ? null : reply };
 }
 
-// A report: its header, its calls, its order as places { call, reply }, and its keys.
 export function readReport(text) {
   const lines = linesIn(text);
   const linesOf = (word) => lines.filter((line) => line.startsWith(`${word} `));
@@ -34,7 +33,6 @@ export function readReport(text) {
   };
 }
 
-// A recording: its first calls, at most so many, and whether it leaves a key.
 export function callsOfRecording(text, most) {
   const calls = [];
   for (const [line] of text.matchAll(/^call .*$/gm)) {
@@ -46,22 +44,19 @@ export function callsOfRecording(text, most) {
 
 export const leavesKey = (text, key) => new RegExp(`^key ${key}$`, "m").test(text);
 
-// The examples in their order, each { name, kind }.
 export const readExamples = (text) =>
   linesIn(text).map((line) => {
     const [name, kind] = line.split(/ +/);
     return { name, kind };
   });
 
-// An error of a text: its line and cause, each null where the answer names none, and the engine's own words.
 export function readFault(text) {
   const says = text.trim();
   const [, line = null, cause = null] = /^listset: line (\d+): (\w+)$/.exec(says) ?? [];
   return { line: line === null ? null : Number(line), cause, says };
 }
 
-// The record of a verdict (listset_judge_record, listset_check_record): lines of a word and its values. Its kind is the verdict's word, or
-// `fault` with the engine's line about the text.
+// The record of a verdict: lines of a word and its values. Its kind is the verdict's word, or `fault` with the engine's line about the text.
 export function readVerdict({ text }) {
   const lines = linesIn(text);
   const find = (word) => lines.find((line) => line.startsWith(`${word} `)) ?? null;
@@ -95,4 +90,15 @@ const FAULT_VALUES = {
 function orderIn([fault, ...values], keys) {
   if (fault === undefined) return null;
   return { fault, set: `{${keys.join(", ")}}`, ...Object.fromEntries((FAULT_VALUES[fault] ?? ["call"]).map((name, at) => [name, values[at]])) };
+}
+
+// ---- The program's sentences on the causes of faults.
+// What the text of `listset faults` says first on a cause in a text of one of these kinds ("a schedule", "recorded calls"), to be read
+// after a colon; null if it says nothing, or there is no cause.
+export function sentenceOn(ask, cause, ...kinds) {
+  if (!cause) return null;
+  const told = ask("listset_faults").text;
+  const parts = kinds.map((kind) => told.split(`, in ${kind};`)[1]?.split("\n\n")[0] ?? "");
+  const [, said] = new RegExp(`^  ${cause} +((?:.|\n {12})+)`, "m").exec(parts.join("\n")) ?? [];
+  return said === undefined ? null : said[0].toLowerCase() + said.slice(1).replace(/\n +/g, " ").replace(/\.( .*)?$/, "");
 }

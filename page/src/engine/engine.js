@@ -22,7 +22,6 @@ export class Engine {
     return new Engine(await WebAssembly.compile(bytes));
   }
 
-  // What an export says of the texts that it takes: the exit status of the program, and what it prints. Those left out are empty.
   ask(name, ...texts) {
     const encoder = new TextEncoder();
     return this.askBytes(name, ...texts.map((text) => encoder.encode(text)));
@@ -50,8 +49,6 @@ export class Engine {
   }
 }
 
-// The bytes of the module. A page that is opened as a file may fetch nothing, and takes them from engine.js; a page that is one file
-// has that script in it.
 async function engineBytes() {
   if (typeof ENGINE === "undefined" && location.protocol === "file:") await loadScript("engine.js");
   if (typeof ENGINE !== "undefined") return Uint8Array.from(atob(ENGINE), (letter) => letter.charCodeAt(0));
@@ -67,7 +64,6 @@ function loadScript(src) {
   });
 }
 
-// Asks once, and a second time with the room that the answer needs.
 export function answerOf(engine, name, given) {
   const texts = textsOf(engine, engine[name].length, given);
   let answer = answerInRoom(engine, name, texts, FIRST_ROOM);
@@ -77,8 +73,7 @@ export function answerOf(engine, name, given) {
   return { status: answer.status, text: new TextDecoder().decode(answer.bytes), bytes: answer.bytes };
 }
 
-// Each text in memory, as its block and its length: as many as a function with so many parameters takes. The last three
-// parameters are the room's block and length, and the status.
+// Each text in memory, as its block and its length; the last three parameters are the room's block and length, and the status.
 export function textsOf(engine, parameters, given) {
   return Array.from({ length: (parameters - 3) / 2 }, (_, at) => {
     const text = given[at] ?? new Uint8Array(0);

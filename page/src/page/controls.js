@@ -1,18 +1,16 @@
 // What the buttons, the slider and the box of the schedule do.
-import { byId } from "./dom.js";
-import { showMarks, watchEditor } from "./editor.js";
-import { openFile, refreshReport, saveText } from "./files.js";
-import { keepUnder, keptUnder } from "./kept.js";
-import { toggleKeys, toggleLecture } from "./keys.js";
+import { CLASSICS } from "../../made/classics.js";
+import { inLetters, tag } from "../run/markup.js";
+import { eventsAsked } from "../run/schedule_text.js";
+import { byId, redraw } from "./dom.js";
+import { onFile, openFile, refreshReport, savePicture, saveText } from "./files.js";
+import { keepUnder, keptUnder, works } from "./kept.js";
 import { cancelLong } from "./long_run.js";
-import { chooseInList } from "./menu.js";
-import { change, dispatch, now } from "./now.js";
-import { changeSpeed, goByHand, togglePlay, wantsLessMotion } from "./play.js";
-import { savePicture } from "./save_picture.js";
+import { change, dispatch, exampleShown, held, isJudging, now } from "./now.js";
+import { changeSpeed, goByHand, toggleKeys, toggleLecture, togglePlay, wantsLessMotion } from "./play.js";
 import { copyLink, keepSoon } from "./visit.js";
-import { newSchedule, runBox, runWithOpening } from "./work.js";
+import { examples, newSchedule, openExample, openKept, openWork, runBox, runWithOpening, showMarks, watchEditor } from "./work.js";
 
-// What cannot be pressed now does nothing.
 export function stopUnable(event) {
   if (event.target.closest?.('[aria-disabled="true"]') == null) return;
   event.stopPropagation();
@@ -40,13 +38,11 @@ export function listenToBar() {
   byId("long-cancel").onclick = cancelLong;
 }
 
-// What the reader has set is kept: whether what is to come is hidden, and whether single letters are keys.
 export function listenToSettings() {
   const kept = keptUnder(SETTINGS) ?? {};
   change("prefs", { hides: kept.hides !== false, letters: kept.letters !== false });
-  byId("hides").checked = now.prefs.hides;
-  byId("single-keys").checked = now.prefs.letters;
   for (const [name, id] of [["hides", "hides"], ["letters", "single-keys"]]) {
+    byId(id).checked = now.prefs[name];
     byId(id).onchange = () => {
       dispatch("prefs", { [name]: byId(id).checked });
       keepUnder(SETTINGS, { hides: now.prefs.hides, letters: now.prefs.letters });
@@ -75,13 +71,12 @@ export function listenToWork() {
 
 export function listenToFiles() {
   byId("report-box").ontoggle = refreshReport;
-  byId("file").onchange = () => openFile(byId("file").files[0]).then(() => (byId("file").value = ""));
+  onFile(byId("file"), openFile);
   byId("save-schedule").onclick = () => saveText("page.schedule", byId("schedule").value);
   byId("save-trace").onclick = () => saveText("page.trace", now.run.trace.text);
   byId("save-picture").onclick = savePicture;
 }
 
-// Where there is room for one column alone, the steps stand below the history, and what is not needed at first is folded.
 export function placeParts() {
   const narrow = matchMedia("(max-width: 940px)");
   const place = () => {
@@ -89,4 +84,50 @@ export function placeParts() {
   };
   narrow.addEventListener("change", place);
   place();
+}
+
+// ---- what can be opened by its name, and the question of the example that is shown
+const WORK = "work: ";
+
+export function fillWorks() {
+  const options = [...works.byName].reverse().map(([name, { text }]) => {
+    const [, list] = text.split("\n");
+    return new Option(`${name} (${list?.slice("list ".length)}): ${eventsAsked(text)} events`, `${WORK}${name}`);
+  });
+  byId("work-options").replaceChildren(...options);
+  byId("work-options").hidden = options.length === 0 || held.engine === null;
+  const example = exampleShown();
+  byId("nothing-kept").textContent = now.task.work; // what was opened, and not changed yet
+  byId("examples").value = example !== "" ? example : works.byName.has(now.task.work) ? `${WORK}${now.task.work}` : "";
+}
+
+export function fillExamples() {
+  byId("example-options").replaceChildren(...examples().map(({ name, kind }) => new Option(`${name} (${kind})`, name)));
+}
+
+function chooseInList(value) {
+  if (value.startsWith(WORK)) openWork(value.slice(WORK.length));
+  else if (value !== "") pickExample(value, 0);
+}
+
+export const pickExample = (name, count) => (held.engine === null ? openKept(name, count) : openExample(name, count));
+
+// The question of the example. Where it turns is told where that is asked for: by ticks on the slider, and a button for each event.
+export function showQuestion() {
+  if (now.task.kind !== "example") return;
+  const classic = CLASSICS[now.task.id];
+  const box = byId("turns-box");
+  if (box.dataset.example !== now.task.id) {
+    box.open = byId("without-box").open = false;
+    box.dataset.example = now.task.id;
+  }
+  const { total } = now.run.trace;
+  const { turns } = classic;
+  const place = (event) => `left: calc(8px + (100% - 16px) * ${event / total})`;
+  byId("ticks").innerHTML = box.open && !isJudging() ? turns.map((event) => `<i style="${place(event)}"></i>`).join("") : "";
+  byId("question").textContent = inLetters(classic.question);
+  byId("turns-on").textContent = inLetters(classic.turnsOn);
+  byId("without").textContent = inLetters(classic.without);
+  const here = (event) => (event === now.run.count ? { "aria-current": "true" } : {});
+  redraw(byId("turns"), turns.map((event) => tag("button", { "data-event": event, ...here(event) }, event)).join(" "));
 }

@@ -3,8 +3,7 @@
 /** @type {(id: string) => any} */
 export const byId = (id) => document.getElementById(id);
 
-// Puts a text of elements in place of what a box has; what had the focus there has it again, or else the first button:
-// never a field, in which the next key would be another one than the reader means.
+// Draws a box anew; what had the focus there has it again, or else the first button: never a field, where a key would mean another thing.
 export function redraw(box, html) {
   /** @type {any} */
   const before = box.contains(document.activeElement) ? document.activeElement : null;

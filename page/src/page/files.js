@@ -20,6 +20,14 @@ export function saveText(name, text, type = "text/plain") {
   URL.revokeObjectURL(link.href);
 }
 
+export function onFile(input, take) {
+  input.onchange = async () => {
+    const [file] = input.files;
+    await take(await file.text(), file.name);
+    input.value = "";
+  };
+}
+
 // What a file is, by its first line. A file without a known title is taken for a schedule, so that the engine names its fault.
 function kindOfFile(text) {
   if (text.startsWith("listset-trace")) return "trace";
@@ -28,7 +36,6 @@ function kindOfFile(text) {
   return text.startsWith("listset-report") ? "report" : "schedule";
 }
 
-// Of a trace from a file: whether the engine's trace of its schedule has the same bytes, if it makes one.
 export function comparedTrace(ask, trace) {
   if (ask === null) return "a trace from a file; its grammar was checked";
   if (trace.refused !== null) return "a trace from a file; its grammar was checked, and it ends with a refused event";
@@ -42,9 +49,7 @@ export function comparedTrace(ask, trace) {
   return `a trace from a file; ${engines} gives another, from its event ${event} on`;
 }
 
-// Opens a file, by what its first line says that it is.
-export async function openFile(file) {
-  const text = new TextDecoder().decode(new Uint8Array(await file.arrayBuffer()));
+export async function openFile(text, name) {
   const kind = kindOfFile(text);
   const isJudged = kind === "report" || kind === "calls";
   tellTrouble("");
@@ -53,9 +58,9 @@ export async function openFile(file) {
   if (kind === "calls") return announce("recorded", text);
   if (kind === "report") {
     await openReportBox();
-    return showReport(text, `The report in ${file.name}:`);
+    return showReport(text, `The report in ${name}:`);
   }
-  const task = ownTask(`from ${file.name}`);
+  const task = ownTask(`from ${name}`);
   if (kind === "schedule") return openTask(task, text, 0);
   openTrace(text, task);
 }
@@ -66,7 +71,7 @@ function openTrace(text, task) {
   beginTask(task);
   takeTrace(new Trace(text), 0, "a trace from a file");
   takeScheduleOfTrace();
-  dispatch("source", { source: comparedTrace(held.engine === null ? null : askNow, now.run.trace) });
+  dispatch("run", { source: comparedTrace(held.engine === null ? null : askNow, now.run.trace) });
 }
 
 // Unfolds the box of the report, and waits until that is told: a box that is unfolded shows the schedule's own report first.
@@ -79,7 +84,6 @@ async function openReportBox() {
   });
 }
 
-// Shows a report, and what `check` says of it.
 async function showReport(text, whose) {
   byId("report").textContent = text;
   byId("report-of").textContent = whose;
@@ -90,7 +94,6 @@ async function showReport(text, whose) {
   else byId("picture-box").hidden = true;
 }
 
-// The picture of a report or of a schedule as `listset show` draws it, and what it says is refused.
 function drawPicture(text) {
   const drawn = askNow("listset_show_svg", text).text;
   byId("picture-box").hidden = !drawn.startsWith("<svg ");
@@ -104,7 +107,6 @@ function drawPicture(text) {
   scrollToClash();
 }
 
-// What is said beside a picture: its own line about why its order is refused, or which event is; and why no order explains the report.
 function refusalIn(text) {
   const refused = askNow("listset_show", text).text.split("\n").filter((line) => line.startsWith("refused "));
   const { why } = readVerdict(askNow("listset_check_record", text));
@@ -119,7 +121,6 @@ function scrollToClash() {
   box.scrollLeft = clash === null ? 0 : clash.getBoundingClientRect().right + REPLY_WIDTH - left - box.clientWidth;
 }
 
-// The report of the schedule that is shown, or the line about its first fault.
 async function showOwnReport(schedule) {
   const { lacks } = now.run;
   const answer = lacks === null ? await askLong("listset_replay", schedule) : askList(askNow, "listset_replay", lacks, schedule);
@@ -135,3 +136,35 @@ async function showOwnReport(schedule) {
 export function refreshReport() {
   if (byId("report-box").open && held.engine !== null) showOwnReport(now.run.text);
 }
+
+// ---- the list and the history as one picture in a file of its own
+const DRAWN_BY = ["fill", "stroke", "stroke-width", "stroke-dasharray", "fill-opacity", "stroke-opacity", "opacity", "font-family",
+  "font-size", "font-weight", "font-style", "text-anchor", "paint-order", "text-decoration-line"];
+
+function drawnOut(svg) {
+  const copy = svg.cloneNode(true);
+  const parts = [...svg.querySelectorAll("*")];
+  [...copy.querySelectorAll("*")].forEach((part, index) => {
+    const style = getComputedStyle(parts[index]);
+    for (const name of DRAWN_BY) part.style.setProperty(name, style.getPropertyValue(name));
+  });
+  return copy;
+}
+
+function wholePicture() {
+  const drawings = [...byId("stage").querySelectorAll(":is(.list, .strip, #judge-bars) svg")].filter((svg) => svg.clientWidth > 0);
+  const boxes = drawings.map((svg) => ({ svg, width: svg.clientWidth, height: svg.clientHeight }));
+  const width = Math.max(...boxes.map((box) => box.width));
+  let y = 0;
+  const placed = boxes.map(({ svg, width: own, height }) => {
+    const copy = drawnOut(svg);
+    Object.entries({ x: 0, y, width: own, height }).forEach(([name, value]) => copy.setAttribute(name, value));
+    y += height + 8;
+    return new XMLSerializer().serializeToString(copy);
+  });
+  const ground = `<rect width="100%" height="100%" fill="${getComputedStyle(document.body).backgroundColor}"/>`;
+  const frame = `width="${width}" height="${y}" viewBox="0 0 ${width} ${y}"`;
+  return `<svg xmlns="http://www.w3.org/2000/svg" ${frame}>${ground}${placed.join("")}</svg>\n`;
+}
+
+export const savePicture = () => saveText("page.svg", wholePicture());

@@ -1,16 +1,13 @@
-// What is kept in this browser from one visit to the next: each schedule that the reader made, under a name and with the task it is for,
-// and where the reader was. Nothing takes the place of another work.
+// What is kept in this browser: each schedule that the reader made, under a name of its own and with its task, and where the reader was.
 import { BOOK_NAME } from "../../made/book.js";
 import { CLASSICS } from "../../made/classics.js";
 import { byId } from "./dom.js";
 import { announce, held, now } from "./now.js";
 
 const KEPT = "listset-page-2";
-const KEPT_BEFORE = "listset-page"; // one text, as the page kept it before
 export const HERE = "listset-here"; // the address of what was shown last
 const MOST_WORKS = 60; // the oldest ones go
 
-// What stands in the browser's storage under a name, or null where it keeps nothing, or something else stands there.
 export function keptUnder(name) {
   try {
     return JSON.parse(localStorage.getItem(name));
@@ -19,7 +16,6 @@ export function keptUnder(name) {
   }
 }
 
-// Whether the browser keeps it.
 export function keepUnder(name, value) {
   try {
     localStorage.setItem(name, JSON.stringify(value));
@@ -46,7 +42,6 @@ function taskOfName(name) {
 /** @type {(entry: any[]) => [string, any]} */
 const workOf = ([name, kept]) => [name, { ...kept, task: isTask(kept.task) ? kept.task : taskOfName(name) }];
 
-// The works by their names, the last one last: of each its text, that of the box, its event, and its task.
 export const works = {
   /** @type {Map<string, any>} */
   byName: new Map(),
@@ -54,8 +49,7 @@ export const works = {
 
   load() {
     const kept = keptUnder(KEPT);
-    const before = keptUnder(KEPT_BEFORE);
-    const entries = Array.isArray(kept) ? kept : isWork(before) ? [["my schedule", before]] : [];
+    const entries = Array.isArray(kept) ? kept : [];
     const isGood = (entry) => Array.isArray(entry) && isText(entry[0]) && isWork(entry[1]);
     this.byName = new Map(entries.filter(isGood).map(workOf));
   },
@@ -68,17 +62,14 @@ export const works = {
     this.isKept = keepUnder(KEPT, [...this.byName]);
   },
 
-  // The name of the last work of which this is so, or null.
   last(isWanted) {
     return [...this.byName].findLast(([, work]) => isWanted(work))?.[0] ?? null;
   },
 
-  // The name of the work with this text, run on the same list, or null.
   nameOf(text, lacks = null) {
     return this.last((work) => work.text === text && (work.lacks ?? null) === lacks);
   },
 
-  // A name that no work has yet.
   newName(word) {
     for (let number = 1; ; number++) {
       const name = number === 1 ? word : `${word} ${number}`;

@@ -1,6 +1,5 @@
-// Long runs: the engine works in a worker if the browser can start one, so that the run can be cancelled. If it cannot, the page says
-// that it runs, before it does.
-import { askInWorker } from "../engine/worker.js";
+// Long runs: the engine works in a worker if the browser can start one, so that the run can be cancelled.
+import { answerInRoom, answerOf, blockOf, Engine, FIRST_ROOM, LARGE_MEMORY, textsOf } from "../engine/engine.js";
 import { eventsAsked } from "../run/schedule_text.js";
 import { byId } from "./dom.js";
 import { askNow, held, now, tellFault } from "./now.js";
@@ -25,7 +24,6 @@ export async function askLong(name, text, isOfRun = true) {
   return askNow(name, text);
 }
 
-// Runs a long text: a line tells for how long it has run, and a button ends it.
 export async function runLong(text, asked, take) {
   stopLong();
   const begun = Date.now();
@@ -50,8 +48,39 @@ export function stopLong() {
   byId("long").hidden = true;
 }
 
-// Ends the run: what was shown before is shown on, and the text stands in the box.
 export function cancelLong() {
   stopLong();
   tellFault(null, "", "The run was cancelled. Run begins it again.");
+}
+
+// ---- The engine in a worker of its own, which can be ended, so that the page can be used while a long run is made.
+const EVENT_ROOM = 96; // bytes of a trace's line, so that the engine is asked once
+
+// The worker's program is a text, since a page that is opened as a file may not start a worker from a file.
+const workerText = (room) => `"use strict";
+const FIRST_ROOM = ${room};
+const LARGE_MEMORY = ${LARGE_MEMORY};
+${Object.entries({ Engine, answerOf, textsOf, answerInRoom, blockOf }).map(([name, it]) => `const ${name} = ${it};`).join("\n")}
+onmessage = ({ data: { module, name, given } }) => {
+  try {
+    const { status, bytes } = new Engine(module).askBytes(name, given);
+    postMessage({ status, bytes }, [bytes.buffer]);
+  } catch (fault) {
+    postMessage({ status: 1, bytes: new TextEncoder().encode(fault.message) });
+  }
+};`;
+
+function askInWorker(module, name, text, events) {
+  const place = URL.createObjectURL(new Blob([workerText(FIRST_ROOM + EVENT_ROOM * events)], { type: "text/javascript" }));
+  const worker = new Worker(place);
+  const came = new Promise((done) => {
+    worker.onerror = () => done(null);
+    worker.onmessage = ({ data }) => done({ status: data.status, text: new TextDecoder().decode(data.bytes) });
+    worker.postMessage({ module, name, given: new TextEncoder().encode(text) });
+  });
+  const answer = came.finally(() => {
+    worker.terminate();
+    URL.revokeObjectURL(place);
+  });
+  return { worker, answer };
 }

@@ -1,55 +1,29 @@
-// The state of the page as it is now, and what changes it. Each change is an action of state.js; then all is drawn anew by one render.
-// No other module of the page but dom.js and state.js is imported here, and so none has to be imported in a circle.
-import { readFault } from "../engine/answers.js";
-import { sentenceOn } from "../run/faults.js";
+// The state of the page as it is now, and what changes it: each change is an action of state.js; then all is drawn anew by one render.
+import { readFault, sentenceOn } from "../engine/answers.js";
 import { LEVELS } from "../run/judged.js";
 import { scheduleOfTrace } from "../run/schedule_text.js";
-import { momentAt } from "../run/sentences.js";
 import { State } from "../run/state.js";
 import { byId } from "./dom.js";
 import { exampleIn, reduce, stateAtFirst } from "./state.js";
 
 export const NO_ENGINE = "The replayer does not run in this browser: no schedule can be run, no report checked. A file of listset trace can be opened.";
-
-/** @type {{ state: import("./state.js").State, engine: any, render: (state: any, moment: any) => void }} */
-export const held = { state: stateAtFirst(), engine: null, render: () => {} };
-
-// The parts of the state, to be read.
-export const now = {
-  get place() {
-    return held.state.place;
-  },
-  get scene() {
-    return held.state.scene;
-  },
-  get run() {
-    return held.state.run;
-  },
-  get task() {
-    return held.state.task;
-  },
-  get exercise() {
-    return held.state.exercise;
-  },
-  get prefs() {
-    return held.state.prefs;
-  },
-};
+export const now = stateAtFirst();
+/** @type {{ engine: any, render: () => void }} */
+export const held = { engine: null, render: () => {} };
 
 // An action, after which nothing is drawn yet.
 export function change(type, given = {}) {
-  held.state = reduce(held.state, { ...given, type });
+  Object.assign(now, reduce(now, { ...given, type }));
 }
 
-export const show = () => held.render(held.state, momentAt(now.run.state, now.run.count));
+export const show = () => held.render();
 
 export function dispatch(type, given) {
   change(type, given);
   show();
 }
 
-// Who is told: `taken`, with a trace, before it is drawn; `ran`, that a text was run or refused; `kept`, that the works have changed;
-// `recorded` and `course`, with a text of that kind that was opened.
+// Who is told: `taken`, with a trace, before it is drawn; `ran`, of a text; `kept`, of the works; `recorded`, `course`, with a text of a file.
 const listeners = { taken: [], ran: [], kept: [], recorded: [], course: [] };
 export const on = (what, ...deeds) => listeners[what].push(...deeds);
 
@@ -59,7 +33,7 @@ export function announce(what, ...given) {
 
 export const isJudging = () => now.exercise !== null;
 export const hiddenOutcomes = () => (isJudging() ? LEVELS[now.exercise.level].hidden : []);
-export const exampleShown = () => exampleIn(held.state);
+export const exampleShown = () => exampleIn(now);
 
 export function goTo(count) {
   tell("");
@@ -77,25 +51,21 @@ const told = { text: "", html: "" };
 // Shows a trace at an event, or where a function of it says.
 export function takeTrace(trace, at, source) {
   const { refused } = trace;
-  const state = trace.before !== null && trace.before === now.run.trace ? now.run.state.goOn(trace) : new State(trace);
-  trace.before = null; // its text is not kept any longer
-  change("trace", { trace, state, source, count: typeof at === "function" ? at(trace) : at });
+  change("trace", { trace, state: new State(trace), source, count: typeof at === "function" ? at(trace) : at });
   announce("taken", trace);
   tellFault(now.run.faultLine, refused?.cause ?? "", refused === null ? "" : `line ${refused.line}: ${refused.cause}`, false);
   tell("");
   show();
 }
 
-// The schedule of the trace that is shown, in the box.
 export function takeScheduleOfTrace() {
   const text = scheduleOfTrace(now.run.trace);
-  change("text", { text });
+  change("run", { text });
   change("begun", { begun: text });
   byId("schedule").value = text;
   byId("opening").value = now.run.trace.opening.join(" ");
 }
 
-// What the engine answers at once; a line about the trouble if it stopped.
 export function askNow(name, ...texts) {
   if (held.engine === null) return { status: 1, text: NO_ENGINE };
   try {
@@ -105,16 +75,14 @@ export function askNow(name, ...texts) {
   }
 }
 
-// Tells a fault of the text: the program's own line, and the cause in words. The run that is shown may be that of another text.
 export function tellFault(line, cause, said, isOld = true) {
-  change("fault", { line, isOld });
+  change("run", { faultLine: line, isRun: !isOld });
   byId("stage").classList.toggle("old", isOld);
   byId("old").hidden = !isOld;
   const why = sentenceOn(askNow, cause, "a schedule", "a draft");
   byId("fault").textContent = why === null ? said : `${said}: ${why}`;
 }
 
-// A fault that is of no run: that which is shown is as it was.
 export const tellTrouble = (said) => (byId("fault").textContent = said);
 
 export function tellLine(text) {

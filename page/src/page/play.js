@@ -1,14 +1,12 @@
 // Play: one event after the other, in three speeds, until the end or a pause. Who asks the system for less motion begins slow.
 import { CLASSICS } from "../../made/classics.js";
 import { byId } from "./dom.js";
-import { change, exampleShown, goTo, now, show, tell } from "./now.js";
+import { exampleShown, goTo, now, show } from "./now.js";
+import { setView } from "./seen.js";
 
 const SPEEDS = { slow: 1600, medium: 700, fast: 200 }; // milliseconds of one event
-const NO_STOP = { event: Infinity, before: "", there: "" };
-const play = { timer: null, stop: NO_STOP }; // the event at which it stops by itself, and what is said until there, and there
-
+const play = { timer: null };
 export const wantsLessMotion = () => matchMedia("(prefers-reduced-motion: reduce)").matches;
-
 export const isPlaying = () => play.timer !== null; // the sentence is said where the play ends, and not before
 
 function showPlay() {
@@ -16,58 +14,78 @@ function showPlay() {
   byId("play").setAttribute("aria-pressed", String(play.timer !== null));
 }
 
-function pausePlay() {
+export function stopPlay() {
   clearInterval(play.timer);
   play.timer = null;
   showPlay();
 }
 
-// Ends the play, also that which was paused.
-export function stopPlay() {
-  play.stop = NO_STOP;
-  pausePlay();
-}
-
-// Plays on from here, and from the start where nothing is left.
-function startPlay(stop = NO_STOP) {
+function startPlay() {
   const { count, trace } = now.run;
   if (trace.total === 0) return;
-  play.stop = stop;
   if (count === trace.total) goTo(0);
   play.timer = setInterval(playOn, SPEEDS[byId("speed").value]);
   showPlay();
 }
 
 function playOn() {
-  const { stop } = play;
   const count = now.run.count + 1;
-  const isThere = count === stop.event || count >= now.run.trace.total;
-  if (isThere) stopPlay();
-  change("count", { count });
-  tell(count === stop.event ? stop.there : stop.before);
-  show();
+  if (count >= now.run.trace.total) stopPlay();
+  goTo(count);
 }
 
-export const togglePlay = () => (play.timer === null ? startPlay(play.stop) : pausePlay());
+export const togglePlay = () => (play.timer === null ? startPlay() : stopPlay());
 
-// Another speed holds at once, up to the same stop.
 export function changeSpeed() {
   if (play.timer === null) return;
-  pausePlay();
-  startPlay(play.stop);
+  stopPlay();
+  startPlay();
 }
 
-// The reader goes to an event: the play ends.
 export function goByHand(count) {
   stopPlay();
   goTo(count);
 }
 
 // To the nearest event, on or back, that changes the set, ends a call, or at which the example turns.
-export function goToTurn(step) {
+function goToTurn(step) {
   const turns = CLASSICS[exampleShown()]?.turns ?? [];
   const changes = (event) => event.put !== undefined || event.took !== undefined || event.answer !== undefined;
   let count = now.run.count + step;
   while (count > 0 && count < now.run.trace.total && !changes(now.run.trace.event(count)) && !turns.includes(count)) count += step;
   goByHand(count);
+}
+
+// ---- the keys; letters and digits can be switched off
+export const keysOf = { scene: (event) => event }; // what keys do in a scene
+
+export function pressKey(event) {
+  if (/^(TEXTAREA|INPUT|SELECT)$/.test(event.target.tagName) && event.target.id !== "slider") return;
+  if (event.ctrlKey || event.metaKey || event.altKey || event.target.closest("[role=slider]") !== null) return;
+  if (event.key === "Escape" && now.place.view !== null) return toggleLecture();
+  if (now.place.screen === "scene") return keysOf.scene(event);
+  const { total } = now.run.trace;
+  const far = now.place.view === "lecture" ? 1 : 10; // what a lecturer's pointer sends
+  const steps = { ArrowRight: 1, ArrowLeft: -1, PageDown: far, PageUp: -far, Home: -total, End: total };
+  if (event.key in steps) {
+    event.preventDefault();
+    if (event.shiftKey && event.key.startsWith("Arrow")) goToTurn(steps[event.key]);
+    else goByHand(now.run.count + steps[event.key]);
+  } else if (event.key === " " && !/^(BUTTON|SUMMARY|A)$/.test(event.target.tagName)) {
+    event.preventDefault();
+    togglePlay();
+  } else if (event.key === "?" || (event.key === "p" && now.prefs.letters)) ({ "?": toggleKeys, p: togglePlay })[event.key]();
+}
+
+export function toggleKeys() {
+  byId("key-help").hidden = !byId("key-help").hidden;
+  byId("keys").setAttribute("aria-expanded", String(!byId("key-help").hidden));
+}
+
+// The lecture view, and back: whoever leaves it by the key Tab is at the button that opens it.
+export function toggleLecture() {
+  const isLeft = document.activeElement === byId("leave");
+  setView(now.place.view === null ? "lecture" : null);
+  show();
+  if (isLeft) (byId("sides-lecture") ?? byId("lecture")).focus();
 }

@@ -1,18 +1,13 @@
 // Which parts of the page are seen where. A part that is not named here is seen wherever what it stands in is.
+import { byId, setHidden } from "./dom.js";
+import { change } from "./now.js";
 
 const isStage = ({ screen }) => screen === "stage";
 
-// What decides it: the place, and what the run is.
 export function factsOf(state, { hasEngine }) {
   const { place, run, task, exercise } = state;
-  return {
-    ...place,
-    hasEngine,
-    kind: task.kind,
-    isJudging: exercise !== null,
-    isClaim: exercise?.level === "claim",
-    isBroken: run.lacks !== null,
-  };
+  const [isJudging, isClaim, isBroken] = [exercise !== null, exercise?.level === "claim", run.lacks !== null];
+  return { ...place, hasEngine, kind: task.kind, isJudging, isClaim, isBroken };
 }
 
 const isFull = ({ view }) => view === null;
@@ -20,7 +15,7 @@ const isSlide = ({ view }) => view === "lecture";
 const isFree = ({ isClaim }) => !isClaim; // of a claim there is no run to step through
 
 export const SEEN = {
-  top: isFull,
+  ...Object.fromEntries(["top", "told", "order"].map((id) => [id, isFull])),
   leave: ({ view }) => view !== null && view !== "embed",
   scene: ({ screen }) => screen === "scene",
   bench: ({ screen }) => screen !== "scene",
@@ -36,16 +31,30 @@ export const SEEN = {
   ticks: ({ isJudging }) => !isJudging,
   judge: ({ isJudging }) => isJudging,
   "judge-moments": ({ isClaim }) => isClaim,
-  "judge-note": isFree,
   "judge-levels": ({ isBroken }) => !isBroken,
   "report-box": ({ isJudging, hasEngine }) => !isJudging && hasEngine,
   dock: (facts) => isStage(facts) && isFree(facts),
-  "run-figure": isFree,
-  "key-help-box": isFree,
-  "threads-box": isFree,
-  "table-box": isFree,
+  ...Object.fromEntries(["judge-note", "run-figure", "key-help-box", "threads-box", "table-box"].map((id) => [id, isFree])),
   "listing-box": (facts) => isFree(facts) && !facts.isBroken,
-  told: isFull,
-  order: isFull,
   "no-engine": ({ hasEngine }) => hasEngine === false,
 };
+
+export function showParts(state) {
+  const facts = factsOf(state, { hasEngine: services.hasEngine });
+  for (const [id, isSeen] of Object.entries(SEEN)) setHidden(byId(id), !isSeen(facts), byId("skip"));
+  const { activity, screen, view } = state.place;
+  const key = [activity, screen, view, facts.hasEngine].join();
+  if (key === placed.key) return;
+  placed.key = key;
+  for (const part of document.querySelectorAll(".of-engine:not([id])")) part.hidden = !facts.hasEngine;
+  Object.assign(document.body.dataset, { activity, screen, view: view ?? "" });
+  for (const link of document.querySelectorAll("nav [data-to]")) {
+    if (link.dataset.to.split(" ").includes(activity)) link.setAttribute("aria-current", "page");
+    else link.removeAttribute("aria-current");
+  }
+}
+const placed = { key: "" };
+export const services = { hasEngine: true }; // until it is known that there is none
+
+// A view shows one thing alone: a slide of a lecture, or the list or the history for a frame.
+export const setView = (view) => change("view", { view });

@@ -2,36 +2,17 @@
 //
 // @ts-check
 /**
- * @typedef {object} Place  A scene has the id of what is shown there, and `given`, what else its address says.
- * @property {string} activity  that of a scene (activities/views.js); of the bench "watch" or "judge"
- * @property {"stage" | "scene"} screen
- * @property {string} id
- * @property {Record<string, string>} given
- * @property {"lecture" | "embed" | "list" | "history" | null} view
- * @typedef {object} Scene  How far one is in a scene.
- * @property {"" | "task" | "again" | "guess" | "playing" | "moment" | "done"} stage
- * @property {number | null} chosen  the answer that was pressed; -1 where it was to be shown
- * @property {string} note
- * @property {string} text  the schedule of its run, where the address has it
- * @property {number} hints
- * @property {number} at  the branch that is shown
- * @property {any[]} branches
- * @property {string[]} wrong  wrong answers, so far
- * @typedef {object} Run  What was run: the text, its trace, the list without a check (or null), and the state after `count` events.
- * @property {string} text
- * @property {any} trace
- * @property {any} state
- * @property {number} count
- * @property {string | null} lacks
- * @property {string} source  who ran it, in words
- * @property {boolean} isRun  whether the trace is that of the text
- * @property {number | null} faultLine
- * @typedef {"own" | "example" | "seed"} Kind
- * @typedef {object} Task  What the run is for: of which kind, its id, the name under which tries are kept, and the text with which it begins.
- * @property {Kind} kind
- * @property {string} id
- * @property {string} work
- * @property {string} begun
+ * A place is a scene or the bench (its activity is "watch" or "judge"). A scene has the id of what is shown there, and `given`, what
+ * else its address says; how far one is in it: the answer that was pressed (-1 where it was to be shown), the schedule of its run where
+ * the address has it, and the branch that is shown. A run has the text, its trace, the check that its list lacks, and the state after
+ * `count` events; `isRun`: the trace is that of the text. A task is what the run is for: tries are kept under the name `work`, `begun` is
+ * the text with which it begins.
+ * @typedef {"lecture" | "embed" | "list" | "history" | null} PageView
+ * @typedef {{ activity: string, screen: "stage" | "scene", id: string, given: Record<string, string>, view: PageView }} Place
+ * @typedef {"" | "task" | "again" | "guess" | "playing" | "moment" | "done"} Stage
+ * @typedef {{ stage: Stage, chosen: number | null, note: string, text: string, hints: number, at: number, branches: any[], wrong: string[] }} Scene
+ * @typedef {{ text: string, trace: any, state: any, count: number, lacks: string | null, source: string, isRun: boolean, faultLine: number | null }} Run
+ * @typedef {{ kind: "own" | "example" | "seed", id: string, work: string, begun: string }} Task
  * @typedef {{ hides: boolean, allThreads: boolean, letters: boolean }} Prefs
  * @typedef {{ place: Place, scene: Scene, run: Run, task: Task, exercise: any, prefs: Prefs }} State
  * @typedef {{ [name: string]: any, type: string }} Action
@@ -60,21 +41,17 @@ export const exampleIn = ({ task }) => (task.kind === "example" ? task.id : "");
 
 /** A run has the stage of its activity. @param {State} state @returns {State} */
 const onStage = (state) => ({ ...state, place: { ...state.place, activity: activityOfRun(state), screen: "stage", id: "", given: {} } });
-
 const within = (count, { total }) => Math.max(0, Math.min(total, count));
 
 /** @type {Record<string, (state: State, action: Action) => State>} */
 const MAKES = {
-  // A scene is shown.
   place: (state, { activity, screen, id = "", given = {} }) =>
     ({ ...state, place: { ...state.place, activity, screen, id, given }, scene: SCENE_AT_FIRST }),
   scene: (state, { type, ...given }) => ({ ...state, scene: { ...state.scene, ...given } }),
   view: (state, { view }) => ({ ...state, place: { ...state.place, view } }),
-  // Something is begun: what is run from now on is for this task.
   task: (state, { task, lacks = null }) =>
     onStage({ ...state, task: { ...NO_TASK_YET, ...task }, run: { ...state.run, lacks }, exercise: null }),
-  // A text is going to be run.
-  text: (state, { text }) => ({ ...state, run: { ...state.run, text } }),
+  run: (state, { type, ...given }) => ({ ...state, run: { ...state.run, ...given } }),
   // A trace is there: the exercise was about the one before.
   trace(state, { trace, state: ofTrace, source, count }) {
     const isGood = trace.refused === null;
@@ -82,10 +59,7 @@ const MAKES = {
     const run = { ...state.run, trace, state: ofTrace, source, lacks: trace.lacks, isRun: true, faultLine, count: within(count, trace) };
     return { ...state, run, exercise: null };
   },
-  // The text with which the task began.
   begun: (state, { begun }) => ({ ...state, task: { ...state.task, begun } }),
-  source: (state, { source }) => ({ ...state, run: { ...state.run, source } }),
-  fault: (state, { line, isOld }) => ({ ...state, run: { ...state.run, faultLine: line, isRun: !isOld } }),
   count: (state, { count }) => ({ ...state, run: { ...state.run, count: within(count, state.run.trace) } }),
   exercise: (state, { exercise }) => onStage({ ...state, exercise }),
   prefs: (state, { type, ...given }) => ({ ...state, prefs: { ...state.prefs, ...given } }),

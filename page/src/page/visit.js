@@ -1,19 +1,20 @@
 // The address bar follows what is shown, and what is kept in the browser does too.
-import { warningOf } from "../run/address.js";
-import { escaped } from "../run/markup.js";
-import { addressIn } from "./address_of.js";
+import { CLASSICS } from "../../made/classics.js";
+import { LISTS } from "../../made/rows.js";
+import { levelOfNumber } from "../data/levels.js";
+import { AddressFault, addressOf, LONGEST_ADDRESS, longLine, partsOfSeed, shortLine, warningOf } from "../run/address.js";
+import { startOfLacking } from "../run/broken.js";
+import { escaped, inLetters } from "../run/markup.js";
+import { eventsAsked } from "../run/schedule_text.js";
 import { HERE, keepUnder, keepWork } from "./kept.js";
-import { held, now, tell } from "./now.js";
+import { now, tell } from "./now.js";
 import { entryOf } from "./state.js";
 
 const MOMENT = 400; // milliseconds: the bar follows once nothing has moved for so long, since browsers refuse quick changes of it
-// The entry of the browser's history that is shown, and whether the page has read what stood there at first; the packed course, which the
-// address needs and the state has not.
+// The entry of the browser's history that is shown, whether what stood there at first was read, and the packed course.
 export const visit = { timer: 0, entry: null, isRead: false, course: null };
+const addressHere = () => addressIn(now, visit);
 
-const addressHere = () => addressIn(held.state, visit);
-
-// The address and what is kept in the browser follow what is shown.
 export function keepSoon() {
   clearTimeout(visit.timer);
   visit.timer = setTimeout(keepNow, MOMENT);
@@ -28,10 +29,10 @@ export function keepNow() {
 // Another task or place is a new entry to come back to; a step is none. A text without an address is kept with its entry.
 function setAddress() {
   const address = addressHere();
-  const entry = entryOf(held.state);
+  const entry = entryOf(now);
   const isNew = visit.entry !== null && visit.entry !== entry;
   visit.entry = entry;
-  if (held.state.place.view !== "embed") keepUnder(HERE, address);
+  if (now.place.view !== "embed") keepUnder(HERE, address);
   if (!isNew && location.hash === (address ?? "")) return;
   const { text, count, lacks } = now.run;
   const kept = address === null ? { text, count, lacks } : null;
@@ -46,7 +47,6 @@ function setAddress() {
 
 export const linkTo = (address) => location.href.replace(/#.*$/, "") + address;
 
-// A link to what is shown: it is told, and copied if the browser lets a page do that.
 export async function copyLink() {
   const address = now.run.isRun ? addressHere() : null;
   if (address === null) return tell("This schedule has no link: it is refused, or too long for an address. Save it as a file.");
@@ -57,11 +57,74 @@ export async function copyLink() {
 }
 
 // Whether a text is copied, if the browser lets a page do that.
-export async function copied(text) {
-  try {
-    await navigator.clipboard.writeText(text);
-    return true;
-  } catch {
-    return false;
-  }
+export const copied = async (text) => navigator.clipboard?.writeText(text).then(() => true, () => false) ?? false;
+
+// ---- the addresses of the scenes
+const SCENES = ["assignment", "story", "ask", "code", "teachers"]; // run/address.js reads the others, with their schedules
+const SCENE_VIEWS = ["lecture", "embed"];
+
+export function sceneOfHash(hash) {
+  const { view = null, ...parts } = Object.fromEntries(new URLSearchParams(hash.replace(/^#/, "")));
+  const activity = SCENES.find((name) => name in parts);
+  if (activity === undefined) return null;
+  if (view !== null && !SCENE_VIEWS.includes(view)) throw new AddressFault(`"${view.slice(0, 60)}" is no view of a page`);
+  const { [activity]: id, ...given } = parts;
+  return { activity, id, given, view };
+}
+
+export const START_OF_CODE = [3, 7];
+export const linesOfCode = (s) => s.split(",").filter((line) => /^(b\d+\.[a-z]+\.\d+|g\d+\.\d+)$/.test(line)).map(longLine);
+export const SET_OF_CODE = { threads: 2, quota: 9 };
+
+// Of a list to step by its code: the numbers in it at first, the lines of a run, and how many threads and adds of each it has.
+export function addressOfCode(list, opening, lines, set = SET_OF_CODE) {
+  const ofOpening = opening.join() === START_OF_CODE.join() && lines.length === 0 ? "" : `&opening=${opening.join(".")}`;
+  const ofSet = ["threads", "quota"].map((name) => (set[name] === SET_OF_CODE[name] ? "" : `&${name}=${set[name]}`)).join("");
+  return `#code=${list}${ofSet}${ofOpening}${lines.length > 0 ? `&s=${lines.map(shortLine).join()}` : ""}`;
+}
+
+function addressOfLevel({ id }, { text }) {
+  const name = levelOfNumber(id);
+  if (id === "" || text === "" || text === startOfLacking(name)) return id === "" ? "#break" : `#break=${id}`;
+  return `#break=${id}&${addressOf(text, eventsAsked(text))?.slice(1) ?? ""}`;
+}
+
+// Of a lesson its course, unless it is the book's, its name, and the try: as much of that as an address has room for.
+function addressOfLesson({ id }, { text }, { course }) {
+  const named = `${course === null ? "#" : `${course}&`}learn${id === "" ? "" : `=${id}`}`;
+  const own = text === "" ? null : addressOf(text, eventsAsked(text));
+  const whole = own === null ? named : `${named}&${own.slice(1)}`;
+  return whole.length <= LONGEST_ADDRESS ? whole : named;
+}
+
+export const addressOfAssignment = ({ id, given }) => `#${new URLSearchParams({ assignment: id, ...given })}`.replaceAll("%2C", ",");
+const plainAddress = ({ activity, id }) => `#${activity}${id === "" ? "" : `=${id}`}`;
+
+const ADDRESSES = {
+  code: ({ id, given }, { text }) => text || `#${new URLSearchParams({ code: id, ...given })}`,
+  compare: (place, { text }) => text || plainAddress(place),
+  break: addressOfLevel,
+  learn: addressOfLesson,
+  assignment: addressOfAssignment,
+};
+
+// The address of a state, or null where it has none. `given` has the packed course, or null for the book.
+export function addressIn(state, given) {
+  const { place, task, run, exercise } = state;
+  const view = place.view === null ? "" : `&view=${place.view}`;
+  if (place.screen === "scene") return (ADDRESSES[place.activity] ?? plainAddress)(place, state.scene, given) + view;
+  const address = task.kind === "own" ? addressOf(run.text, run.count, run.lacks) : `#${task.kind}=${task.id}&event=${run.count}`;
+  return address === null ? null : `${address}${exercise === null ? "" : "&judge"}${view}`;
+}
+
+export function titleIn(state, titleOfScene) {
+  const { place, task, run, exercise } = state;
+  if (place.screen === "scene") return titleOfScene(place);
+  const list = run.trace === null ? "" : LISTS[run.trace.kind].name;
+  const ofTask = {
+    example: () => inLetters(CLASSICS[task.id].question),
+    seed: () => `Run ${partsOfSeed(task.id).number} of ${list}`,
+    own: () => `${task.work}: ${list}`,
+  };
+  return `${exercise === null ? "" : "Judge: "}${ofTask[task.kind]()} · Why not just one lock?`;
 }

@@ -1,24 +1,21 @@
 // The reader's work on the bench: a text, and the task it is for.
+import { EXAMPLES, TRACES } from "../../made/traces.js";
+import { readExamples } from "../engine/answers.js";
 import { askList } from "../run/broken.js";
-import { scheduleOfDraft } from "../run/draft.js";
-import { eventsAsked, openingIn, versionOf, withOpening } from "../run/schedule_text.js";
+import { eventsAsked, openingIn, scheduleOfDraft, scheduleText, versionOf, withOpening } from "../run/schedule_text.js";
 import { eventsInCommon, isTrace, Trace } from "../run/trace.js";
 import { byId } from "./dom.js";
-import { showMarks } from "./editor.js";
-import { exampleText } from "./example.js";
 import { keepWork, works } from "./kept.js";
 import { MANY_EVENTS, runLong, stopLong } from "./long_run.js";
-import { announce, askNow, change, held, NO_ENGINE, now, takeTrace, tell, tellFault, tellLine } from "./now.js";
+import { announce, askNow, change, held, NO_ENGINE, now, takeScheduleOfTrace, takeTrace, tell, tellFault, tellLine } from "./now.js";
 import { stopPlay } from "./play.js";
 
-// What is made from now on is for this task: it is kept under its name, once it is another text than the one with which the task
-// began; it is run on the whole list, or on a broken one.
+// What is made from now on is kept for this task, once it is another text than the one with which the task began.
 export function beginTask(task, lacks = null) {
   keepWork();
   change("task", { task, lacks });
 }
 
-// Opens a text for a task, at this event of it.
 export function openTask(task, text, at, told = "", lacks = null) {
   beginTask({ begun: text, ...task }, lacks);
   runText(text, at, told);
@@ -38,10 +35,9 @@ export const openExample = (name, count) =>
   openTask({ kind: "example", id: name, work: works.newName(`from ${name}`) }, exampleText(name), count);
 
 export const newSchedule = (list, threads, quota) =>
-  openTask(ownTask("my schedule"), `listset-schedule 1\nlist ${list}\nthreads ${threads}\nquota ${quota}\n`, 0);
+  openTask(ownTask("my schedule"), scheduleText({ list, threads, quota }), 0);
 
-// Runs the text of the box, in which a line may be that of a draft. Its last line gets its newline where it has none. The event
-// stays where the events up to it do; a text with a refused event is shown up to that.
+// Runs the text of the box, which may be a draft. The event stays where the events up to it do.
 export function runBox() {
   const box = byId("schedule").value;
   const { text, fault } = scheduleOfDraft(askNow, box === "" || box.endsWith("\n") ? box : `${box}\n`, now.run.lacks);
@@ -65,17 +61,15 @@ export function runWithOpening() {
   runBox();
 }
 
-// The header of the schedule that is shown, as the controls of a new one have it.
 export function showHeader(trace) {
   byId("new-list").value = trace.kind;
   byId("new-threads").value = trace.threads;
   byId("new-quota").value = trace.quota;
 }
 
-// Runs a text by the engine, and then tells a line. The page computes no step of a list.
 function runText(text, at, told = "") {
   stopPlay();
-  change("text", { text });
+  change("run", { text });
   byId("schedule").value = text;
   byId("opening").value = openingIn(text).join(" ");
   if (held.engine === null) return tellFault(null, "", NO_ENGINE);
@@ -85,11 +79,72 @@ function runText(text, at, told = "") {
   takeAnswer(askList(askNow, "listset_trace", now.run.lacks, text), text, at, told);
 }
 
-// Shows what the engine says of a text.
 function takeAnswer(answer, text, at, told) {
   const source = now.run.lacks === null ? "run by the proved replayer" : "a run of a broken list";
-  if (isTrace(answer.text)) takeTrace(new Trace(answer.text, versionOf(text), now.run.trace), at, source);
+  if (isTrace(answer.text)) takeTrace(new Trace(answer.text, versionOf(text)), at, source);
   else tellLine(answer.text.trim());
   tell(works.isKept ? told : `${told} This browser keeps nothing: save the schedule before you leave the page.`);
   announce("ran");
+}
+
+// ---- The classic examples by their names. Without an engine they are shown from their traces, which are kept beside the page.
+const KEPT_BESIDE = "a trace that is kept beside the page";
+const known = { examples: null };
+
+export function examples() {
+  if (held.engine === null) return readExamples(EXAMPLES);
+  known.examples ??= readExamples(askNow("listset_examples", "").text);
+  return known.examples;
+}
+
+export const isExample = (name) => examples().some((one) => one.name === name);
+
+function exampleText(name) {
+  if (held.engine === null || name === "") return null;
+  const answer = askNow("listset_example", name);
+  return answer.status === 0 ? answer.text : null;
+}
+
+export function openKept(name, count) {
+  change("task", { task: { kind: "example", id: name, work: "" } });
+  takeTrace(new Trace(TRACES[name]), count, KEPT_BESIDE);
+  takeScheduleOfTrace();
+  showMarks();
+}
+
+// ---- The box of the schedule: the marks at its lines, and the line of the event that is kept in sight.
+const LINE_HEIGHT = 21;
+// Whether the box is in sight. If it is not, nothing is asked of its layout: that of 10,000 lines takes 0.3 s.
+const editor = { isSeen: false };
+
+export function watchEditor() {
+  /** @param {IntersectionObserverEntry[]} seen */
+  const look = ([{ isIntersecting }]) => {
+    editor.isSeen = isIntersecting;
+    if (!isIntersecting || now.run.trace === null) return;
+    scrollToLine(now.run.count > 0 ? now.run.trace.event(now.run.count) : null);
+    showMarks();
+  };
+  new IntersectionObserver(look).observe(byId("editor"));
+}
+
+export function scrollToLine(event) {
+  const box = byId("schedule");
+  if (!editor.isSeen || event === null || document.activeElement === box || box.value !== now.run.text) return;
+  const y = LINE_HEIGHT * (event.line - 1);
+  if (y < box.scrollTop || y > box.scrollTop + box.clientHeight - 2 * LINE_HEIGHT) box.scrollTop = y - box.clientHeight / 2;
+}
+
+export function showMarks() {
+  const box = byId("schedule");
+  const isStale = box.value !== now.run.text;
+  const top = editor.isSeen ? box.scrollTop : 0;
+  const mark = (line, kind) => `<div class="${kind}" style="top:${6 + LINE_HEIGHT * (line - 1) - top}px"></div>`;
+  const event = now.run.count > 0 ? now.run.trace.event(now.run.count) : null;
+  const lines = [];
+  if (event !== null && now.run.isRun) lines.push(mark(event.line, "event"));
+  if (now.run.faultLine !== null) lines.push(mark(now.run.faultLine, "bad"));
+  byId("marks").innerHTML = isStale ? "" : lines.join("");
+  byId("run").classList.toggle("stale", isStale);
+  byId("run").textContent = isStale ? "Run the changes" : "Run";
 }

@@ -1,45 +1,27 @@
-// The address of a schedule, as #list=lazy&threads=2&quota=4&s=b0.add.5,g0.11&event=12, of an example, as #example=snip&event=17,
-// of a course of lessons, as #course=.. with its text packed, or of two lists side by side. With &view=lecture, list or history it
-// shows only that; with &lacks=3 the schedule is run on the third broken list, or on that of a name. The page writes the number, since
-// the name would tell too much.
-// #watch, #learn, #judge, #break, #compare and #read are the maps of the activities; #learn=one-lock a lesson, also with a schedule behind
-// it, #break=3 a level, #seed=lazy.2.4.2.17 the run of a number, and &judge asks the reader to judge it.
-// An address is made a text again; whether that is a schedule says the engine.
+// Addresses, as page/README.md lists them. A broken list is written by its number, since its name would tell too much. An address is made a
+// text again; whether that is a schedule says the engine.
 import { LACKING } from "../../made/classics.js";
 import { LISTS } from "../../made/rows.js";
+import { scheduleText, versionOf } from "./schedule_text.js";
+import { isTrace, Trace } from "./trace.js";
 
 export const LONGEST_ADDRESS = 30000; // characters; a longer schedule has no address
 const SHORT_WORDS = { begin: "b", go: "g" };
 const LONG_WORDS = { b: "begin", g: "go" };
 const SHORT_EVENT = String.raw`(b\d+\.[a-z]+\.\d+|g\d+\.\d+)`;
+const NUMBER = /^\d+$/;
+const KIND = `(${Object.keys(LISTS).join("|")})`;
 const ADDRESS_PARTS = {
-  example: /^[a-z-]+$/,
-  list: /^[A-Za-z-]+$/,
-  threads: /^\d+$/,
-  quota: /^\d+$/,
-  version: /^\d+$/,
-  opening: /^\d+(\.\d+)*$/,
+  threads: NUMBER, quota: NUMBER, version: NUMBER, event: NUMBER, list: /^[A-Za-z-]+$/, opening: /^\d+(\.\d+)*$/,
   s: new RegExp(`^(${SHORT_EVENT}(,${SHORT_EVENT})*)?$`),
-  event: /^\d+$/,
-  lacks: /^(\d+|[A-Za-z-]+)$/,
-  view: /^(lecture|list|history)$/,
-  course: /^[A-Za-z0-9_-]+$/,
-  sides: /^(coarse|fine|optimistic|lazy|lock-free)\.(coarse|fine|optimistic|lazy|lock-free)$/,
-  calls: /^(\d\d?\.[a-z]+\.\d+(,|$))+$/,
-  turns: /^(\d\d?(\.\d\d?)*)?$/,
-  watch: /^[a-z-]*$/,
-  learn: /^[a-z0-9-]*$/,
-  judge: /^$/,
-  break: /^\d*$/,
-  compare: /^$/,
-  read: /^$/,
-  seed: /^(coarse|fine|optimistic|lazy|lock-free)\.\d{1,2}\.\d{1,2}\.\d{1,2}\.\d{1,9}$/,
+  example: /^[a-z-]+$/, seed: new RegExp(`^${KIND}(\\.\\d{1,2}){3}\\.\\d{1,9}$`), course: /^[A-Za-z0-9_-]+$/,
+  lacks: /^(\d+|[A-Za-z-]+)$/, view: /^(lecture|list|history)$/,
+  sides: new RegExp(`^${KIND}\\.${KIND}$`), calls: /^(\d\d?\.[a-z]+\.\d+(,|$))+$/, turns: /^(\d\d?(\.\d\d?)*)?$/,
+  watch: /^[a-z-]*$/, learn: /^[a-z0-9-]*$/, break: /^\d*$/, judge: /^$/, compare: /^$/, read: /^$/,
 };
+export const isSeed = (word) => ADDRESS_PARTS.seed.test(word);
 
 export class AddressFault extends Error {}
-
-// The version that a text needs: the second has ceilings and opening keys.
-const neededVersion = (lines) => (lines.some((line) => /^(opening |begin \d+ ceiling )/.test(line)) ? 2 : 1);
 
 // The address of a text at an event, or null where it has none: it is no text of a schedule's form, or too long.
 export function addressOf(text, event, lacks = null) {
@@ -49,8 +31,9 @@ export function addressOf(text, event, lacks = null) {
   const opening = lines.filter(isOpening).map((line) => line.slice("opening ".length));
   const events = lines.filter((line) => !isOpening(line)).map(shortLine);
   const version = title?.split(" ")[1];
+  const needed = versionOf(scheduleText({ list, threads, quota, opening }, lines));
   const parts = [`list=${list?.split(" ")[1]}`, `threads=${threads?.split(" ")[1]}`, `quota=${quota?.split(" ")[1]}`];
-  if (version !== String(neededVersion(lines))) parts.push(`version=${version}`);
+  if (version !== String(needed)) parts.push(`version=${version}`);
   if (opening.length > 0) parts.push(`opening=${opening.join(".")}`);
   parts.push(`s=${events.join()}`, `event=${event}`);
   if (lacks !== null) parts.push(`lacks=${Object.keys(LACKING).indexOf(lacks) + 1}`);
@@ -58,7 +41,7 @@ export function addressOf(text, event, lacks = null) {
   return address.length <= LONGEST_ADDRESS && isAddressOf(address, text) ? address : null;
 }
 
-const shortLine = (line) => {
+export const shortLine = (line) => {
   const [word, ...values] = line.split(" ");
   return `${SHORT_WORDS[word] ?? word}${values.join(".")}`;
 };
@@ -74,8 +57,6 @@ function isAddressOf(address, text) {
   }
 }
 
-// What an address names: an example, a text, a course or two lists, each null where it names none; the event, the list that lacks a
-// check, and the view.
 export function readAddress(hash) {
   const { view = null, course = null, lacks: which, seed = null, ...rest } = partsOf(hash);
   const { place, isJudged, parts } = placeOf(rest, seed);
@@ -91,7 +72,6 @@ export function readAddress(hash) {
   return named;
 }
 
-// The name of the broken list that an address names by its number or its name: it is one of the list that the address names.
 function lackingNamed(which, { list, example }) {
   const names = Object.keys(LACKING);
   const lacks = names.includes(which) ? which : names[which - 1];
@@ -103,7 +83,6 @@ function lackingNamed(which, { list, example }) {
   throw new AddressFault(`lacks=${which} is a broken ${LISTS[LACKING[lacks]].name}, and the address has ${named}`);
 }
 
-// The activity that an address names, with its value; whether its run is to be judged; and the parts of the run.
 function placeOf(parts, seed) {
   const isRun = seed !== null || parts.example !== undefined || parts.list !== undefined;
   const name = ["watch", "learn", "judge", "break", "compare", "read"].find((one) => parts[one] !== undefined);
@@ -127,13 +106,67 @@ function partsOf(hash) {
 function textOfParts(parts) {
   const missing = ["list", "threads", "quota"].find((name) => parts[name] === undefined);
   if (missing !== undefined) throw new AddressFault(`the address has no "${missing}"`);
-  const opening = (parts.opening?.split(".") ?? []).map((key) => `opening ${key}`);
   const events = (parts.s ? parts.s.split(",") : []).map(longLine);
-  const lines = [...opening, ...events];
-  const title = `listset-schedule ${parts.version ?? neededVersion(lines)}`;
-  return [title, `list ${parts.list}`, `threads ${parts.threads}`, `quota ${parts.quota}`, ...lines, ""].join("\n");
+  return scheduleText({ ...parts, opening: parts.opening?.split(".") }, events);
 }
 
-// What is said of a link that leads to a page on the reader's own disk.
 export const warningOf = (link) =>
   link.startsWith("file:") ? " Others cannot open it, since it leads to a file on this computer: copy it from a page on a web server." : "";
+
+// ---- Runs without end: the engine's generator makes a schedule of a number. The same number is the same run for everyone.
+const TRIES = 200;
+const MOST_TRIED_CALLS = 8; // of a run with more calls the first is taken
+const MOST_SEEN = 60; // events that are told apart by eye
+
+// A run of five calls of two threads over two keys is short enough to be judged by eye.
+export const seedOf = (kind, number) => `${kind}.2.5.2.${number}`;
+
+export function partsOfSeed(seed) {
+  const [kind, ...values] = seed.split(".");
+  const [threads, calls, keys, number] = values.map(Number);
+  return { kind, threads, calls, keys, number };
+}
+
+// The schedule of a seed: of those that the engine makes for it the first that is worth a look, the same for everyone.
+export function scheduleOfSeed(ask, seed) {
+  const { kind, threads, calls, keys, number } = partsOfSeed(seed);
+  const tries = calls > MOST_TRIED_CALLS ? 1 : TRIES;
+  let text = "";
+  for (let tried = 0; tried < tries; tried++) {
+    const answer = ask("listset_gen", [kind, threads, 4, calls, keys, number * TRIES + tried].join("\0"));
+    if (answer.status !== 0) throw new AddressFault(`the address names no run: ${answer.text.trim()}`);
+    text = answer.text;
+    const traced = ask("listset_trace", text).text;
+    if (!isTrace(traced)) throw new AddressFault(`the run of the address has no trace: ${traced.trim()}`);
+    if (isWorthIt(new Trace(traced))) break;
+  }
+  return joined(text);
+}
+
+// A key goes in and out, and a call ends within one of another thread or changes nothing while the other changes the set.
+function isWorthIt({ calls, changes, total }) {
+  const puts = changes.some(({ put }) => put !== undefined) && changes.some(({ took }) => took !== undefined);
+  const isBeside = (one, other) => one.thread !== other.thread && one.begun < other.ended && other.begun < one.ended;
+  const beside = calls.filter((one) => calls.some((other) => isBeside(one, other)));
+  const isTold = beside.some(({ changes: own, operation, reply }) => !own && (operation === "contains" || reply === "false"));
+  return puts && isTold && total <= MOST_SEEN && calls.every(({ ended }) => ended !== null);
+}
+
+function joined(text) {
+  const lines = [];
+  for (const line of text.trimEnd().split("\n")) {
+    const [thread, steps] = /^go (\d+) (\d+)$/.exec(line)?.slice(1) ?? [];
+    const [before, count] = /^go (\d+) (\d+)$/.exec(lines.at(-1) ?? "")?.slice(1) ?? [];
+    if (thread !== undefined && thread === before) lines[lines.length - 1] = `go ${thread} ${Number(count) + Number(steps)}`;
+    else lines.push(line);
+  }
+  return `${lines.join("\n")}\n`;
+}
+
+export function anotherSeed(before, kind = null) {
+  const kinds = Object.keys(LISTS);
+  const list = kind ?? kinds[Math.floor(Math.random() * kinds.length)];
+  const number = 1 + Math.floor(Math.random() * 9999);
+  const seed = seedOf(list, number);
+  return seed === before ? seedOf(list, (number % 9999) + 1) : seed;
+}

@@ -1,22 +1,11 @@
-// Broken lists: each lacks one check, and the reader looks for a schedule after which no order explains what its calls answer. Here is
-// what needs no browser: its run, the verdict on it, and where the whole list departs from it.
-//
-// The verdict comes from proved functions: one judges the order by the moments that the table names, another all other orders. That this
-// one order is refused does not say that there is none.
+// Broken lists: each lacks one check. One proved function judges the order by the moments that the table names, another all other orders: that
+// this one order is refused does not say that there is none.
 import { LACKING } from "../../made/classics.js";
-import { LISTS } from "../../made/rows.js";
 import { readReport, readVerdict } from "../engine/answers.js";
 import { nameOfCall } from "./judged.js";
-import { escaped } from "./markup.js";
-import { isFailed, isLock } from "./outcomes.js";
-import { scheduleOfTrace, titleOf } from "./schedule_text.js";
-import { momentAt, sentenceOf } from "./sentences.js";
-import { State } from "./state.js";
+import { scheduleOfTrace, scheduleText } from "./schedule_text.js";
 import { eventsInCommon, isTrace, Trace } from "./trace.js";
 
-const LACKING_THREADS = 2;
-const LACKING_QUOTA = 2;
-const LACKING_OPENING = [3, 7]; // what such a list opens with, until the reader changes that
 export const EXPLAINED = "Not broken yet: some order explains this run.";
 const BY_POINTS = "Not by its linearization points: check refuses that order.";
 const OTHER = "Another order explains these replies.";
@@ -28,17 +17,12 @@ export const TO_BREAK = "No order explains what the calls answer (proved)."; // 
 export const NO_TASK = "mark-in-contains";
 export const isTaskDone = (lacks, { kind }) => kind === "broken" && lacks !== NO_TASK;
 
-// What a function of the engine says of a schedule, on the whole list or on a broken one.
 export const askList = (ask, name, lacks, text) =>
   lacks === null ? ask(name, text) : ask("listset_lacking", lacks, text, name.slice("listset_".length));
 
-export function startOfLacking(name) {
-  const set = [titleOf(2), `list ${LACKING[name]}`, `threads ${LACKING_THREADS}`, `quota ${LACKING_QUOTA}`];
-  return [...set, ...LACKING_OPENING.map((key) => `opening ${key}`), ""].join("\n");
-}
+export const startOfLacking = (name) => scheduleText({ list: LACKING[name], threads: 2, quota: 2, opening: [3, 7] });
 
-// What is said of the run of a schedule on such a list: broken; points, if its own order alone is refused; explained; or refused if it
-// is no run.
+// What is said of the run of a schedule: it is broken; points, if its own order alone is refused; explained; or refused.
 export function verdictOnLacking(ask, lacks, schedule) {
   const { status, text } = askList(ask, "listset_replay", lacks, schedule);
   if (status !== 0) return { kind: "refused", says: `The schedule is refused: ${text.trim()}`, report: null };
@@ -52,8 +36,6 @@ export function verdictOnLacking(ask, lacks, schedule) {
   return { kind: "points", says: `${BY_POINTS} ${verdict.kind === "another" ? OTHER : UNKNOWN}`, report: text };
 }
 
-// Why no order explains a report, in words: the key, the event after which it is there or is not, and the few calls that have no order
-// from there.
 function whyNone(text, { key, moment, since, isThere, calls }) {
   if (key === null) return "no order leaves these keys, which do not increase";
   const isLeft = moment === null;
@@ -65,7 +47,6 @@ function whyNone(text, { key, moment, since, isThere, calls }) {
   return `${key} is ${isThere ? "there" : "not there"} ${since === "0" ? "at first" : `after event ${since}`}, and then ${then}`;
 }
 
-// Whether a key was put in once, and neither taken out nor there at first, and is not left.
 function isLost({ calls, opening, keys }, key) {
   const count = (operation) => calls.filter((call) => call.operation === operation && call.reply === "true" && call.key === key).length;
   const isThere = opening.includes(key) || keys.includes(key);
@@ -78,28 +59,8 @@ function callInWords({ calls }, { thread, begun }) {
   return `${nameOfCall(call)} ${call.ended === null ? "is open" : `answers ${call.reply}`}`;
 }
 
-// Where the whole list departs from the run of such a list: the event, and what each does there; null where it does not, or has no
-// trace.
 export function departureOf(ask, trace) {
   const { text } = ask("listset_trace", scheduleOfTrace(trace));
-  if (!isTrace(text)) return null;
-  const whole = new Trace(text, trace.version);
-  const event = eventsInCommon(trace, whole) + 1;
-  if (event > trace.total) return null;
-  const rows = [trace, whole].map((one) => (event > one.total ? null : one.event(event).changes.pc));
-  const told = (one) => {
-    if (event > one.total) return "makes no such event.";
-    const goesOn = rows[0] === rows[1] ? "" : rowInWords(one, event);
-    return `${sentenceOf(momentAt(new State(one), event))}${goesOn}`;
-  };
-  return { event, here: told(trace), whole: told(whole) };
-}
-
-// The row at which the thread of an event stands after it, where its call goes on and the sentence does not tell the row.
-function rowInWords(trace, number) {
-  const event = trace.event(number);
-  const row = event.changes.pc;
-  const { step } = LISTS[trace.kind].rows[row] ?? { step: "which the correct list does not have" };
-  const isSaid = event.deed === "exchange" && isFailed(event) && isLock(event.word);
-  return row === 0 || isSaid ? "" : ` It continues at row ${row}, ${escaped(step)}.`;
+  const event = isTrace(text) ? eventsInCommon(trace, new Trace(text, trace.version)) + 1 : Infinity;
+  return event > trace.total ? null : event;
 }

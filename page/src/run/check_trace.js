@@ -1,10 +1,9 @@
-// Whether a text from a file is a trace: it is read by the grammar of docs/TEXTS.md, and the first line that is wrong is named.
+// Whether a text from a file is a trace: the first line that is none (docs/TEXTS.md) is named, or the first event that cannot come there.
 import { LACKING } from "../../made/classics.js";
 import { LISTS } from "../../made/rows.js";
-import { CALL_WORDS, firstOpeningNode, HEADER_LINES, KEY_REGISTERS, MOST_NUMBER, NODE_REGISTERS } from "./trace.js";
+import { State } from "./state.js";
+import { CALL_WORDS, KEY_REGISTERS, NODE_REGISTERS, Trace } from "./trace.js";
 
-const MOST_THREADS = 64;
-const MOST_QUOTA = 16384;
 const NUMBER = "(?:0|[1-9]\\d{0,9})";
 const NODE = `(?:head|tail|n${NUMBER})`;
 const KEY = `(?:[-+]inf|${NUMBER})`;
@@ -20,93 +19,54 @@ function accessOf([field, value]) {
 const ACCESS = Object.entries(VALUES).map(accessOf).join("|");
 const registers = (names, value) => names.map((name) => `(?: ${name} ${value})?`).join("");
 const CHANGES = `${registers(NODE_REGISTERS, NODE)}${registers(KEY_REGISTERS, KEY)}(?: used ${NUMBER})?(?: reply (?:none|${REPLY}))?`;
-const BEGIN = `begin (?:${CALL_WORDS.join("|")}) ${NUMBER} call (?<begun>${NUMBER}) pc ${NUMBER}`;
-const STEP = `(?:${ACCESS}) pc ${NUMBER}${CHANGES}(?<change> (?:put|took) ${NUMBER})?(?: answer ${REPLY} call (?<ended>${NUMBER}) at (?<at>${NUMBER}))?`;
-const EVENT = new RegExp(`^event (?<number>${NUMBER}) line (?<line>${NUMBER}) thread (?<thread>${NUMBER}) (?:${BEGIN}|${STEP})$`);
-const OTHER_LINE = new RegExp(`^(?:chain(?: ${NUMBER}\\*?)*|refused line ${NUMBER} (?:NoThread|Busy|Idle|Lost))$`);
+const BEGIN = `begin (?:${CALL_WORDS.join("|")}) ${NUMBER} call ${NUMBER} pc ${NUMBER}`;
+const STEP = `(?:${ACCESS}) pc ${NUMBER}${CHANGES}(?: (?:put|took) ${NUMBER})?(?: answer ${REPLY} call ${NUMBER} at ${NUMBER})?`;
+const EVENT = new RegExp(`^event (${NUMBER}) line ${NUMBER} thread (${NUMBER}) (?:${BEGIN}|${STEP})$`);
+const CHAIN = new RegExp(`^chain(?: ${NUMBER}\\*?)*$`);
+const LAST = new RegExp(`^(?:end|refused line ${NUMBER} (?:NoThread|Busy|Idle|Lost))$`);
 
-class TraceFault extends Error {}
+const HEAD = [
+  (line) => line === "listset-trace 1",
+  (line) => line.startsWith("list ") && Object.hasOwn(LISTS, line.slice("list ".length)),
+  (line, list) => !line.startsWith("lacks ") || LACKING[line.slice("lacks ".length)] === list.slice("list ".length),
+  (line) => /^threads ([1-9]|[1-5]\d|6[0-4])$/.test(line),
+  (line) => /^quota (0|[1-9]\d{0,4})$/.test(line),
+];
 
-function failAt(number, fault) {
-  throw new TraceFault(`line ${number}: ${fault}`);
-}
-
-// The lines of the header and of the opening keys: what they say, where the events begin, and how many such lines the schedule has.
-function readHead(lines) {
-  const names = ["listset-trace", "list", ...(lines[2]?.startsWith("lacks ") ? ["lacks"] : []), "threads", "quota"];
-  const values = names.map((name, at) => {
-    const [word, value, ...more] = lines[at].split(" ");
-    return word === name && more.length === 0 ? value : failAt(at + 1, `expected "${name}" and a value`);
-  });
-  const { list, lacks, threads, quota } = Object.fromEntries(names.map((name, at) => [name, values[at]]));
-  const isNumber = (value, least, most) => /^\d+$/.test(value) && String(Number(value)) === value && least <= Number(value) && Number(value) <= most;
-  const tests = { "listset-trace": values[0] === "1", list: Object.hasOwn(LISTS, list), lacks: LACKING[lacks] === list };
-  Object.assign(tests, { threads: isNumber(threads, 1, MOST_THREADS), quota: isNumber(quota, 0, MOST_QUOTA) });
-  const wrong = names.findIndex((name) => !tests[name]);
-  if (wrong !== -1) failAt(wrong + 1, `"${values[wrong]}" is no value of "${names[wrong]}"`);
-  let last = -1;
-  let at = names.length;
-  for (; lines[at]?.startsWith("opening "); at++) {
-    const key = lines[at].slice("opening ".length);
-    if (!isNumber(key, last + 1, MOST_NUMBER)) failAt(at + 1, "expected an opening key above the one before");
-    last = Number(key);
+// The first line that is none where it stands, from 0, or where the text goes on behind its end; -1 if all are.
+function wrongLine(lines) {
+  const head = lines[2]?.startsWith("lacks ") ? HEAD : HEAD.filter((_, at) => at !== 2);
+  const wrong = head.findIndex((isLine, at) => !isLine(lines[at] ?? "", lines[1]));
+  if (wrong !== -1) return wrong;
+  const threads = Number(lines[head.length - 2].split(" ")[1]);
+  let [at, events] = [head.length, 0];
+  while (/^opening \d+$/.test(lines[at])) at++;
+  for (; !LAST.test(lines[at]); at++) {
+    const [, number, thread] = EVENT.exec(lines[at]) ?? [];
+    if (number === undefined ? !CHAIN.test(lines[at]) : Number(number) !== ++events || Number(thread) >= threads) return at;
   }
-  const opening = { length: at - names.length };
-  return { threads: Number(threads), quota: Number(quota), opening, first: at, head: HEADER_LINES + opening.length };
+  return lines.length === at + 2 && lines[at + 1] === "" ? -1 : at + 1;
 }
 
-// What is wrong with an event of a run up to now, of which is known: how many events and calls it has, the line of the last one, and of
-// each thread the call that is open; or null.
-function faultOfEvent({ number, line, thread, begun, ended, at, change }, run) {
-  const open = run.open[thread];
-  if (Number(number) !== ++run.events) return `expected event ${run.events}`;
-  if (Number(line) < Math.max(run.line, run.head + 1) || Number(line) > Math.max(run.line, run.head) + 1) return `line ${line} of the schedule does not come next`;
-  run.line = Number(line);
-  if (open === undefined) return `there is no thread ${thread}`;
-  if (begun !== undefined && open !== null) return `thread ${thread} begins a call and has one open`;
-  if (begun === undefined && open === null) return `thread ${thread} makes a step and has no call open`;
-  if (begun !== undefined) {
-    run.open[thread] = { id: run.calls, least: run.events, most: null };
-    return Number(begun) === run.calls++ ? null : `expected call ${run.calls - 1}`;
-  }
-  if (change !== undefined) Object.assign(open, { least: run.events, most: run.events });
-  if (ended === undefined) return null;
-  run.open[thread] = null;
-  if (Number(ended) !== open.id) return `expected an answer of call ${open.id}`;
-  return open.least <= Number(at) && Number(at) <= (open.most ?? run.events) ? null : `the call does not take effect at event ${at}`;
-}
-
-// Whether each number, node and thread of a line is one of the set.
-function isOfSet(line, run) {
-  const most = firstOpeningNode(run) + run.opening.length;
-  const numbers = (form) => Array.from(line.matchAll(form), ([, value]) => Number(value));
-  return numbers(/(\d+)/g).every((value) => value <= MOST_NUMBER) && numbers(/\bn(\d+)/g).every((value) => value >= 2 && value < most) &&
-    numbers(/\bt(\d+)/g).every((value) => value < run.threads);
-}
-
-function readWhole(text) {
-  const lines = text.split("\n");
-  const head = readHead(lines);
-  const run = { ...head, open: Array(head.threads).fill(null), events: 0, calls: 0, line: 0 };
-  let at = run.first;
-  for (; lines[at] !== "end" && !lines[at - 1].startsWith("refused "); at++) {
-    const line = lines[at] ?? failAt(at + 1, 'expected a line "end"');
-    const event = /** @type {any} */ (EVENT.exec(line)?.groups);
-    if ((event === undefined && !OTHER_LINE.test(line)) || !isOfSet(line, run)) failAt(at + 1, `"${line.slice(0, 80)}" is no line of a trace`);
-    const fault = event === undefined ? null : faultOfEvent(event, run);
-    if (fault !== null) failAt(at + 1, fault);
-  }
-  const end = lines[at] === "end" ? at + 1 : at;
-  if (end !== lines.length - 1 || lines[end] !== "") failAt(end, "expected the end of the trace here, and one newline");
-}
-
-// What is wrong with a text that should be a trace, in a line, or null.
-export function faultOfTrace(text) {
+function wrongEvent(text) {
+  let count = 0;
   try {
-    readWhole(text);
+    const trace = new Trace(text);
+    const state = new State(trace);
+    for (; count < trace.total; count++) {
+      state.moveTo(count + 1);
+      if (state.threads[trace.event(count + 1).thread].call === null) return count + 1;
+    }
     return null;
-  } catch (fault) {
-    if (!(fault instanceof TraceFault)) throw fault;
-    return fault.message;
+  } catch {
+    return count + 1;
   }
+}
+
+export function faultOfTrace(text) {
+  const lines = text.split("\n");
+  const at = wrongLine(lines);
+  if (at !== -1) return `line ${at + 1}: "${(lines[at] ?? "").slice(0, 80)}" is no line of a trace here`;
+  const event = wrongEvent(text);
+  return event === null ? null : `event ${event} cannot come here`;
 }

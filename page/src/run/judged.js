@@ -1,14 +1,10 @@
-// Judge yourself: a reader says where each call of a run takes effect and what it answers, and the proved `check` judges that.
-// Here is what needs no browser: the exercise, the reader's answer, the report that it makes, and the verdict in a sentence.
-//
-// The calls and the keys are those of the run; the order and the replies in it are the reader's. So `check` says ok if the
-// reader's order explains what the run did, also where it is not the replayer's. Why it is refused says the engine's record.
+// Judge yourself: the calls and the keys are those of the run, the order and the replies in it the reader's. So the proved `check` says ok if
+// the reader's order explains what the run did, also where it is not the replayer's.
 import { readReport, readVerdict } from "../engine/answers.js";
 import { callText, letterOf, openReply } from "./markup.js";
 
 export const MOST_JUDGED = 60; // events of a run that is judged
 
-// Of each level what is asked for, and which outcomes of a sentence would tell it.
 export const LEVELS = {
   points: { name: "points alone", task: "The replies are shown. Where does each call take effect?", hidden: ["change", "effect"] },
   replies: {
@@ -23,7 +19,6 @@ export const LEVELS = {
   },
 };
 
-// An exercise about a report: the text is the engine's own, of a whole list or of a broken one.
 export function exerciseOf(text, level, isWhole = true) {
   const report = readReport(text);
   const last = Math.max(1, ...report.calls.flatMap((call) => [call.begun, call.ended ?? 0]));
@@ -33,7 +28,6 @@ export function exerciseOf(text, level, isWhole = true) {
 export const nameOfCall = (call) => `${callText(call)} of ${letterOf(call.thread)}`;
 export const lastMoment = (exercise, call) => call.ended ?? exercise.last;
 
-// The replies that a call may give, as a reader picks one: of a ceiling those that name a key of the exercise.
 export function repliesOf(exercise, { operation }) {
   if (operation === "add") return ["true", "false", "full"];
   if (operation !== "ceiling") return ["true", "false"];
@@ -42,8 +36,7 @@ export function repliesOf(exercise, { operation }) {
   return ["nothing", ...keys.map((key) => `at-${key}`)];
 }
 
-// What the reader has said so far. A moment k is just after event k; k.5 lies between this event and the next. Of two calls at one
-// moment the one that was put there first comes first.
+// What the reader has said so far. A moment k is just after event k; k.5 lies between this event and the next.
 export class OwnAnswer {
   constructor(exercise) {
     this.exercise = exercise;
@@ -53,7 +46,6 @@ export class OwnAnswer {
     this.isNone = false;
   }
 
-  // Puts a call at a moment of its bar, to the nearest half.
   place(call, at) {
     const within = Math.min(Math.max(Math.round(2 * at) / 2, call.begun), lastMoment(this.exercise, call));
     if (this.points.get(call.id)?.at !== within) this.points.set(call.id, { at: within, turn: this.turn++ });
@@ -67,8 +59,7 @@ export class OwnAnswer {
     this.replies.set(call.id, reply);
   }
 
-  // The reply of a call in the order: that of the run, where the level shows it, else what the reader says; an open call has none
-  // in the run, and stands in an order where it has changed the set.
+  // The reply of a call in the order: an open call has none in the run, and stands in an order where it has changed the set.
   replyOf(call) {
     if (call.ended === null) return openReply;
     return this.exercise.level === "replies" ? (this.replies.get(call.id) ?? null) : call.reply;
@@ -81,7 +72,6 @@ export class OwnAnswer {
     return placed.map(({ call, at }) => ({ call, at, reply: this.replyOf(call) }));
   }
 
-  // What is still to be said, in words: of each call its point, its reply, or both.
   unsaid() {
     const lackOf = (call) => [this.points.has(call.id) ? "" : "point", this.replyOf(call) === null ? "reply" : ""].filter((it) => it !== "");
     const lacking = this.exercise.calls.filter((call) => call.ended !== null && lackOf(call).length > 0);
@@ -89,14 +79,12 @@ export class OwnAnswer {
   }
 }
 
-// The report that the answer makes: the run's calls and keys, the reader's order and replies.
 export function reportOfAnswer(answer) {
   const { head, callLines, keyLines } = answer.exercise;
   const places = answer.order().map(({ call, reply }) => `place ${call.id} ${reply}`);
   return [...head, ...callLines, ...places, ...keyLines, "end", ""].join("\n");
 }
 
-// What is said of an answer: whether it is right, the sentence, the call that clashes, and the report that was judged, if one was.
 export function verdictOn(ask, answer) {
   const unsaid = answer.unsaid();
   if (answer.isNone) return verdictOnClaim(ask, answer.exercise);
@@ -110,8 +98,7 @@ export function verdictOn(ask, answer) {
   return { isRight: false, clash, report, says: faultInWords(answer, order) };
 }
 
-// A claim that there is no order is judged by what is proved, not by a search: each run of the replayer has an order, and of another
-// report the engine's record says what is known.
+// A claim that there is no order is judged by what is proved, not by a search.
 function verdictOnClaim(ask, { isWhole, reportText }) {
   const said = (isRight, says) => ({ isRight, clash: null, report: null, says });
   const there = "There is one: this is a run of a correct list, and each of those has an order (proved). Find it.";
@@ -131,7 +118,6 @@ function rightInWords(answer) {
   return `check says ok: this order explains the run. ${also}`;
 }
 
-// Why an order is refused, in the reader's own terms.
 function faultInWords(answer, { fault, call, place, reply, set, answer: due, begun, other, ended }) {
   const named = (id) => nameOfCall(answer.exercise.calls[Number(id)]);
   if (fault === "SetReply") {
@@ -146,10 +132,7 @@ function faultInWords(answer, { fault, call, place, reply, set, answer: due, beg
   return `This is no order of the calls of this run (${fault}).`;
 }
 
-// The last word of a line that is handed in: the places of the order, or the word none.
-//
-//     judge read-in-anothers-step replies 0-true,2-true,1-false,3-true
-//     judge #list=lazy&threads=2&quota=4&s=.. points 0-true,1-false
+// The last word of a line that is handed in, as in `judge read-in-anothers-step replies 0-true,2-true,1-false,3-true`; or none.
 export const wordOfAnswer = (answer) => (answer.isNone ? "none" : answer.order().map(({ call, reply }) => `${call.id}-${reply}`).join());
 
 // The answer of such a word: each call stands at the least moment of its bar that keeps the order. Null where the word is none.

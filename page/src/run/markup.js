@@ -1,4 +1,5 @@
 // Elements as text, and the words that all drawings and sentences use.
+import { LISTS } from "../../made/rows.js";
 
 const SIGNS = { "&": "&amp;", "<": "&lt;", ">": "&gt;", '"': "&quot;" };
 export const escaped = (text) => String(text).replace(/[&<>"]/g, (sign) => SIGNS[sign]);
@@ -9,12 +10,14 @@ export function tag(name, attributes, ...content) {
   return `<${name}${given.join("")}>${content.join("")}</${name}>`;
 }
 
+export const listOptions = (chosen = "") =>
+  Object.entries(LISTS).map(([kind, { name }]) => tag("option", { value: kind, ...(kind === chosen ? { selected: "" } : {}) }, name)).join("");
+
 export const label = (attributes, text) => tag("text", attributes, escaped(text));
 export const title = (text) => tag("title", {}, escaped(text));
 export const colourOf = (thread) => `thread-${thread % 8}`;
 export const letterOf = (thread) => (thread < 26 ? String.fromCharCode(65 + Number(thread)) : String(thread));
 export const chipOf = (thread) => tag("span", { class: `who ${colourOf(thread)}` }, letterOf(thread));
-// The thread that has a lock, as the trace names it (t0), by its letter.
 export const holderOf = (lock) => letterOf(Number(lock.slice(1)));
 export const keyText = (key) => String(key).replace("-inf", "−∞").replace("+inf", "+∞");
 export const said = (value) => (value.endsWith("*") ? `${value.slice(0, -1)}, marked` : keyText(value));
@@ -22,7 +25,6 @@ export const counted = (count, word) => `${count} ${word}${count === 1 ? "" : "s
 export const callText = (call) => `${call.operation}(${call.key})`;
 export const openReply = "true"; // an open call that stands in the order has changed the set
 
-// A text about "thread 0", with the letters of the threads.
 export function inLetters(text) {
   const letters = (numbers) => numbers.replace(/\d+/g, (number) => letterOf(Number(number)));
   const some = text.replace(/\b(?:the )?threads (\d+(?:, \d+)*(?:,? and \d+)?)/gi, (_, numbers) => letters(numbers));

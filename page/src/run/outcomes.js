@@ -23,7 +23,6 @@ function marksOf(trace) {
   return trace.marks;
 }
 
-// A node with the thread whose slot it is, and the thread that marked it.
 function wholeName({ trace, event }, name) {
   const whose = isOpeningNode(trace, name) ? "the node of an opening key" : `${chipOf(ownerOf(trace, name))}'s node`;
   const mark = marksOf(trace).get(name);
@@ -33,10 +32,8 @@ function wholeName({ trace, event }, name) {
 
 export const hasInChain = (state, key) => keysInChain(state).includes(Number(key));
 
-// What comes of an event. Each says its part, or nothing.
 export const OUTCOMES = {
-  // In a broken list, a node may be inserted behind one that is not in the chain, and a key that is removed may stay in it; and a call
-  // may add a key that is there already, or remove one that is not.
+  // In a broken list a node may be inserted behind one that is out of the chain, a removed key may stay, a key come in twice.
   change({ trace, state, event, held, hadKey }) {
     const { put, took } = event;
     const had = trace.lacks !== null && hadKey;
@@ -57,7 +54,6 @@ export const OUTCOMES = {
     return state.chain().includes(owner) ? `${owner} is still in the chain.` : `${owner} is not in the chain any more.`;
   },
 
-  // A link that went to a node goes past it.
   unlink(moment) {
     const { state, event, before, wasInChain } = moment;
     const gone = before.curr;
@@ -66,7 +62,6 @@ export const OUTCOMES = {
     return `<b>This unlinks ${wholeName(moment, gone)}.`;
   },
 
-  // The last exchange of a remove, which answers whatever it sees.
   leftInChain({ state, event, before }) {
     if (!isFailed(event) || event.answer === undefined) return "";
     if (!state.chain().includes(before.curr)) return `${before.curr} is not in the chain any more.`;

@@ -1,9 +1,7 @@
 // Calls that were recorded from a set of the reader's own: what the proved judge says of them, in words, and the calls that are drawn.
-import { callsOfRecording, leavesKey, readVerdict } from "../engine/answers.js";
-import { sentenceOn } from "./faults.js";
+import { callsOfRecording, leavesKey, readVerdict, sentenceOn } from "../engine/answers.js";
 import { nameOfCall } from "./judged.js";
 
-// Two threads looked for a key, did not find it, and put it in.
 export const RECORDED_EXAMPLE = `listset-calls 1
 opening 8
 call 0 add 5 1 4 true
@@ -14,8 +12,6 @@ end
 `;
 
 const MOST_DRAWN = 40; // calls
-
-// A text that was pasted may lack its last newline.
 export const withNewline = (text) => (text === "" || text.endsWith("\n") ? text : `${text}\n`);
 
 export const recordedInWords = (call) =>
@@ -23,14 +19,12 @@ export const recordedInWords = (call) =>
     ? `${nameOfCall(call)}, begun at ${call.begun}, is pending`
     : `${nameOfCall(call)} answers ${call.reply}, from ${call.begun} to ${call.ended}`;
 
-// Which keys were left is not known of a recording that was cut off.
 function okInWords({ count, isCutOff }) {
   const calls = count === 1 ? "this one call" : `these ${count.toLocaleString("en")} calls`;
   const keys = isCutOff ? ", whatever keys it leaves" : " and leaves the keys";
   return `Linearizable: an order explains ${calls}${keys}. It says nothing of other runs.`;
 }
 
-// What else is said of a right recording: whether its calls meet, and that it was cut off.
 function remarksOn({ count, overlapped, isCutOff }) {
   const few = "That is few, and a bug shows only if calls meet: take fewer keys, more threads, or pauses in the set.";
   return [
@@ -43,7 +37,6 @@ function remarksOn({ count, overlapped, isCutOff }) {
 
 const isInWords = (isThere) => `the key is ${isThere ? "there" : "not there"}`;
 
-// Why no order explains the calls of a key, in sentences.
 export function reasonsOf({ key, moment, since, isThere, by, calls, hidden }) {
   if (key === null) return ["No order leaves these keys, which do not increase."];
   const isLeft = moment === null;
@@ -75,14 +68,12 @@ function verdictOfRefusal(why, text) {
   };
 }
 
-// The program's own line about an error, and in words what it is that the text has wrong.
 function troubleInWords(ask, { cause, says }) {
   const why = sentenceOn(ask, cause, "recorded calls");
   return why === null ? says : `${says}: ${why}.`;
 }
 
-// The judge's record on the text (listset_judge_record): of which kind it is, a sentence, its reasons, and the calls to draw; those of a
-// refusal with the moment from which they have no order, and what the key is there.
+// What the judge says of a text, in words, and the calls to draw; those of a refusal with the moment from which they have no order.
 export function verdictOnCalls(ask, answer, text) {
   const judged = readVerdict(answer);
   if (judged.kind === "ok") return verdictOfOk(judged, text);

@@ -1,16 +1,18 @@
-// The texts of schedules: that of a trace's events, one with a line more, and its opening keys.
-import { HEADER_LINES } from "./trace.js";
+// The texts of schedules; and drafts, in which a line may say `go T out` or `go T to ROW`, on whole lists and broken ones.
+import { HEADER_LINES, isTrace, Trace } from "./trace.js";
 
-const MOST_STEPS = 10000; // of one line
+// The text of a schedule, or of a draft, with these lines. Opening keys and ceilings want the second version.
+export function scheduleText({ list, threads, quota, opening = [], version = null }, lines = []) {
+  const needed = opening.length > 0 || lines.some((line) => line.includes(" ceiling ")) ? 2 : 1;
+  const head = [`listset-schedule ${version ?? needed}`, `list ${list}`, `threads ${threads}`, `quota ${quota}`];
+  return [...head, ...opening.map((key) => `opening ${key}`), ...lines, ""].join("\n");
+}
 
-// The first line of a schedule of this version, and the version of one that is no other text.
-export const titleOf = (version) => `listset-schedule ${version}`;
-export const versionOf = (schedule) => (schedule.startsWith(`${titleOf(2)}\n`) ? 2 : 1);
+const TITLE_OF_SECOND = "listset-schedule 2";
+export const versionOf = (schedule) => (schedule.startsWith(`${TITLE_OF_SECOND}\n`) ? 2 : 1);
 
-// The lines of the schedule of the first `count` events, as the lines of the trace have them.
-function scheduleLines(trace, count) {
-  const lines = [titleOf(trace.version), `list ${trace.kind}`, `threads ${trace.threads}`, `quota ${trace.quota}`];
-  for (const key of trace.opening) lines.push(`opening ${key}`);
+export function scheduleOfTrace(trace, count = trace.total) {
+  const lines = [];
   let [steps, before] = [0, null];
   for (let number = 1; number <= count; number++) {
     const event = trace.event(number);
@@ -21,44 +23,59 @@ function scheduleLines(trace, count) {
     else lines.push(`go ${event.thread} ${steps}`);
     before = event.line;
   }
-  return lines;
+  return scheduleText({ ...trace, list: trace.kind }, lines);
 }
 
-export const scheduleOfTrace = (trace, count = trace.total) => [...scheduleLines(trace, count), ""].join("\n");
-
-// The schedule of the first `count` events and one more line, which a `go` line before it may take up. A ceiling wants the
-// second version. The lines of all events are those of the text that was run, if it is given.
-export function scheduleAndLine(trace, count, line, text = null) {
-  const isWhole = text !== null && count === trace.total && trace.refused === null;
-  const lines = isWhole ? text.trimEnd().split("\n") : scheduleLines(trace, count);
-  const last = lines[lines.length - 1].split(" ");
-  const added = line.split(" ");
-  const isPlain = last[0] === "go" && added[0] === "go" && last[1] === added[1] && Number(added[2]) > 0;
-  const joins = isPlain && Number(last[2]) + Number(added[2]) <= MOST_STEPS;
-  if (added[2] === "ceiling") lines[0] = titleOf(2);
-  if (joins) lines[lines.length - 1] = `go ${last[1]} ${Number(last[2]) + Number(added[2])}`;
-  else lines.push(line);
-  return lines.join("\n") + "\n";
-}
-
-// The opening keys of a schedule's text, as they stand there.
 export function openingIn(schedule) {
   const lines = schedule.split("\n").slice(HEADER_LINES);
   const count = lines.findIndex((line) => !line.startsWith("opening "));
   return lines.slice(0, count === -1 ? lines.length : count).map((line) => line.slice("opening ".length));
 }
 
-// The schedule with these opening keys in place of its own. Opening keys want the second version.
 export function withOpening(schedule, keys) {
   const lines = schedule.split("\n");
   lines.splice(HEADER_LINES, openingIn(schedule).length, ...keys.map((key) => `opening ${key}`));
-  if (keys.length > 0 && lines[0] === titleOf(1)) lines[0] = titleOf(2);
+  if (keys.length > 0 && lines[0] === "listset-schedule 1") lines[0] = TITLE_OF_SECOND;
   return lines.join("\n");
 }
 
-// How many events the lines of a text ask for, where it is a schedule.
 export function eventsAsked(text) {
   let count = 0;
   for (const [, steps] of text.matchAll(/^(?:begin |go \d+ (\d+)$)/gm)) count += Number(steps ?? 1);
   return count;
+}
+
+// ---- drafts
+const MOST_TRIED = 1000; // steps of a thread that does not come to where it is sent, to see for what it waits
+const DRAFT_LINE = /^go \d+ (?:out|to \d+)$/m;
+
+// The schedule of a draft, or the engine's line about its first fault. The engine knows drafts of whole lists alone.
+export function scheduleOfDraft(ask, text, lacks = null) {
+  if (!DRAFT_LINE.test(text)) return { text, fault: null };
+  if (lacks !== null) return scheduleOfLackingDraft(ask, lacks, text);
+  const made = ask("listset_draft", text.replace(/^listset-(?:schedule|draft) [12]$/m, "listset-draft 2"));
+  return made.status === 0 ? { text: made.text, fault: null } : { text: null, fault: made.text.trim() };
+}
+
+// How many steps of a thread, after these lines, end its call or lead to a row; or why none do.
+function stepsOfLacking(ask, lacks, lines, thread, row) {
+  const fault = (cause) => ({ count: null, fault: `listset: line ${lines.length + 1}: ${cause}` });
+  const { text } = ask("listset_lacking", lacks, `${[...lines, `go ${thread} ${MOST_TRIED}`].join("\n")}\n`, "trace");
+  if (!isTrace(text)) return { count: null, fault: text.trim() };
+  const steps = new Trace(text).events().filter(({ line }) => line === lines.length + 1);
+  const end = steps.findIndex(({ answer }) => answer !== undefined);
+  const at = row === undefined ? end : steps.findIndex(({ answer, changes }) => answer === undefined && changes.pc === Number(row));
+  if (at !== -1) return { count: at + 1, fault: null };
+  return fault(end !== -1 || steps.length === 0 ? "Idle" : "Waits");
+}
+
+function scheduleOfLackingDraft(ask, lacks, text) {
+  const lines = [];
+  for (const line of text.split("\n").slice(0, -1)) {
+    const asked = /^go (\d+) (?:out|to (\d+))$/.exec(line);
+    const { count, fault } = asked === null ? { count: null, fault: null } : stepsOfLacking(ask, lacks, lines, asked[1], asked[2]);
+    if (fault !== null) return { text: null, fault };
+    lines.push(asked === null ? line : `go ${asked[1]} ${count}`);
+  }
+  return { text: [...lines, ""].join("\n"), fault: null };
 }

@@ -1,10 +1,8 @@
-// One sentence about an event: what it did, and what comes of it. Both follow from the line of the trace, from what the thread
-// held before and holds after, and from the column "Then" of the table's row (rows.js).
+// One sentence about an event: what it did, and what comes of it.
 import { LISTS } from "../../made/rows.js";
 import { callText, chipOf, holderOf, letterOf, said } from "./markup.js";
 import { hasInChain, isFailed, isLock, mono, OUTCOMES, ownerIn, setsMark } from "./outcomes.js";
 
-// A lock by what it protects; several of them.
 const lockedBy = (word) => (word === "list.lock" ? "the list" : mono(ownerIn(word)));
 
 // What an event did; `row` is the one at which its thread was before.
@@ -62,7 +60,6 @@ export function momentAt(state, count) {
   return { trace, state, event, before, hadKey, wasInChain, held: state.threads[event.thread], row };
 }
 
-// The sentence of a moment, without what is hidden: some of the outcomes, and "effect", where a call took effect.
 export function sentenceOf(moment, hidden = []) {
   const { trace, event } = moment;
   if (event === null) return `${openingText(trace)}${trace.total === 0 ? " Let one begin a call." : ""}`;

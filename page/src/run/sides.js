@@ -1,6 +1,5 @@
-// Two lists side by side: one program of calls, and each list with a schedule of its own. A turn of a thread makes its next step in
-// both; one whose call has answered waits for the other, and then both begin the next call. Each is a run by the engine.
-import { titleOf } from "./schedule_text.js";
+// Two lists side by side: one program of calls. A turn of a thread makes its next step in both; who has answered waits for the other.
+import { scheduleText } from "./schedule_text.js";
 import { letterOf } from "./markup.js";
 import { State } from "./state.js";
 import { isTrace, MOST_NUMBER, Trace } from "./trace.js";
@@ -9,7 +8,6 @@ const MOST_TURNS = 500;
 
 export class ProgramFault extends Error {}
 
-// A program as text: a line for each thread, by its letter or its number, as "A: add 5, remove 5".
 export function readProgram(text) {
   const program = [];
   for (const line of text.split("\n").filter((one) => one.trim() !== "")) {
@@ -31,20 +29,18 @@ export function programText(program) {
   return lines.join("");
 }
 
-// One of the lists: the lines of its schedule, its run, and how many of its events there were after each turn.
 class Side {
   constructor(ask, kind, { program, quota, opening }) {
     this.ask = ask;
     this.kind = kind;
     this.lines = [];
     this.counts = [0];
-    const set = [titleOf(2), `list ${kind}`, `threads ${program.length}`, `quota ${quota}`];
-    this.head = [...set, ...opening.map((key) => `opening ${key}`)];
+    this.set = { version: 2, list: kind, threads: program.length, quota, opening };
     this.run();
   }
 
   get schedule() {
-    return [...this.head, ...this.lines, ""].join("\n");
+    return scheduleText(this.set, this.lines);
   }
 
   run() {
@@ -59,7 +55,6 @@ class Side {
     return this.state.threads[thread].pc !== 0;
   }
 
-  // Makes an event more, where there is a line for it; else waits.
   take(line) {
     if (line !== null) {
       this.lines.push(line);
@@ -85,7 +80,6 @@ export class Sides {
     return next === undefined ? null : this.sides.map(() => `begin ${thread} ${next}`);
   }
 
-  // Makes a turn of the thread; false where there is none.
   turn(thread) {
     const lines = this.linesOf(thread);
     if (lines === null || this.turns.length === MOST_TURNS) return false;

@@ -1,5 +1,4 @@
-// The words, the threads and the chain after so many events of a trace. No step is computed here: each event's line says
-// what was written and what its thread holds then.
+// The words, the threads and the chain after so many events of a trace, as each event's line tells.
 import { firstOpeningNode } from "./trace.js";
 
 // Where a thread's call stands: the row that it made last (0: none), and its registers.
@@ -7,7 +6,6 @@ const BEGUN = { came: 0, pred: "head", curr: "head", succ: "head", node: "head",
 const AT_REST = { pc: 0, used: 0, call: null, ...BEGUN };
 export const linkTarget = (link) => link.replace("*", "");
 export const keyNumber = (key) => (key === "-inf" ? -1 : key === "+inf" ? Infinity : Number(key));
-
 const MOST_UNDONE = 20000; // events that can be gone back; what lies further back is made again from the start
 
 export class State {
@@ -25,13 +23,6 @@ export class State {
     this.undo = [];
   }
 
-  // The state of a trace that goes on where this one's ends: what was made is not made again.
-  goOn(trace) {
-    this.trace = trace;
-    return this;
-  }
-
-  // Goes to the state after `count` events, on or back.
   moveTo(count) {
     if (count < this.count - this.undo.length) this.begin();
     while (this.count < count) this.apply(this.trace.event(++this.count), count - this.count < MOST_UNDONE);
@@ -41,7 +32,6 @@ export class State {
     }
   }
 
-  // Makes an event; it can be gone back where it is kept.
   apply(event, isKept) {
     const done = [];
     const set = (holder, name, value) => {
@@ -80,7 +70,6 @@ export class State {
     return held;
   }
 
-  // The nodes from the head to the tail, as the link words lead.
   chain() {
     const found = new Set(["head"]);
     for (let name = "head"; name !== "tail"; ) {
@@ -92,7 +81,6 @@ export class State {
   }
 }
 
-// The nodes of the opening keys, from the head to the tail.
 function openingNodes(trace) {
   const first = firstOpeningNode(trace);
   const nameOf = (index) => (index < trace.opening.length ? `n${first + index}` : "tail");

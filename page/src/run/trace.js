@@ -1,20 +1,14 @@
-// A trace (the text of `listset trace`) as the engine prints it. One pass finds its lines, its calls and what changes the set; an
-// event is read when it is asked for. A trace from a file is checked before (check_trace.js).
+// A trace (the text of `listset trace`) as the engine prints it. An event is read when it is asked for.
 
 export const HEADER_LINES = 4;
-const END = "end\n"; // the last line, if no event is refused
 export const NODE_REGISTERS = ["pred", "curr", "succ", "node"];
 export const KEY_REGISTERS = ["pkey", "ckey"];
 export const CALL_WORDS = ["add", "remove", "contains", "ceiling"];
 export const MOST_NUMBER = 4294967295;
-
-// Whether an answer of the engine is a trace, and not its line about an error.
 export const isTrace = (text) => text.startsWith("listset-trace");
 
 export class Trace {
-  // The version is that of the schedule's text: the one that is given, and the second where there are opening keys or a ceiling.
-  // If the trace goes on where another one ends, what was read of that is taken over, with its calls; that one is not used any more.
-  constructor(text, version = 1, before = null) {
+  constructor(text, version = 1) {
     const [, kind, lacks = null, threads, quota] =
       /^listset-trace 1\nlist (\S+)\n(?:lacks (\S+)\n)?threads (\d+)\nquota (\d+)\n/.exec(text);
     this.text = text;
@@ -30,9 +24,7 @@ export class Trace {
     this.changes = []; // the events that change the set
     this.starred = []; // the numbers of those whose line tells of a mark
     this.refused = null;
-    this.before = before !== null && goesOn(this, before) ? before : null;
-    if (this.before === null) this.scan(0);
-    else this.takeOver();
+    this.scan();
     if (this.opening.length > 0) this.version = 2;
     this.order = orderOf(this.calls);
   }
@@ -41,16 +33,9 @@ export class Trace {
     return this.starts.length;
   }
 
-  takeOver() {
-    const { opening, starts, calls, callsOf, changes, starred, text } = this.before;
-    const own = { opening, starts: [...starts], calls: [...calls], changes: [...changes], starred: [...starred] };
-    Object.assign(this, own, { callsOf: callsOf.map((some) => [...some]) });
-    this.scan(text.length - END.length);
-  }
-
-  scan(from) {
+  scan() {
     const { text } = this;
-    for (let at = from; at < text.length; ) {
+    for (let at = 0; at < text.length; ) {
       const end = text.indexOf("\n", at);
       const line = text.slice(at, end);
       if (line.startsWith("event ")) this.note(line, this.starts.push(at));
@@ -60,7 +45,6 @@ export class Trace {
     }
   }
 
-  // Notes what the line of an event says of its call and of the set.
   note(line, number) {
     if (line.includes("*")) this.starred.push(number);
     if (line.includes(" begin ")) this.noteCall(line.split(" "), number);
@@ -83,7 +67,6 @@ export class Trace {
     this.callsOf[call.thread].push(call);
   }
 
-  // The call of a thread that is open at an event, or ends there.
   callAt(thread, number) {
     const calls = this.callsOf[thread];
     let [least, most] = [0, calls.length - 1];
@@ -100,7 +83,6 @@ export class Trace {
     return this.text.slice(start, this.text.indexOf("\n", start));
   }
 
-  // The event of this number, from 1: what its line tells.
   event(number) {
     const pieces = this.lineOf(number).split(" ");
     const event = { number, line: Number(pieces[3]), thread: Number(pieces[5]), deed: pieces[6], changes: {} };
@@ -113,13 +95,11 @@ export class Trace {
     return event;
   }
 
-  // All events, of a short trace.
   events() {
     return this.starts.map((_, index) => this.event(index + 1));
   }
 }
 
-// What the end of an event's line tells: the row and the registers of its thread, a change of the set, an answer and its moment.
 function tellIn(event, name, value) {
   if (name === "answer") event.answer = value;
   else if (name === "put" || name === "took" || name === "at") event[name] = Number(value);
@@ -127,15 +107,9 @@ function tellIn(event, name, value) {
   else if (name !== "call") event.changes[name] = value;
 }
 
-// Whether a trace begins with all events of one that has ended.
-function goesOn({ text, version }, before) {
-  return before.version === version && before.text.endsWith(`\n${END}`) && text.startsWith(before.text.slice(0, -END.length));
-}
-
 // The nodes of the opening keys come after the slots of all threads.
 export const firstOpeningNode = (trace) => 2 + trace.threads * trace.quota;
 
-// How many events from the first on two traces have in common, where they are of sets that open alike.
 export function eventsInCommon(one, other) {
   const header = ({ kind, threads, quota, opening }) => [kind, threads, quota, ...opening].join();
   if (header(one) !== header(other)) return 0;

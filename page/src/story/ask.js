@@ -1,5 +1,4 @@
-// Eleven examples that begin at their question: what is there at first are opening keys, so that nothing has to be set up. `lines` lead to
-// the question, `rest` is what happens then. `lacks` is the list on which the same schedule shows why its check is there.
+// Eleven examples: `lines` lead to the question, `rest` is what happens then; `lacks` is the list on which it shows why its check is there.
 export const QUESTIONS = [
   {
     name: "failed-tries", list: "coarse", title: "Two adds of one number", opening: [3, 8],

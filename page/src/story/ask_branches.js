@@ -1,11 +1,47 @@
-// What if: a run of a question may be changed from any moment on. The question stays above, each branch is kept, and one press leads
-// back. Beside them the same run, or another one, on a list that lacks the check.
-import { now } from "../page/now.js";
+// The figure of a question: its run, one of its branches, or a run of a list that lacks a check.
+import { BREAK_LEVELS } from "../data/levels.js";
 import { tag } from "../run/markup.js";
-import { CHECK_WORDS, itemOf, takeBranch } from "./ask_figure.js";
+import { now } from "../page/now.js";
+import { QUESTIONS } from "./ask.js";
+import { APPENDIX } from "./ask_more.js";
+import { Figure } from "./figure.js";
 import { LiveRun } from "./live_run.js";
-import { drawLedger, isOddRun, part, scene, setScene } from "./scene.js";
+import { drawLedger, isOddRun, LIST_WORDS, part, scene, setScene, takeFigure } from "./scene.js";
 
+const CHECK_WORDS = {
+  lock: "the lock is ignored",
+  "hand-over-hand": "it lets go of one lock before it has the next",
+  "second-walk": "it does not walk again",
+  "marks-in-validation": "it does not look at the marks",
+  "mark-in-remove": "it marks a node that is marked already",
+  "mark-in-add": "an add does not look at the mark of its pred",
+  "mark-at-key": "a contains does not look at the mark",
+};
+export const ALL = [...QUESTIONS, ...APPENDIX];
+export const itemOf = ({ id }) => ALL.find(({ name }) => name === id);
+export const isEmbed = () => now.place.view === "embed";
+
+export function takeBranch({ lines, opening, lacks = null, isFree = false }) {
+  const item = itemOf(now.place);
+  const calls = isFree ? {} : item.calls;
+  return takeFigure(new Figure(freshBox(), {
+    list: item.list, lacks, lines, calls, threads: item.threads ?? 2, quota: item.quota ?? 4, opening: opening ?? item.opening,
+    operations: operationsIn(item),
+    strip: true, scrub: true, again: false, free: isFree, short: true, roomFor: 552, high: isEmbed() ? 0.34 : 0.23, least: isEmbed() ? 110 : 180,
+    code: !isEmbed(), codeTitle: LIST_WORDS[item.list], codeNote: lacks === null ? "" : `Here ${CHECK_WORDS[lacks]}.`,
+    struck: BREAK_LEVELS[lacks]?.missing,
+  }));
+}
+
+const operationsIn = ({ lines, rest }) => [...lines, ...rest].filter((line) => line.startsWith("begin")).map((line) => line.split(" ")[2]);
+
+function freshBox() {
+  const box = Object.assign(document.createElement("div"), { id: "figure" });
+  part("#figure").replaceWith(box);
+  return box;
+}
+
+// ---- what if: a run of a question may be changed from any moment on, and each branch is kept
 function takeOwnBranch(branch) {
   const figure = takeBranch({ ...branch, isFree: true });
   Object.assign(figure, { onFork: fork, onStep: grow });
@@ -51,7 +87,6 @@ export async function openBranch(at, plays = false) {
 export const goBack = () => openBranch(0);
 export const seeAgain = () => scene.figure.replay(now.scene.branches[0].from);
 
-// The threads' buttons come when they are asked for.
 export function whatIf() {
   const { figure } = scene;
   figure.set({ hidesDock: false });
@@ -76,8 +111,6 @@ function sameLines({ list, opening, lines, rest, lacks }) {
   broken.take(whole.lines);
   return [...broken.linesHere(), ...[0, 1].filter((thread) => !broken.isIdle(thread)).map((thread) => `go ${thread} out`)];
 }
-
-// ---- what is said of a branch
 
 const ownWords = ({ from, lacks = null }, isBroken) => {
   const proved = "Whatever you choose, some order of the calls explains their answers: that is proved of each run of this list.";

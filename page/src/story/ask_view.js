@@ -1,13 +1,11 @@
-// Ask, then show: a run stops at its question; the reader says what comes; the run plays on, and the reply says why. Then it may be
-// changed (ask_branches.js).
+// Ask, then show: a run stops at its question; the reader says what comes; the run plays on, and the reply says why.
 import { now } from "../page/now.js";
 import { QUESTIONS } from "./ask.js";
-import { drawBranches, goBack, openBranch, seeAgain, talkOfBranch, whatIf, withoutCheck } from "./ask_branches.js";
-import { ALL, isEmbed, itemOf, takeBranch } from "./ask_figure.js";
+import { ALL, drawBranches, goBack, isEmbed, itemOf, openBranch, seeAgain, takeBranch, talkOfBranch, whatIf, withoutCheck } from "./ask_branches.js";
 import { isNarrow } from "./figure_parts.js";
-import { keepStory, keptStory } from "./kept_story.js";
+import { keepStory, keptStory } from "./kept.js";
 import { LiveRun } from "./live_run.js";
-import { FIGURE_AND_TALK, head, LIST_WORDS, numberOfKey, optionButtons, part, replyTo, scene, setScene, talk, threadOfKey } from "./scene.js";
+import { drawOn, FIGURE_AND_TALK, head, LIST_WORDS, numberOfKey, optionButtons, part, replyTo, scene, setScene, talk, threadOfKey } from "./scene.js";
 
 const here = () => itemOf(now.place);
 
@@ -49,8 +47,6 @@ async function guessed(index) {
   openBranch(0);
 }
 
-// ---- what follows from how far one is
-
 function talkOf({ stage, chosen, at, branches }) {
   const item = here();
   const reply = replyTo(item.options, chosen, stage === "playing");
@@ -70,11 +66,8 @@ function draw(state) {
   if (state.stage === "") return;
   talk(talkOf(state));
   drawBranches(state);
-  const [show, on] = [part("#show-me"), part("#go-on")];
-  const isGuess = state.stage === "guess";
-  show.hidden = !isGuess;
-  on.textContent = isGuess || state.stage === "playing" ? "Skip →" : "Next question →";
-  on.className = isGuess || state.stage === "playing" ? "button quiet" : "button primary";
+  part("#show-me").hidden = state.stage !== "guess";
+  drawOn(state.stage !== "guess" && state.stage !== "playing", "Next question →");
 }
 
 function press(event) {
@@ -92,7 +85,6 @@ function press(event) {
   }
 }
 
-/** @type {import("./scene.js").View} */
 export const askView = {
   kind: "ask-one",
   fault: ({ id }) => (ALL.some(({ name }) => name === id) ? null : `there is no question "${id}"`),

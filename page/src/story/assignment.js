@@ -1,29 +1,25 @@
-// An assignment is its address: #assignment=Week+3&learn=one-lock.lost-pred&break=6.7&judge=lazy.2.5.2.17. It names tasks by words and
-// numbers that stay, so that a link on a board, in a mail or in a bookmark opens the same years later; nothing is kept for it anywhere.
+// An assignment is its address, #assignment=Week+3&learn=one-lock.lost-pred&break=6.7&judge=lazy.2.5.2.17: nothing is kept for it anywhere.
 import { BOOK, BOOK_NAME } from "../../made/book.js";
 import { LACKING } from "../../made/classics.js";
 import { LISTS } from "../../made/rows.js";
-import { triedCourse } from "../course/lesson.js";
 import { BREAK_LEVELS, levelOfNumber, numberOfLevel } from "../data/levels.js";
-import { keptUnder } from "../page/kept.js";
-import { askNow } from "../page/now.js";
-import { addressOfAssignment } from "../page/scene_address.js";
-import { AddressFault, addressOf, readAddress } from "../run/address.js";
+import { AddressFault, addressOf, isSeed, partsOfSeed, readAddress, scheduleOfSeed } from "../run/address.js";
 import { NO_TASK } from "../run/broken.js";
-import { inLetters } from "../run/markup.js";
+import { counted, escaped, inLetters, tag } from "../run/markup.js";
 import { eventsAsked } from "../run/schedule_text.js";
-import { partsOfSeed, scheduleOfSeed } from "../run/seed.js";
-import { brokenLines, keptStory } from "./kept_story.js";
+import { handInText } from "../course/hand_in.js";
+import { triedCourse } from "../course/lesson.js";
+import { saveText } from "../page/files.js";
+import { keptUnder } from "../page/kept.js";
+import { askNow, now } from "../page/now.js";
+import { addressOfAssignment } from "../page/visit.js";
+import { brokenLines, keepStory, keptStory, startAfresh } from "./kept.js";
+import { copyText, foot, head, part } from "./scene.js";
 
 const known = { course: null };
-
-// The twelve lessons of the book, tried once.
 export const bookCourse = () => (known.course ??= triedCourse(askNow, BOOK));
-
 export const allLevels = () => Object.keys(BREAK_LEVELS).filter((name) => name !== NO_TASK).map((name) => ({ name, number: numberOfLevel(name) }));
-
 const wordsIn = (text, sign = ".") => (text ?? "").split(sign).filter((word) => word !== "");
-const isSeed = (word) => /^(coarse|fine|optimistic|lazy|lock-free)\.\d{1,2}\.\d{1,2}\.\d{1,2}\.\d{1,9}$/.test(word);
 
 export function addressOfTasks(title, { learn, levels, seeds }) {
   const parts = Object.entries({ learn: learn.join("."), break: levels.join("."), judge: seeds.join(",") });
@@ -71,7 +67,6 @@ export function wayOn({ activity, id }, own) {
   return next === undefined ? { href: addressOfAssignment(homework), words: "All tasks →" } : { href: next.href, words: "Next task →" };
 }
 
-// The tasks of an assignment, in order, and what its address names that there is not.
 export function tasksOf(given) {
   const unknown = [];
   const taken = (words, taskOf, what) =>
@@ -86,7 +81,6 @@ export function tasksOf(given) {
 }
 
 // ---- what this browser has done: what the page keeps of lessons, levels and judged runs
-
 function textOfRun(run) {
   try {
     return run.includes("#") ? readAddress(run.slice(run.indexOf("#"))).text : null;
@@ -96,7 +90,6 @@ function textOfRun(run) {
   }
 }
 
-// Which of these tasks a judged run is: that of the same schedule, whatever moment the address names.
 export function taskOfJudged(line, tasks) {
   const [, run = "", level] = line.split(" ");
   if (level === "claim") return null;
@@ -104,8 +97,7 @@ export function taskOfJudged(line, tasks) {
   return tasks.find(({ seed }) => seed !== undefined && text === scheduleOfSeed(askNow, seed)) ?? null;
 }
 
-// Of each task the line that is handed in for it, or nothing.
-export function linesDone(tasks) {
+function linesDone(tasks) {
   const lessons = keptUnder("listset-lessons-2")?.of?.[BOOK_NAME]?.solutions ?? {};
   const broken = Object.fromEntries(brokenLines());
   const judged = Object.values(keptUnder("listset-judged") ?? {}).filter((line) => typeof line === "string");
@@ -116,3 +108,81 @@ export function linesDone(tasks) {
   };
   return Object.fromEntries(tasks.map((task) => [task.id, lineOf[task.kind](task)]));
 }
+
+// ---- What a student opens: the tasks of one link, what of them is done in this browser, and the text to hand in.
+export const titleOfAssignment = ({ id }) => id || "Assignment";
+
+function doneOf(place) {
+  const { tasks, unknown } = tasksOf(place.given);
+  const lines = linesDone(tasks);
+  return { tasks, unknown, lines, done: tasks.filter(({ id }) => lines[id] !== undefined) };
+}
+
+function itemOf({ kind, title, says, href }, isDone) {
+  const tick = tag("i", { class: "tick", role: "img", "aria-label": isDone ? "done" : "open" }, isDone ? "✓" : "");
+  const words = `${tag("span", { class: "kind" }, kind)}<b>${escaped(title)}</b>${tag("span", { class: "says" }, escaped(says))}`;
+  return tag("li", { class: isDone ? "done" : "" }, tag("a", { class: "task", href }, tick, words));
+}
+
+const HAND = ({ student, number }, count) => `<section class="panel hand" id="hand"><h2>Hand in</h2>
+  <div class="line"><label>Name <input id="hand-student" autocomplete="name" value="${escaped(student)}"></label>
+  <label>Student number <input id="hand-number" inputmode="numeric" value="${escaped(number)}"></label>
+  <button data-do="copy">Copy the text</button><button data-do="save">Save as a file</button>
+  <button class="quiet" data-do="afresh">Start afresh on this computer</button></div>
+  <p class="small" id="scene-told" role="status">The text has your ${counted(count, "solution")}. Your teacher’s page runs ${count === 1 ? "it" : "each of them"} again.</p>
+  <details><summary>See the text</summary><pre id="hand-text"></pre></details></section>`;
+
+function html(place) {
+  const { tasks, unknown, lines, done } = doneOf(place);
+  const first = tasks.find(({ id }) => lines[id] === undefined);
+  const wrong = unknown.length === 0 ? "" : `<p class="again">This page does not know: ${escaped(unknown.join(", "))}. Tell your teacher.</p>`;
+  const lead = `<p class="lead">${counted(tasks.length, "task")}, ${done.length} done in this browser. Come back by the same link: what is done stays ticked.</p>
+    <progress max="${tasks.length || 1}" value="${done.length}" aria-label="${done.length} of ${tasks.length} done"></progress>${wrong}
+    <p class="small">New to this? <a href="#story=1">Why not just one lock?</a> Twenty minutes, from nothing.</p>`;
+  const verb = done.length === 0 ? "Begin" : "Go on";
+  const next = (task) => tag("a", { class: "button primary", href: task.href }, `${verb}: ${escaped(task.title)} →`);
+  const bar = first === undefined ? foot("All done.", '<button class="primary" data-do="hand">Hand in ↑</button>') : foot("", next(first));
+  const items = tasks.map((task) => itemOf(task, lines[task.id] !== undefined));
+  const title = head("Assignment", escaped(titleOfAssignment(place)), lead, "title");
+  return `${title}${tag("ol", { class: "tasks" }, ...items)}${HAND(keptStory(), done.length)}${bar}`;
+}
+
+function begin({ id, given }) {
+  keepStory({ homework: { id, given } }); // its tasks lead back to it
+  for (const name of ["student", "number"]) part(`#hand-${name}`).oninput = fill;
+  fill();
+}
+
+function textNow() {
+  const [student, number] = ["student", "number"].map((name) => part(`#hand-${name}`).value.trim());
+  keepStory({ student, number });
+  const { done, lines } = doneOf(now.place);
+  return handInText(BOOK_NAME, `${student || "?"}${number === "" ? "" : ` (${number})`}`, [], done.map(({ id }) => lines[id]));
+}
+
+const fill = () => (part("#hand-text").textContent = textNow());
+
+function isNamed() {
+  if (part("#hand-student").value.trim() !== "") return true;
+  part("#scene-told").textContent = "Your name first, please.";
+  part("#hand-student").focus();
+  return false;
+}
+
+const fileName = () => `${part("#hand-student").value.trim().toLowerCase().replace(/\W+/g, "-") || "hand-in"}.txt`;
+
+export const assignmentView = {
+  kind: "assignment",
+  title: (place) => `${titleOfAssignment(place)} · Why not just one lock?`,
+  html,
+  begin,
+  deeds: {
+    copy: () => isNamed() && copyText(textNow(), "The text is copied: paste it where you hand in."),
+    save: () => isNamed() && saveText(fileName(), textNow()),
+    afresh: startAfresh,
+    hand: () => {
+      part("#hand").scrollIntoView({ behavior: "smooth" });
+      part("#hand-student").focus();
+    },
+  },
+};

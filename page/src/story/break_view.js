@@ -1,5 +1,4 @@
-// Break it: a list lacks one check. Let the threads step until no order of the calls explains their answers; then say which check is
-// missing. It is struck out of the code then, and the winning run is played once more.
+// Break it: the threads step until no order of the calls explains their answers; then the reader says which check is missing.
 import { LACKING } from "../../made/classics.js";
 import { LISTS } from "../../made/rows.js";
 import { BREAK_LEVELS, TEN, levelOfNumber, numberOfLevel, whyWrong } from "../data/levels.js";
@@ -7,10 +6,9 @@ import { askNow, now } from "../page/now.js";
 import { addressOf } from "../run/address.js";
 import { departureOf, isTaskDone, NO_TASK } from "../run/broken.js";
 import { wayOn } from "./assignment.js";
-import { Figure } from "./figure.js";
-import { isBrokenOnce, isNamed, keepBrokenLine, keepNamed } from "./kept_story.js";
+import { isBrokenOnce, isNamed, keepBrokenLine, keepNamed } from "./kept.js";
 import { runOfText } from "./live_run.js";
-import { FIGURE_AND_TALK, drawLedger, foot, head, hintAndOn, isOddRun, LIST_WORDS, numberOfKey, optionButtons, part, scene, setScene, takeFigure, talk, threadOfKey } from "./scene.js";
+import { drawHintAndOn, drawLedger, FIGURE_AND_TALK, foot, head, hintAndOn, isOddRun, LACKS_ONE, numberOfKey, optionButtons, pressThread, scene, setScene, takeFreeFigure, talk } from "./scene.js";
 
 const HINTS = 3;
 const levelOf = ({ id }) => levelOfNumber(id);
@@ -30,20 +28,13 @@ function begin(place) {
   const name = levelOf(place);
   const { start } = BREAK_LEVELS[name];
   const list = LACKING[name];
-  const isOfCeiling = name === "mark-in-ceiling";
   const given = place.given.text === undefined ? { opening: [3, 7] } : runOfText(place.given.text);
-  const figure = new Figure(part("#figure"), {
-    list, lacks: name, ...given, chosen: { 0: start[0], 1: start[1] }, free: true, strip: true, short: true, high: 0.24, roomFor: 694,
-    operations: ["add", "remove", "contains", ...(isOfCeiling ? ["ceiling"] : [])], codeTitle: LIST_WORDS[list],
-    codeNote: "One check of this code is not made here.",
-  });
+  const operations = ["add", "remove", "contains", ...(name === "mark-in-ceiling" ? ["ceiling"] : [])];
+  const figure = takeFreeFigure(list, { lacks: name, ...given, chosen: { 0: start[0], 1: start[1] }, high: 0.24, operations, codeNote: LACKS_ONE });
   figure.onStep = looked;
-  takeFigure(figure);
   setScene({ stage: "task", text: figure.run.schedule });
   if (place.given.text !== undefined) looked();
 }
-
-// ---- after each deed the proved judge is asked
 
 // Whether the run is the one that was opened, broken as it is: that was shown, and not found.
 const isShown = (run) => now.place.given.text !== undefined && run.lines.join() === run.first.join() && !isBrokenOnce(nameNow());
@@ -73,8 +64,6 @@ const whyOf = ({ why }, wasShown) => {
   const ofList = why.replace(/the set (has|does not have) it/, "the list $1 it"); // no set is this
   return `${ofList}. No order of the calls explains that; it is proved.${wasShown ? " This run was shown to you: find one of your own." : ""}`;
 };
-
-// ---- what follows from how far one is
 
 const NOBODY_KNOWS = "Nobody knows a run that breaks this list. Try it, and say why.";
 
@@ -106,12 +95,7 @@ function draw(state) {
   if (state.stage === "") return;
   const isDone = state.stage === "done";
   if (!isDone || !scene.figure.isBusy) talk(isDone ? wonHtml(state) : taskHtml(state));
-  const hint = part("#hint");
-  hint.hidden = isDone;
-  hint.textContent = state.hints === 0 ? "Hint" : state.hints < HINTS ? "Another hint" : "Start over";
-  const on = part("#go-on");
-  on.textContent = isDone ? on.dataset.words : "Skip →";
-  on.className = isDone ? "button primary ready" : "button quiet";
+  drawHintAndOn(isDone, state.hints === 0 ? "Hint" : state.hints < HINTS ? "Another hint" : "Start over");
   if (isDone && isNamed(nameNow())) strike();
 }
 
@@ -138,8 +122,7 @@ function answer(index) {
 // The winning run once more, from where the whole list would have gone another way.
 function replay() {
   const { figure } = scene;
-  const departs = departureOf(askNow, figure.run.trace);
-  figure.replay(Math.max(0, (departs?.event ?? 1) - 2));
+  figure.replay(Math.max(0, (departureOf(askNow, figure.run.trace) ?? 1) - 2));
 }
 
 function hint() {
@@ -153,7 +136,6 @@ function afresh() {
   scene.figure.again();
 }
 
-/** @type {import("./scene.js").View} */
 export const breakView = {
   kind: "ask-one",
   fault: ({ id }) => (levelOfNumber(id) === undefined ? `there is no level ${id}` : null),
@@ -163,7 +145,7 @@ export const breakView = {
   draw,
   press: (event) => {
     if (now.scene.stage === "done" && numberOfKey(event) !== -1) answer(numberOfKey(event));
-    else if (threadOfKey(event) !== -1) scene.figure.press(threadOfKey(event));
+    else pressThread(event);
   },
   deeds: { answer: ({ dataset }) => answer(Number(dataset.option)), hint, replay, afresh },
 };

@@ -1,23 +1,15 @@
-// The algorithm beside the picture, and the way to step: a thread stands at a line; that line makes it step, another line of it lets it
-// run there. `plain` leaves out the lines of the lock.
-import { BOOK_CODE } from "../data/book_code.js";
+// The algorithm beside the picture, and the way to step: each line is a button. `plain` leaves out the lines of the lock.
 import { chipOf, colourOf, escaped, letterOf, tag } from "../run/markup.js";
 
 const WORDS = /\b(while|if|else|return|start again|loop|until|unlock|lock|find|validate|CAS|mark|new)\b/g;
 
 /**
- * @typedef {object} CodeSpec  What of the code is shown, and how.
- * @property {string} list
- * @property {string[]} operations  the calls whose lines are shown
- * @property {boolean} [plain]
- * @property {number[]} [fresh]  rows that this list has anew
- * @property {number[]} [hides]  rows that are not shown
- * @property {Record<number, string>} [instead]  the words of a row, in place of its own
- * @property {{ row: number, part: string }[]} [struck]  what is struck out, of the line of a row
- * @property {{ thread: number, row: number }[]} next  the threads, and the rows that they make next
- * @property {{ thread: number, row: number } | null} made  the row that was just made
- * @property {boolean} canStep
- * @property {number} active  the thread that runs to a line where none stands
+ * Shown are the lines of the calls `operations`, without the rows `hides`, with `instead` in place of a row's words; `fresh` rows are new in
+ * this list, of a row a part may be `struck` out. `next` has the rows that threads make next, `made` the one that was just made; `active`
+ * runs to a line where no thread stands.
+ * @typedef {{ thread: number, row: number }} At
+ * @typedef {{ list: string, operations: string[], plain?: boolean, fresh?: number[], hides?: number[], instead?: Record<number, string>,
+ *   struck?: { row: number, part: string }[], next: At[], made: At | null, canStep: boolean, active: number }} CodeSpec
  */
 
 /** @param {CodeSpec} spec */
@@ -29,7 +21,6 @@ function linesShown({ list, operations, plain, hides = [], instead = {} }) {
   return lines.filter(({ rows }) => rows?.[0] !== 1).map((line) => (line.rows?.includes(10) ? { text: "return", rows: [10] } : line));
 }
 
-// The words of a line, with what is struck out of it.
 function wordsOf(text, rows, struck) {
   const inBold = (words) => escaped(words).replace(WORDS, "<b>$1</b>");
   const part = struck.find(({ row }) => rows.includes(row))?.part;
@@ -39,7 +30,6 @@ function wordsOf(text, rows, struck) {
   return `${inBold(text.slice(0, at))}${missing}${inBold(text.slice(at + part.length))}`;
 }
 
-// The threads at a line: two of them, or the first and how many more.
 const drawHere = (threads) => (threads.length < 3 ? threads.map(chipOf).join("") : `${chipOf(threads[0])}<small>+${threads.length - 1}</small>`);
 
 /** @param {any} line @param {CodeSpec} spec */
@@ -67,3 +57,99 @@ function drawOwnLine({ text, rows = [], isPlain = false }, { next, made, fresh =
 
 /** @param {CodeSpec} spec */
 export const drawOwnCode = (spec) => tag("ol", { class: "steps" }, ...linesShown(spec).map((line) => drawOwnLine(line, spec)));
+
+// ---- the algorithm of each list as the book has it: `rows` of the table for which a line stands, `of` the calls that make it
+
+const CHANGES = ["add", "remove"];
+
+const READS = [
+  { of: ["contains"], text: "contains(key):  no lock, no retry" },
+  { of: ["contains"], text: "  curr = curr.next, from the head", rows: [20] },
+  { of: ["contains"], text: "  while curr.key < key: go on", rows: [21] },
+  { of: ["contains"], text: "  return key is there and unmarked", rows: [22] },
+  { of: ["ceiling"], text: "ceiling(key):" },
+  { of: ["ceiling"], text: "  curr = curr.next, from the head", rows: [23] },
+  { of: ["ceiling"], text: "  while curr.key < key: go on", rows: [24] },
+  { of: ["ceiling"], text: "  if marked: start again; return curr.key", rows: [25] },
+];
+
+export const BOOK_CODE = {
+  coarse: [
+    { text: "lock the list", rows: [1] },
+    { text: "pred = head; curr = pred.next", rows: [2] },
+    { text: "while curr.key < key:", rows: [3] },
+    { text: "    pred = curr; curr = curr.next", rows: [4] },
+    { of: ["add"], text: "add, if curr.key ≠ key:" },
+    { of: ["add"], text: "    node = new Node(key, next = curr)", rows: [5, 6] },
+    { of: ["add"], text: "    pred.next = node", rows: [7] },
+    { of: ["remove"], text: "remove, if curr.key = key:" },
+    { of: ["remove"], text: "    pred.next = curr.next", rows: [8, 9] },
+    { of: ["contains"], text: "contains: true if curr.key = key" },
+    { text: "unlock the list; return", rows: [10] },
+  ],
+  fine: [
+    { text: "lock head; pred = head", rows: [1] },
+    { text: "curr = pred.next", rows: [2] },
+    { text: "loop: lock curr, pred still locked", rows: [3] },
+    { text: "    if curr.key ≥ key: leave the loop", rows: [4] },
+    { text: "    unlock pred", rows: [5] },
+    { text: "    pred = curr; curr = curr.next", rows: [6] },
+    { of: ["add"], text: "add, if curr.key ≠ key:" },
+    { of: ["add"], text: "    node = new Node(key, next = curr)", rows: [7, 8] },
+    { of: ["add"], text: "    pred.next = node", rows: [9] },
+    { of: ["remove"], text: "remove, if curr.key = key:" },
+    { of: ["remove"], text: "    pred.next = curr.next", rows: [10, 11] },
+    { of: ["contains"], text: "contains: true if curr.key = key" },
+    { text: "unlock curr; unlock pred; return", rows: [12, 13] },
+  ],
+  optimistic: [
+    { text: "pred = head; curr = pred.next", rows: [1] },
+    { text: "while curr.key < key:", rows: [2] },
+    { text: "    pred = curr; curr = curr.next", rows: [3] },
+    { text: "lock pred; lock curr", rows: [4, 5] },
+    { text: "validate: walk from the head again", rows: [6] },
+    { text: "    until pred is met, else not valid", rows: [7] },
+    { text: "    pred.next = curr? else not valid", rows: [8] },
+    { of: ["add"], text: "add, if curr.key ≠ key:" },
+    { of: ["add"], text: "    node = new Node(key, next = curr)", rows: [9, 10] },
+    { of: ["add"], text: "    pred.next = node", rows: [11] },
+    { of: ["remove"], text: "remove, if curr.key = key:" },
+    { of: ["remove"], text: "    pred.next = curr.next", rows: [12, 13] },
+    { of: ["contains"], text: "contains: true if curr.key = key" },
+    { text: "unlock pred; unlock curr", rows: [14, 15] },
+    { text: "if not valid: start again; return", isPlain: true },
+  ],
+  lazy: [
+    { of: CHANGES, text: "pred = head; curr = pred.next", rows: [1] },
+    { of: CHANGES, text: "while curr.key < key:", rows: [2] },
+    { of: CHANGES, text: "    pred = curr; curr = curr.next", rows: [3] },
+    { of: CHANGES, text: "lock pred; lock curr", rows: [4, 5] },
+    { of: CHANGES, text: "validate: pred unmarked, leads to curr", rows: [6] },
+    { of: CHANGES, text: "    and curr unmarked", rows: [7] },
+    { of: ["add"], text: "add, if curr.key ≠ key:" },
+    { of: ["add"], text: "    node = new Node(key, next = curr)", rows: [8, 9] },
+    { of: ["add"], text: "    pred.next = node", rows: [10] },
+    { of: ["remove"], text: "remove, if curr.key = key:" },
+    { of: ["remove"], text: "    mark curr", rows: [11] },
+    { of: ["remove"], text: "    pred.next = curr.next", rows: [12] },
+    { of: CHANGES, text: "unlock curr; unlock pred", rows: [13, 14] },
+    { of: CHANGES, text: "if not valid: start again; return", isPlain: true },
+    ...READS,
+  ],
+  "lock-free": [
+    { of: CHANGES, text: "find: pred = head; curr = pred.next", rows: [1] },
+    { of: CHANGES, text: "    succ, marked = curr.next", rows: [2] },
+    { of: CHANGES, text: "    marked? CAS pred.next: curr → succ", rows: [3] },
+    { of: CHANGES, text: "    if curr.key < key: go one node on", rows: [4] },
+    { of: ["add"], text: "add, if curr.key ≠ key:" },
+    { of: ["add"], text: "    node = new Node(key, next = curr)", rows: [5, 6] },
+    { of: ["add"], text: "    CAS pred.next: curr, no mark → node", rows: [7] },
+    { of: ["add"], text: "    else start again", isPlain: true },
+    { of: ["remove"], text: "remove, if curr.key = key:" },
+    { of: ["remove"], text: "    succ = curr.next", rows: [8] },
+    { of: ["remove"], text: "    CAS curr.next: succ, no mark → mark", rows: [9] },
+    { of: ["remove"], text: "    else start again", isPlain: true },
+    { of: ["remove"], text: "    CAS pred.next: curr → succ, once", rows: [10] },
+    ...READS,
+  ],
+};

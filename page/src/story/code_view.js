@@ -1,13 +1,10 @@
 // Step by the code: one list, two threads, any calls. The lines are the buttons. The run is in the address.
 import { LISTS } from "../../made/rows.js";
 import { now } from "../page/now.js";
-import { addressOfCode, linesOfCode, SET_OF_CODE, START_OF_CODE } from "../page/scene_address.js";
-import { linkTo } from "../page/visit.js";
+import { addressOfCode, linesOfCode, linkTo, SET_OF_CODE, START_OF_CODE } from "../page/visit.js";
 import { tag } from "../run/markup.js";
-import { Figure } from "./figure.js";
-import { copyText, head, LIST_WORDS, part, scene, setScene, takeFigure, threadOfKey } from "./scene.js";
+import { copyText, head, LIST_WORDS, part, pressThread, scene, setScene, takeFreeFigure } from "./scene.js";
 
-const OPERATIONS = ["add", "remove", "contains"];
 const listOf = ({ id }) => (id in LISTS ? id : "lazy");
 const numbersIn = (text) => [...new Set(text.split(/\D+/).filter((key) => /^\d{1,3}$/.test(key)).map(Number))].sort((one, other) => one - other);
 const numberIn = (text, least, most) => (/^\d{1,5}$/.test(text ?? "") ? Math.max(least, Math.min(most, Number(text))) : null);
@@ -32,17 +29,14 @@ function html(place) {
 
 function figureOf(place, lines) {
   const list = listOf(place);
-  return new Figure(part("#figure"), {
-    list, lines, opening: openingOf(place), ...setOfPlace(place), operations: OPERATIONS, free: true, strip: true, short: true,
-    roomFor: 694, high: 0.27,
-    codeTitle: LIST_WORDS[list], chosen: { 0: ["add", 5], 1: [list === "coarse" ? "contains" : "remove", 7] },
-  });
+  const chosen = { 0: ["add", 5], 1: [list === "coarse" ? "contains" : "remove", 7] };
+  return takeFreeFigure(list, { lines, opening: openingOf(place), ...setOfPlace(place), high: 0.27, chosen });
 }
 
 function begin(place) {
-  let figure = takeFigure(figureOf(place, linesOfCode(place.given.s ?? "")));
+  let figure = figureOf(place, linesOfCode(place.given.s ?? ""));
   if (figure.run.trace.refused !== null) {
-    figure = takeFigure(figureOf(place, []));
+    figure = figureOf(place, []);
     part("#code-told").hidden = false;
     part("#code-told").textContent = "These steps cannot be made on this list; it begins anew.";
   }
@@ -51,7 +45,6 @@ function begin(place) {
   part("#code-opening").onchange = ({ target }) => (location.hash = addressOfCode(listOf(place), numbersIn(target.value), [], setOfPlace(place)));
 }
 
-// Another list takes the threads' first calls along.
 function takeList({ dataset }) {
   const begins = scene.figure.run.lines.filter((line) => line.startsWith("begin"));
   const first = new Map(begins.map((line) => [line.split(" ")[1], line]).reverse());
@@ -65,12 +58,11 @@ function stepOn() {
   figure.press(thread);
 }
 
-/** @type {import("./scene.js").View} */
 export const codeView = {
   kind: "code-place",
   title: (place) => `${LISTS[listOf(place)].name}, step by the code`,
   html,
   begin,
-  press: (event) => threadOfKey(event) !== -1 && scene.figure.press(threadOfKey(event)),
+  press: pressThread,
   deeds: { list: takeList, copy: () => copyText(linkTo(now.scene.text), "The link to this run, at this step, is copied."), step: stepOn },
 };

@@ -1,15 +1,13 @@
 // Below the list of a figure: of each thread what it wants and what it does next, the history, and the slider of the moments.
-import { drawContents } from "../draw/contents.js";
+import { callText, chipOf, colourOf, letterOf, tag } from "../run/markup.js";
+import { drawContents } from "../draw/tables.js";
 import { drawCalls, scaleOf } from "../draw/history.js";
 import { redraw, setHtml } from "../page/dom.js";
-import { callText, chipOf, colourOf, letterOf, tag } from "../run/markup.js";
-import { phaseText } from "./phases.js";
-import { answerText } from "./tale.js";
+import { answerText, phaseText } from "./tale.js";
 
 const AGAIN = `<span class="again"><button data-undo class="quiet small" title="take the last press back">↶ One back</button>
   <button data-again class="quiet small">↺ Start over</button></span>`;
 
-// A row for each thread; none while nothing can be pressed.
 export function showDock(figure) {
   const { spec, run } = figure;
   if (spec.dock === false || figure.hidesDock) return redraw(figure.part("dock"), "");
@@ -38,14 +36,12 @@ function threadRow(thread, inside) {
   return tag("div", given, chipOf(thread), " ", inside);
 }
 
-// A thread that has nothing left to do, with its last answer.
 function restOf(run, thread, last) {
   if (last === undefined) return threadRow(thread, "");
   const reply = last.ended !== null && run.count >= last.ended ? `<b class="reply ${last.reply}">${answerText(last.reply)}</b>` : "";
   return threadRow(thread, `<code>${callText(last)}</code> <span class="does">${reply}</span>`);
 }
 
-// An idle thread may begin any call; its last answer stands beside that.
 function chooser(figure, thread, own) {
   const last = own.at(-1);
   const [operation, key] = figure.chosen[thread] ?? [last?.operation ?? "add", last?.key ?? 5];
@@ -58,21 +54,22 @@ function chooser(figure, thread, own) {
   return threadRow(thread, `<span class="choose">${fields}<button data-begin="${thread}">begin</button></span> ${reply}`);
 }
 
-// The calls as bars, and what is in the set at each time.
-export function showStrip(figure, given) {
+export function showStrip(figure) {
   const { run } = figure;
-  const box = figure.part("strip");
-  const wide = Math.max(280, given);
+  const wide = Math.max(280, figure.stripWide);
   const room = 26 + 9 * `{${run.promised().join(", ")}}`.length; // right of the last event, for what is in the set then
   const scale = scaleOf(run.trace, run.count, wide - room, figure.hides);
   Object.assign(scale, { edge: scale.edge + room, width: wide });
   figure.scale = scale;
-  setHtml(box, tag("div", { class: "calls" }, drawCalls(run.trace, scale)) + drawContents(run.trace, scale));
-  if (scale.height > MOST_CALLS && run.count > 0) scrollToLane(box.firstElementChild, scale.y(run.trace.event(run.count).thread));
+  setHtml(figure.part("strip"), tag("div", { class: "calls" }, drawCalls(run.trace, scale)) + drawContents(run.trace, scale));
 }
 const MOST_CALLS = 400; // pixels: of more threads the bars scroll
 
-function scrollToLane(box, y) {
+export function scrollToLane(figure) {
+  const { run, scale } = figure;
+  if (scale.height <= MOST_CALLS || run.count === 0) return;
+  const box = figure.part("calls");
+  const y = scale.y(run.trace.event(run.count).thread);
   if (y < box.scrollTop + 20 || y > box.scrollTop + box.clientHeight - 20) box.scrollTop = y - box.clientHeight / 2;
 }
 
@@ -92,4 +89,53 @@ export function showScrub(figure) {
   slider.setAttribute("aria-valuetext", `step ${count} of ${trace.total}: ${figure.part("tale").textContent}`);
   box.querySelector(".count").textContent = `${count} of ${trace.total}`;
   box.hidden = !figure.isOpen;
+}
+
+// ---- What a press on a part of a figure does: a thread's button, a line of the code, the slider's ends, what takes a press back.
+const MOST_KEY = 999;
+
+export function pressed(figure, event) {
+  const button = event.target.closest("button");
+  if (button === null || !figure.box.contains(button)) return;
+  const { step, move, begin, active } = button.dataset;
+  if (step !== undefined) figure.step(Number(step));
+  else if (button.closest("[data-rows]") !== null) pressLine(figure, button);
+  else if (active !== undefined) figure.set({ active: Number(active) });
+  else if ("again" in button.dataset) figure.again();
+  else if ("undo" in button.dataset) figure.undo();
+  else if (move !== undefined) figure.moveTo(figure.run.count + Number(move));
+  else if (begin !== undefined) beginOwn(figure, Number(begin));
+}
+
+// A line of the code was pressed: who stands there steps off it; else the thread that moved last runs there.
+function pressLine(figure, button) {
+  if (figure.isBusy || !figure.canStep) return;
+  const rows = button.closest("[data-rows]").dataset.rows.split(" ").map(Number);
+  const here = (button.dataset.threads ?? "").split(" ").filter((text) => text !== "").map(Number);
+  const thread = here.length === 0 || here.includes(figure.active) ? figure.active : here[0];
+  const isIdle = figure.run.isIdle(thread);
+  if (isIdle && figure.left(thread).length === 0) return figure.tell(`${chipOf(thread)} has no call under way.`);
+  figure.leaves();
+  const from = figure.run.trace.total;
+  if (isIdle) figure.run.begin(thread, figure.left(thread)[0]);
+  const isThere = ({ changes }) => rows.includes(changes.pc);
+  const isOff = (event) => !isThere(event) || event.deed === "exchange";
+  figure.play(thread, figure.run.stepsUntil(thread, here.length > 0 ? isOff : isThere), from);
+}
+
+export function chooseCall(figure, row) {
+  const call = [row.querySelector("select").value, row.querySelector("input").value];
+  figure.chosen = { ...figure.chosen, [row.dataset.thread]: call };
+}
+
+export function beginOwn(figure, thread) {
+  if (figure.isBusy || !figure.canStep) return;
+  chooseCall(figure, figure.box.querySelector(`[data-thread="${thread}"]`));
+  const [operation, key] = figure.chosen[thread];
+  if (!/^\d+$/.test(key) || Number(key) > MOST_KEY) return figure.tell(`A number from 0 to ${MOST_KEY}, please.`);
+  figure.leaves();
+  figure.active = thread;
+  figure.run.begin(thread, [operation, Number(key)]);
+  figure.draw(true);
+  figure.onStep?.(figure);
 }

@@ -1,7 +1,7 @@
 // A live figure: the list, a sentence, the code, and a button for each thread. Pressing a button lets that thread do its next bit.
 import { momentAt } from "../run/sentences.js";
 import { drawFigure, frameOf, isNarrow, markLostNodes } from "./figure_parts.js";
-import { beginOwn, chooseCall, pressed } from "./figure_press.js";
+import { beginOwn, chooseCall, pressed } from "./dock.js";
 import { LiveRun } from "./live_run.js";
 
 const BIT = 300; // milliseconds between two steps of one press
@@ -11,12 +11,12 @@ const sleep = (time) => new Promise((done) => setTimeout(done, time));
 const drawn = { count: 0 };
 const tellBusy = (isBusy) => (document.body.dataset.busy = isBusy ? "yes" : "no");
 
-/**
- * @typedef {import("./live_run.js").RunSpec & { [name: string]: any }} FigureSpec  What a run needs; `calls`, of each thread those
- *   that it is to make; `shown`, the threads with a button; `dock`, `code`, `strip`, `scrub`: what is shown besides the list.
- */
+// A spec has what a run needs; of each thread its `calls`; the threads with a button (`shown`); and what is shown besides the list.
+export const STILL = { dock: false, names: true, strip: true, short: true, again: false }; // of a run that is made elsewhere
+
 export class Figure {
   id = `f${drawn.count++}`;
+  active = 0; // the thread that runs to a line of the code
   past = []; // what stood there before each deed
   isBusy = false; // steps are being shown
   isActing = false; // and more of them will be
@@ -27,27 +27,33 @@ export class Figure {
   isGuess = false; // what would tell the answer is not shown
   isLost = false; // the nodes that are lost are lit
   hides = true; // of the history, what comes later
-  wide = 0;
+  wide = 0; // of the list, in pixels
+  stripWide = 0;
+  scroll = 0;
   told = null;
   onStep = null;
   onFork = null;
 
-  /** @param {any} box @param {FigureSpec} spec */
+  /** @param {any} box @param {import("./live_run.js").RunSpec & { [name: string]: any }} spec */
   constructor(box, spec) {
     this.box = box;
     this.spec = spec;
     this.run = spec.run ?? new LiveRun(spec);
     this.shown = spec.shown ?? this.run.state.threads.map((_, thread) => thread);
-    this.active = spec.active ?? 0;
     this.chosen = spec.chosen ?? {}; // of an idle thread, the call that stands in its fields
     this.most = { width: 0, height: spec.tall && !isNarrow() ? 262 : 0 }; // room for a node that is sure to come
     frameOf(this);
     box.addEventListener("click", (event) => pressed(this, event));
     box.addEventListener("input", ({ target }) => target.closest(".choose") !== null && chooseCall(this, target.closest("[data-thread]")));
     this.stretch = new ResizeObserver(() => {
-      if (this.part("list").clientWidth !== this.wide) requestAnimationFrame(() => this.isEnded || this.draw());
+      if (this.part("list").clientWidth !== this.wide) requestAnimationFrame(() => this.isEnded || this.fit());
     });
     this.stretch.observe(this.part("list"));
+    this.fit();
+  }
+
+  fit() {
+    [this.wide, this.stripWide] = ["list", "strip"].map((name) => this.part(name).clientWidth);
     this.draw();
   }
 
@@ -61,7 +67,6 @@ export class Figure {
     return this.box.querySelector(`.${name}`);
   }
 
-  // Sets what can be pressed and what is hidden, and draws that.
   set(given) {
     Object.assign(this, given);
     this.draw();
@@ -71,16 +76,9 @@ export class Figure {
     return this.isOpen && !this.hidesDock && this.spec.dock !== false;
   }
 
-  // The calls that a thread has not begun yet.
   left(thread) {
     const own = this.spec.calls?.[thread] ?? [];
     return own.slice(this.run.trace.calls.filter((call) => call.thread === thread).length);
-  }
-
-  reset() {
-    this.run.take(this.run.first);
-    Object.assign(this, { past: [], told: null, isLost: false });
-    this.draw();
   }
 
   // What is shown now is left by a deed: it may be taken back.
@@ -109,7 +107,6 @@ export class Figure {
     else this.step(thread);
   }
 
-  // Makes the steps, and shows what came since a moment one after the other.
   async play(thread, steps, from) {
     this.active = thread;
     this.run.go(thread, steps);
@@ -125,7 +122,8 @@ export class Figure {
     tellBusy(true);
     for (let count = Math.min(from + 1, total); count <= total; count++) {
       if (this.isEnded) return;
-      if (count < total && (this.isHurried || wantsStill() || this.isHidden(count))) continue;
+      const isOfLock = this.spec.plain === true && this.run.trace.event(count).word === "list.lock"; // which this list ignores
+      if (count < total && (this.isHurried || wantsStill() || isOfLock)) continue;
       this.run.moveTo(count);
       this.part("tale").setAttribute("aria-live", count < total ? "off" : "polite"); // of a play only the last sentence is read out
       this.isBusy = count < total;
@@ -136,17 +134,11 @@ export class Figure {
     tellBusy(this.isActing);
   }
 
-  // Plays the whole run, or the part of it behind a moment, once more.
   async replay(from = 0) {
     if (this.isBusy) return;
     this.run.moveTo(from);
     this.draw();
     await this.show(from);
-  }
-
-  // Whether an event is passed over in silence, since it is of the lock that this list ignores.
-  isHidden(count) {
-    return this.spec.plain === true && this.run.trace.event(count).word === "list.lock";
   }
 
   // Plays what a list of deeds makes: [thread] is its next bit, [thread, n] are n bits, [thread, "out"] is all of its call.
@@ -164,7 +156,6 @@ export class Figure {
     tellBusy(false);
   }
 
-  // Takes the last press back; or all of them.
   undo() {
     if (this.isBusy || this.past.length === 0) return;
     this.run.take(this.past.pop());
@@ -175,8 +166,17 @@ export class Figure {
 
   again() {
     if (this.isBusy) return;
-    this.reset();
+    this.run.take(this.run.first);
+    Object.assign(this, { past: [], told: null, isLost: false });
+    this.draw();
     this.onStep?.(this);
+  }
+
+  // Shows a run that is made elsewhere; where it is the same run one event on or back, what moves glides.
+  showRun(run, moment = momentAt(run.state, run.count), hides = true) {
+    const isNear = run.trace.kind === this.run.trace.kind && Math.abs(run.count - this.run.count) === 1;
+    Object.assign(this, { run, hides });
+    this.draw(isNear, moment);
   }
 
   tell(text) {
@@ -190,7 +190,6 @@ export class Figure {
     if (this.isLost && this.run.count === this.run.trace.total) markLostNodes(this);
   }
 
-  // Shows another moment of the run.
   moveTo(count) {
     if (this.isBusy) return;
     const isNear = Math.abs(count - this.run.count) <= 1;

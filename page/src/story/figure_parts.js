@@ -4,16 +4,15 @@ import { drawList } from "../draw/list.js";
 import { arranged, shapeFor } from "../draw/places.js";
 import { callText, colourOf, letterOf } from "../run/markup.js";
 import { momentAt } from "../run/sentences.js";
+import { setHtml } from "../page/dom.js";
 import { drawOwnCode } from "./code.js";
-import { showDock, showScrub, showStrip } from "./dock.js";
+import { scrollToLane, showDock, showScrub, showStrip } from "./dock.js";
 import { taleOf } from "./tale.js";
 
 const MOST_SCALE = 1.75;
 const MOST_HEIGHT = 0.4; // of the window, for the list
 const NARROW = "(max-width: 760px)";
 export const isNarrow = () => matchMedia(NARROW).matches;
-
-// ---- the frame
 
 const codeBox = ({ codeTitle, codeNote = "" }) => `<details class="codebox" ${isNarrow() ? "" : "open"}><summary><b>${codeTitle}</b></summary>
     <p class="small code-note" ${codeNote === "" ? "hidden" : ""}>${codeNote}</p><span class="runs"></span><div class="lines"></div>
@@ -30,24 +29,33 @@ export function frameOf({ box, spec }) {
   box.classList.toggle("undoes", spec.again !== false);
 }
 
-// What is asked of the layout is asked before anything is drawn: each question after that has the whole page laid out once more.
+// The layout is not asked while anything is drawn: each question would have the whole page laid out once more.
 export function drawFigure(figure, moment, isNear) {
   const { run, spec, box } = figure;
-  figure.wide = figure.part("list").clientWidth;
-  const [wide, scrolled] = [figure.part("strip").clientWidth, figure.part("lines")?.scrollTop];
   placeTheList(figure, moment, isNear);
   const tale = figure.told ?? taleHere(figure, moment);
   const words = tale === "" ? (spec.tale ?? "") : tale;
   if (figure.part("tale").innerHTML !== words) figure.part("tale").innerHTML = words;
   box.classList.toggle("at-end", run.count === run.trace.total);
   box.classList.toggle("shut", !figure.canStep);
-  showCode(figure, moment, scrolled);
+  showCode(figure, moment);
   showDock(figure);
-  if (spec.strip) showStrip(figure, wide);
+  if (spec.strip) showStrip(figure);
   if (spec.scrub) showScrub(figure);
+  scrollSoon(figure, moment.event?.thread ?? figure.active);
 }
 
-// The sentence of a moment. Where the lock is left out, its last step tells what the one before did.
+// Once the drawing is laid out, what has moved is brought in sight.
+function scrollSoon(figure, moved) {
+  cancelAnimationFrame(figure.scroll);
+  figure.scroll = requestAnimationFrame(() => {
+    if (figure.isEnded) return;
+    scrollToTouched(figure);
+    scrollToLit(figure, moved);
+    if (figure.spec.strip) scrollToLane(figure);
+  });
+}
+
 function taleHere({ run, spec }, moment) {
   if (spec.sentence) return spec.sentence(moment);
   if (moment.event === null) return "";
@@ -58,8 +66,6 @@ function taleHere({ run, spec }, moment) {
   run.state.moveTo(run.count);
   return `${before} <b>${callText(call)} answers ${answer}.</b>`;
 }
-
-// ---- the list
 
 function placeTheList(figure, { state, event }, isNear) {
   const box = figure.part("list");
@@ -79,10 +85,8 @@ function placeTheList(figure, { state, event }, isNear) {
     for (const name of svg.querySelectorAll("text.name")) if (/^n\d+$/.test(name.textContent)) name.remove();
   };
   glide(box, draw, isNear);
-  scrollToTouched(box, room);
 }
 
-// The drawing in the middle of the stage, as large as it has room.
 function fitList({ spec, most: { width } }, svg, room, own) {
   const [, top, , high] = svg.getAttribute("viewBox").split(" ").map(Number);
   const tall = Math.max(innerHeight * (spec.high ?? MOST_HEIGHT), spec.least ?? 180);
@@ -92,12 +96,12 @@ function fitList({ spec, most: { width } }, svg, room, own) {
   svg.setAttribute("height", high * scale);
 }
 
-// Keeps the node of the event in sight where the list is wider than its stage.
-function scrollToTouched(box, room) {
+function scrollToTouched(figure) {
+  const [box, room] = [figure.part("list"), figure.wide];
   const drawn = box.firstElementChild;
-  const wide = Number(drawn.getAttribute("width"));
+  const wide = Number(drawn?.getAttribute("width"));
   const touched = wide <= room ? null : box.querySelector("[data-hot]");
-  if (touched === null) return;
+  if (touched == null) return;
   const [x, , width] = drawn.getAttribute("viewBox").split(" ").map(Number);
   const at = (Number(touched.getAttribute("x")) - x) * (wide / width);
   if (at < box.scrollLeft + 60 || at > box.scrollLeft + room - 120) box.scrollLeft = at - room / 2;
@@ -112,7 +116,6 @@ function plainSign(spec, sign) {
   else sign.textContent = `${letter} ${names.join(", ")}`;
 }
 
-// The nodes of the keys that were promised and are not in the list.
 export function markLostNodes({ run, box }) {
   const has = run.has();
   const isLost = ({ key }) => run.promised().some((one) => String(one) === key && !has.includes(one));
@@ -121,8 +124,6 @@ export function markLostNodes({ run, box }) {
   }
 }
 
-// ---- the code
-
 function operationsOf({ spec, run, isGuess }) {
   const planned = Object.values(spec.calls ?? {}).flat().map(([operation]) => operation);
   const begun = run.trace.calls.map(({ operation }) => operation);
@@ -130,7 +131,7 @@ function operationsOf({ spec, run, isGuess }) {
   return [...new Set([...(spec.operations ?? []), ...planned, ...begun])].filter((name) => !hidden.includes(name));
 }
 
-function showCode(figure, { state, event, before }, scrolled) {
+function showCode(figure, { state, event, before }) {
   const box = figure.part("lines");
   if (box === null) return;
   const { spec, run, canStep } = figure;
@@ -141,20 +142,19 @@ function showCode(figure, { state, event, before }, scrolled) {
   const made = event === null || event.deed === "begin" ? null : { row: before.pc, thread: event.thread };
   const next = state.threads.map((own, thread) => ({ thread, row: own.pc })).filter(({ row }) => row !== 0);
   const hides = (figure.isGuess ? spec.hidden?.hides : undefined) ?? spec.hides; // some is not told before the guess
-  box.innerHTML = drawOwnCode({ list, plain, fresh, struck, hides, instead, operations: operationsOf(figure), next, made, canStep, active });
-  box.scrollTop = scrolled;
+  setHtml(box, drawOwnCode({ list, plain, fresh, struck, hides, instead, operations: operationsOf(figure), next, made, canStep, active }));
   const toggles = figure.shown.filter(isAble).map((thread) => toggleOf(thread, active));
-  figure.part("runs").innerHTML = canStep && toggles.length > 1 ? toggles.join("") : "";
-  scrollToLit(box, event?.thread ?? active);
+  setHtml(figure.part("runs"), canStep && toggles.length > 1 ? toggles.join("") : "");
 }
 
 const toggleOf = (thread, active) => `<button class="who ${colourOf(thread)}" data-active="${thread}" aria-pressed="${thread === active}"
   title="${letterOf(thread)} runs to another line that is pressed">${letterOf(thread)}</button>`;
 
 // In sight is the next line of the thread that has moved; where its call has ended, its last one.
-function scrollToLit(box, moved) {
-  const line = box.querySelector(`.lit.${colourOf(moved)}`) ?? box.querySelector(".made") ?? box.querySelector(".lit");
-  if (line === null || box.scrollHeight <= box.clientHeight) return;
+function scrollToLit(figure, moved) {
+  const box = figure.part("lines");
+  const line = box?.querySelector(`.lit.${colourOf(moved)}`) ?? box?.querySelector(".made") ?? box?.querySelector(".lit");
+  if (line == null || box.scrollHeight <= box.clientHeight) return;
   const y = line.offsetTop - box.offsetTop;
   if (y < box.scrollTop + 10 || y > box.scrollTop + box.clientHeight - 50) box.scrollTop = y - box.clientHeight / 2;
 }

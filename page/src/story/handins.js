@@ -4,12 +4,9 @@ import { triedCourse } from "../course/lesson.js";
 import { askNow } from "../page/now.js";
 import { bookCourse, taskOfJudged } from "./assignment.js";
 
-const stripped = (name) => name.replace(/^.*\//, "").replace(/\.[A-Za-z]+$/, "");
-
-// The name and the number of a student, as "Ada Lovelace (1234567)".
 function studentOf(text, file) {
   const [, name, number] = /^(.*?)\s*(?:[([#]\s*((?=\D*\d)\w[\w-]{0,20})\s*[)\]]?)?\s*$/.exec(text ?? "") ?? [];
-  return { name: name || stripped(file), number: number ?? "" };
+  return { name: name || file.replace(/^.*\//, "").replace(/\.[A-Za-z]+$/, ""), number: number ?? "" };
 }
 
 // files: { name, text }. `tasks` of an assignment, or null: then all that was handed in. The rows, and courses that came along.
@@ -35,7 +32,8 @@ export async function checkAll(files, tasks, tellProgress = (_at, _of) => {}) {
   const rows = [...students.values()].sort((one, other) => one.name.localeCompare(other.name));
   noteSame(rows);
   noteNumbers(rows);
-  const columns = tasks === null ? columnsOf(rows) : tasks.map(({ id, title }) => ({ id, title }));
+  const all = [...new Set(rows.flatMap(({ solved }) => [...solved.keys()]))].sort();
+  const columns = tasks === null ? all.map((id) => ({ id, title: id })) : tasks.map(({ id, title }) => ({ id, title }));
   return { rows, columns, empty };
 }
 
@@ -52,12 +50,6 @@ function judgePart(own, lessons, line, tasks) {
   if (verdict.ofExample) own.notes.push(`${task}: the very run of an example`);
 }
 
-function columnsOf(rows) {
-  const ids = new Set(rows.flatMap(({ solved }) => [...solved.keys()]));
-  return [...ids].sort().map((id) => ({ id, title: id }));
-}
-
-// What a row has of a task: solved, wrong, or nothing.
 export const markOf = ({ solved, wrong }, { id }) => (solved.has(id) ? "solved" : wrong.has(id) ? "wrong" : "none");
 
 function noteNumbers(rows) {
@@ -70,19 +62,14 @@ function noteNumbers(rows) {
 // Who handed in the same schedules, to the byte, of the same tasks.
 function noteSame(rows) {
   const byText = new Map();
+  const note = (row, { name }, task) => row.same.set(name, [...(row.same.get(name) ?? []), task]);
   for (const row of rows) {
+    row.same = new Map();
     for (const [task, schedule] of row.solved) {
-      if (schedule === null) continue;
       const key = `${task}\n${schedule}`;
-      byText.set(key, [...(byText.get(key) ?? []), row]);
-    }
-  }
-  for (const row of rows) row.same = new Map();
-  for (const [key, some] of byText) {
-    if (some.length < 2) continue;
-    const [task] = key.split("\n");
-    for (const row of some) {
-      for (const { name } of some.filter((other) => other !== row)) row.same.set(name, [...(row.same.get(name) ?? []), task]);
+      const others = schedule === null ? [] : (byText.get(key) ?? []);
+      byText.set(key, [...others, row]);
+      for (const other of others) note(row, other, task), note(other, row, task);
     }
   }
 }

@@ -23,7 +23,6 @@ export const handInsHtml = () => `<section class="panel" id="handins"><h2>What t
   <div id="in-table" class="scroll" tabindex="0" role="group" aria-label="what was handed in"></div>
   <p class="line" id="in-save" hidden><button class="primary" data-do="csv">Save as CSV</button><button class="quiet" data-do="clear">Clear</button></p></section>`;
 
-// The tasks of the assignment whose link stands there, or null.
 function tasksGiven() {
   const link = piece("link").value.trim();
   const parts = Object.fromEntries(new URLSearchParams(link.slice(link.indexOf("#") + 1)));
@@ -41,7 +40,6 @@ async function check() {
   drawResult(given.result);
 }
 
-// All files of what was dropped, those in folders too.
 async function filesOf(entry) {
   if (entry.isFile) return [await new Promise((done, fail) => entry.file((file) => done({ name: entry.fullPath.slice(1), file }), fail))];
   const reader = entry.createReader();

@@ -1,15 +1,13 @@
-// Solve it, a lesson: the reader chooses which thread makes the next step, until the run shows what is asked. After each deed what it
-// shows gets a tick. No answer is told unasked.
+// Solve it, a lesson: after each deed what the run shows gets a tick. No answer is told unasked.
 import { conditionTexts } from "../course/lesson.js";
 import { setHtml } from "../page/dom.js";
 import { now } from "../page/now.js";
 import { versionOf } from "../run/schedule_text.js";
 import { escaped, inLetters, tag } from "../run/markup.js";
 import { wayOn } from "./assignment.js";
-import { Figure } from "./figure.js";
 import { learning } from "./learning.js";
 import { linesOf, runOfText } from "./live_run.js";
-import { FIGURE_AND_TALK, foot, head, hintAndOn, LIST_WORDS, part, scene, setScene, takeFigure, talk, threadOfKey } from "./scene.js";
+import { drawHintAndOn, FIGURE_AND_TALK, foot, head, hintAndOn, LACKS_ONE, LIST_WORDS, part, pressThread, scene, setScene, takeFreeFigure, talk } from "./scene.js";
 
 const HINT = 1; // of `hints`, in the scene: the hint is shown; the answer is shown
 const ANSWER = 2;
@@ -37,19 +35,15 @@ function begin({ id, given }) {
   const own = given.text ?? panel.lastTry();
   Object.assign(shown, { verdict: null, ticks: new Set() });
   const more = /ceiling/.test(lesson.begun + (lesson.solution ?? "") + lesson.question) ? ["ceiling"] : [];
-  const figure = new Figure(part("#figure"), {
-    ...runOfText(lesson.begun), version: versionOf(lesson.begun), list: lesson.list, lacks: lesson.lacks, free: true, strip: true, scrub: true,
-    short: true, high: 0.24, roomFor: 694, operations: ["add", "remove", "contains", ...more], codeTitle: LIST_WORDS[lesson.list],
-    codeNote: lesson.lacks === null ? "" : "One check of this code is not made here.",
-  });
-  takeFigure(figure);
-  figure.onStep = looked;
-  figure.onFork = goOnFromHere;
+  const operations = ["add", "remove", "contains", ...more];
+  const codeNote = lesson.lacks === null ? "" : LACKS_ONE;
+  const run = { ...runOfText(lesson.begun), version: versionOf(lesson.begun), lacks: lesson.lacks };
+  const figure = takeFreeFigure(lesson.list, { ...run, scrub: true, high: 0.24, operations, codeNote });
+  Object.assign(figure, { onStep: looked, onFork: goOnFromHere });
   if (own !== null && own !== lesson.begun && fits(own)) takeTry(figure, linesOf(own));
   looked();
 }
 
-// Whether a text is a try of this lesson, and not one of another list.
 const fits = (text) => text.split("\n")[1] === learning.panel.lesson.begun.split("\n")[1];
 
 function takeTry(figure, lines) {
@@ -58,7 +52,6 @@ function takeTry(figure, lines) {
   figure.draw();
 }
 
-// A step at an earlier moment drops what came after it.
 function goOnFromHere({ run }) {
   if (run.count < run.trace.total) run.take(run.linesHere());
 }
@@ -73,8 +66,6 @@ function looked() {
   if (isBegun) panel.keepTry(run.schedule);
   setScene({ text: isBegun ? run.schedule : "", stage: verdict.isSolved && !verdict.isShown ? "done" : "task" });
 }
-
-// ---- what follows from how far one is
 
 function conditionsHtml() {
   const met = new Set(shown.verdict.conditions.filter(({ isMet }) => isMet).map(({ says }) => says));
@@ -114,14 +105,8 @@ function draw(state) {
   setHtml(part("#goal"), conditionsHtml());
   talk(isDone ? solvedHtml() : taskHtml(state));
   const { lesson } = learning.panel;
-  const hint = part("#hint");
   const last = lesson.answer.length > 0 ? ANSWER : HINT;
-  const words = lesson.hint !== "" && state.hints < HINT ? "Hint" : state.hints < last ? "Show an answer" : "Start over";
-  hint.hidden = isDone;
-  if (hint.textContent !== words) hint.textContent = words;
-  const on = part("#go-on");
-  on.textContent = isDone ? on.dataset.words : "Skip →";
-  on.className = isDone ? "button primary ready" : "button quiet";
+  drawHintAndOn(isDone, lesson.hint !== "" && state.hints < HINT ? "Hint" : state.hints < last ? "Show an answer" : "Start over");
 }
 
 function hint() {
@@ -141,7 +126,6 @@ async function seeAnswer() {
   if (scene.figure === figure) looked();
 }
 
-/** @type {import("./scene.js").View} */
 export const learnView = {
   kind: "ask-one",
   fault: ({ id }) => (learning.panel.lessonNamed(id) === undefined ? `no course that is kept here has a lesson "${id}"` : null),
@@ -149,6 +133,6 @@ export const learnView = {
   html,
   begin,
   draw,
-  press: (event) => threadOfKey(event) !== -1 && scene.figure.press(threadOfKey(event)),
+  press: pressThread,
   deeds: { hint, answer: seeAnswer, replay: () => scene.figure.replay(), afresh: () => scene.figure.again() },
 };

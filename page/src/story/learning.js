@@ -1,14 +1,13 @@
-// Solve, what is open: the course, its lesson, the tries of that which are kept, and the verdict on a run. No part of the page is drawn
-// here.
+// Solve, what is open: the course, its lesson, the tries of that which are kept, and the verdict on a run.
 import { BOOK, BOOK_NAME } from "../../made/book.js";
-import { courseAddress } from "../course/course_link.js";
+import { courseAddress } from "../course/course_text.js";
 import { judged, triedCourse } from "../course/lesson.js";
 import { works } from "../page/kept.js";
 import { askNow } from "../page/now.js";
 import { visit } from "../page/visit.js";
 import { eventsAsked } from "../run/schedule_text.js";
 import { bookCourse } from "./assignment.js";
-import { KeptLessons } from "./kept_lessons.js";
+import { KeptLessons } from "./kept.js";
 import { linesOf } from "./live_run.js";
 
 class Learning {
@@ -32,10 +31,6 @@ class Learning {
     courseAddress(course.text).then(take, () => null);
   }
 
-  takeBook() {
-    this.takeCourse(bookCourse());
-  }
-
   // The lesson of this name: of the course that is open, else of the book, else of a course that is kept, which is opened.
   lessonNamed(name) {
     const find = ({ lessons }) => lessons.find((lesson) => lesson.name === name);
@@ -57,13 +52,10 @@ class Learning {
     return this.course.lessons.find(({ name }) => !this.isSolved(name));
   }
 
-  // ---- the tries: each is kept among the works, under the name of its lesson
-
   get workName() {
     return `lesson ${this.lesson.name}${this.course.name === BOOK_NAME ? "" : ` of ${this.course.name}`}`;
   }
 
-  // The text of the last try that is kept, or null.
   lastTry() {
     const { course, lesson } = this;
     const isTry = ({ task }) => task.kind === "lesson" && task.course === course.name && task.id === lesson.name;
@@ -86,7 +78,6 @@ class Learning {
     return { ...verdict, isShown, isKept };
   }
 
-  // From now on the answer itself is no solution of this reader's own.
   lookAtAnswer() {
     this.own.looked.add(this.lesson.name);
     this.kept.save();

@@ -1,19 +1,15 @@
-// A run that is made while it is watched: the engine is asked for each deed, and what the reader chose is one schedule.
-// No step is computed here: how far a thread goes in one deed is read off the engine's own trace.
+// A run that is made while it is watched. No step is computed here: how far a thread goes is read off the engine's own trace.
 import { askNow } from "../page/now.js";
 import { askList, verdictOnLacking } from "../run/broken.js";
-import { scheduleOfDraft } from "../run/draft.js";
+import { openingIn, scheduleOfDraft, scheduleOfTrace, scheduleText } from "../run/schedule_text.js";
 import { isFailed, isLock } from "../run/outcomes.js";
-import { openingIn, scheduleOfTrace, titleOf } from "../run/schedule_text.js";
 import { keysInChain, promisedKeys, State } from "../run/state.js";
 import { isTrace, Trace } from "../run/trace.js";
-import { joinedRows, phaseAt } from "./phases.js";
+import { joinedRows, phaseAt } from "./tale.js";
 
 const MOST_STEPS = 80; // of one call, in the short lists of the story
-
 export const linesOf = (schedule) => schedule.split("\n").filter((line) => /^(begin|go) /.test(line));
 
-// A schedule's text as what a figure begins with.
 export function runOfText(text) {
   const valueOf = (word) => new RegExp(`^${word} (.*)$`, "m").exec(text)?.[1];
   return {
@@ -24,7 +20,6 @@ export function runOfText(text) {
   };
 }
 
-// A run at one of its moments.
 export class ShownRun {
   /** @param {any} trace @param {any} state */
   constructor(trace, state, count = 0) {
@@ -48,16 +43,10 @@ export class ShownRun {
 }
 
 /**
- * @typedef {object} RunSpec
- * @property {string} list
- * @property {string | null} [lacks]  the check that the list lacks
- * @property {number} [threads]
- * @property {number} [quota]
- * @property {number[]} [opening]
- * @property {string[]} [lines]  the schedule's first lines, also those of a draft
- * @property {number} [version]  of the schedule's text
- * @property {boolean} [free]  the reader may begin any call, and stop before each look
- * @property {boolean} [plain]  the list's lock is ignored, and nothing is told of it
+ * `lines` are the schedule's first lines, also those of a draft. In a `free` run the reader may begin any call, and stop before each look; of
+ * a `plain` one the list's lock is ignored, and nothing is told of it.
+ * @typedef {{ list: string, lacks?: string | null, threads?: number, quota?: number, opening?: number[], lines?: string[], version?: number,
+ *   free?: boolean, plain?: boolean }} RunSpec
  */
 export class LiveRun extends ShownRun {
   /** @param {RunSpec} spec */
@@ -68,7 +57,6 @@ export class LiveRun extends ShownRun {
     this.take(this.first);
   }
 
-  // Lines in which `go T out` and `go T to ROW` may stand, as the schedule that the engine makes of them.
   expanded(lines) {
     const { text, fault } = scheduleOfDraft(askNow, this.textOf(lines), this.spec.lacks);
     if (fault !== null) throw new Error(fault);
@@ -76,9 +64,7 @@ export class LiveRun extends ShownRun {
   }
 
   textOf(lines) {
-    const { list, threads, quota, opening, version } = this.spec;
-    const head = [titleOf(version), `list ${list}`, `threads ${threads}`, `quota ${quota}`];
-    return `${[...head, ...opening.map((key) => `opening ${key}`), ...lines].join("\n")}\n`;
+    return scheduleText(this.spec, lines);
   }
 
   traceOf(lines) {
@@ -94,7 +80,6 @@ export class LiveRun extends ShownRun {
     this.moveTo(this.trace.total);
   }
 
-  // The lines that lead to the moment that is shown.
   linesHere() {
     return linesOf(scheduleOfTrace(this.trace, this.count));
   }
@@ -161,7 +146,6 @@ export class LiveRun extends ShownRun {
     this.take([...this.lines, `go ${thread} ${steps}`]);
   }
 
-  // What the proved judge says of the run: whether some order of the calls explains their answers and what is left.
   verdict() {
     return verdictOnLacking(askNow, this.spec.lacks, this.schedule);
   }

@@ -29,7 +29,6 @@ export function welcome(done) {
 }
 
 // ---- the last screen: what was met, and where to go from here
-
 export const LAST = SCREENS.length + 1; // the number of the last screen
 
 const WAYS = [

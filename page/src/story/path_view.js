@@ -2,17 +2,15 @@
 import { now } from "../page/now.js";
 import { Figure } from "./figure.js";
 import { isNarrow } from "./figure_parts.js";
-import { keepStory, keptStory, startAfresh } from "./kept_story.js";
+import { keepStory, keptStory, startAfresh } from "./kept.js";
 import { SCREENS } from "./path.js";
 import { barHtml, dots, endHtml, GONE, HERO, LAST, welcome } from "./path_parts.js";
-import { FIGURE_AND_TALK, drawLedger, head, numberOfKey, optionButtons, part, replyTo, scene, setScene, takeFigure, talk, threadOfKey } from "./scene.js";
+import { drawLedger, drawOn, FIGURE_AND_TALK, head, numberOfKey, optionButtons, part, pressThread, replyTo, scene, setScene, takeFigure, talk } from "./scene.js";
 
 const numberOf = ({ id }) => Math.max(1, Math.min(LAST, Number(id) || 1));
 const screenOf = (place) => SCREENS[numberOf(place) - 1] ?? null;
 const here = () => screenOf(now.place);
 const shown = { count: 0 }; // how many deeds of the way were shown
-
-// A slide leads to a slide.
 const hashOf = (number) => `#story=${number}${now.place.view === "lecture" ? "&view=lecture" : ""}`;
 const goTo = (number) => (location.hash = hashOf(number));
 
@@ -70,11 +68,8 @@ function drawBar(stage, number) {
   show.hidden = isDone;
   show.className = "primary";
   show.textContent = isNarrow() && stage !== "again" ? "Show me" : SHOW[stage];
-  on.textContent = isDone ? (number === SCREENS.length ? "And now? →" : "Continue →") : "Skip →";
-  on.className = isDone ? "primary ready" : "quiet";
+  drawOn(isDone, number === SCREENS.length ? "And now? →" : "Continue →");
 }
-
-// ---- a deed: is it what was asked for?
 
 function looked() {
   const screen = here();
@@ -105,7 +100,6 @@ async function guessed(index) {
   markContents(figure);
 }
 
-// The stretches of the row of contents, to be pressed.
 function markContents(figure) {
   figure.part("strip").querySelectorAll(".content").forEach((stretch, index) => {
     const contents = stretch.querySelector("title").textContent;
@@ -138,8 +132,6 @@ function done() {
   if (document.activeElement === document.body) on.focus({ preventScroll: true });
 }
 
-// ---- the bar, the keys
-
 const isOver = (thread) => scene.figure.run.isIdle(thread) && scene.figure.left(thread).length === 0;
 
 async function showMe() {
@@ -170,10 +162,9 @@ function press(event) {
     return;
   }
   if (stage === "guess" && numberOfKey(event) !== -1 && numberOfKey(event) < here().options.length) guessed(numberOfKey(event));
-  else if (threadOfKey(event) !== -1) scene.figure?.press(threadOfKey(event));
+  else pressThread(event);
 }
 
-/** @type {import("./scene.js").View} */
 export const pathView = {
   kind: "path",
   fault: ({ id }) => (/^\d*$/.test(id) && Number(id) <= LAST ? null : `the path has no screen "${id}"`),

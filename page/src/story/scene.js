@@ -1,29 +1,24 @@
-// The places of the story: each has a view, which says what stands there, draws how far one is, and does what is pressed.
-//
-// A button with `data-do` does the deed of its view that has this name.
+// The places of the story: each has a view. A button with `data-do` does the deed of its view that has this name.
 import { change, dispatch, now } from "../page/now.js";
 import { byId, setHtml } from "../page/dom.js";
 import { copied } from "../page/visit.js";
+import { warningOf } from "../run/address.js";
 import { tag } from "../run/markup.js";
+import { Figure } from "./figure.js";
 import { isNarrow } from "./figure_parts.js";
 
 /**
- * @typedef {object} View
- * @property {string} kind  the class of the place
- * @property {(place: import("../page/state.js").Place) => string} title
- * @property {(place: any) => string | null} [fault]  why there is no such place, or null
- * @property {(place: import("../page/state.js").Place) => string} html
- * @property {(place: import("../page/state.js").Place) => void} [begin]  once its parts are there: its figure, its first stage
- * @property {(scene: import("../page/state.js").Scene) => void} [draw]  what follows from how far one is
- * @property {() => void} [end]  before its parts go
- * @property {Record<string, (target: any) => any>} [deeds]
- * @property {(event: KeyboardEvent) => any} [press]  a key
+ * A view has the class of its place (`kind`) and its parts as text; `fault` says why there is no such place, `begin` makes the figure once the
+ * parts are there, `draw` shows how far one is, `end` comes before the parts go; `deeds` are done by buttons, `press` by a key.
+ * @typedef {import("../page/state.js").Place} Place
+ * @typedef {{ kind: string, title: (place: Place) => string, html: (place: Place) => string, fault?: (place: Place) => string | null,
+ *   begin?: (place: Place) => void, draw?: (scene: import("../page/state.js").Scene) => void, end?: () => void,
+ *   deeds?: Record<string, (target: any) => any>, press?: (event: KeyboardEvent) => any }} View
  */
 
 /** @type {Record<string, View>} of an activity, or of one without an id its map */
 export const VIEWS = {};
 export const scene = { key: "", view: null, figure: null, isFirst: true, isNew: false };
-
 export const part = (selector) => byId("scene").querySelector(selector);
 const viewOf = ({ activity, id }) => (id === "" ? VIEWS[`${activity} map`] : undefined) ?? VIEWS[activity];
 export const titleOfScene = (place) => viewOf(place).title(place);
@@ -31,9 +26,8 @@ export const faultOfScene = (place) => viewOf(place).fault?.(place) ?? null;
 export const isScene = ({ place }) => place.screen === "scene";
 export const setScene = (given) => dispatch("scene", given);
 
-// Copies a text and says so, or shows it, to be copied by hand.
 export async function copyText(text, words) {
-  part("#scene-told").textContent = (await copied(text)) ? words : `Copy this by hand: ${text}`;
+  part("#scene-told").textContent = ((await copied(text)) ? words : `Copy this by hand: ${text}`) + warningOf(text);
 }
 
 // What is said below the figure. What is new comes in sight, above the bar at the bottom.
@@ -45,7 +39,6 @@ export function talk(html) {
   last.scrollIntoView({ block: isTall ? "start" : "end" });
 }
 
-// How much of the talk lies under the bar.
 function hiddenBelow() {
   const [last, bar] = [part("#talk")?.lastElementChild, part(".foot")];
   return last == null || bar === null ? 0 : last.getBoundingClientRect().bottom - bar.getBoundingClientRect().top;
@@ -60,7 +53,6 @@ function fitFigure({ spec }) {
   scene.figure.draw();
 }
 
-// A figure in place of the one that is shown.
 export function takeFigure(figure) {
   scene.figure?.end();
   scene.figure = figure;
@@ -95,7 +87,6 @@ export function renderScene({ place, scene: state }) {
   scene.isFirst = false; // who comes by a key goes on at the title of what is opened
 }
 
-// Shows a place of the story.
 export function openScene({ activity, id = "", given = {}, view = null }) {
   scene.key = ""; // also where it is shown already, it begins anew
   change("view", { view });
@@ -111,18 +102,32 @@ export function listenToScene() {
 
 export const pressInScene = (event) => scene.view?.press?.(event);
 
-// ---- parts that several places have
-
 export const head = (kicker, title, more = "", kind = "") =>
   `<div class="head">${kicker === "" ? "" : `<p class="kicker">${kicker}</p>`}<h1 class="${kind}" tabindex="-1">${title}</h1>${more}</div>`;
 
 export const FIGURE_AND_TALK = '<div id="figure"></div><div id="talk" class="talk" aria-live="polite"></div>';
 
-// The buttons of a task at its right: a hint, and on to the next one.
 export const hintAndOn = ({ href, words }) =>
   `<button id="hint" class="primary" data-do="hint"></button>${tag("a", { id: "go-on", class: "button quiet", href, "data-words": words }, "Skip →")}`;
 
-// The bar at the bottom.
+export function drawHintAndOn(isDone, words) {
+  const hint = part("#hint");
+  hint.hidden = isDone;
+  if (hint.textContent !== words) hint.textContent = words;
+  drawOn(isDone, part("#go-on").dataset.words);
+}
+
+export function drawOn(isDone, words) {
+  const on = part("#go-on");
+  on.textContent = isDone ? words : "Skip →";
+  on.className = isDone ? "button primary ready" : "button quiet";
+}
+
+export function takeFreeFigure(list, spec) {
+  const free = { free: true, strip: true, short: true, roomFor: 694, operations: ["add", "remove", "contains"], codeTitle: LIST_WORDS[list] };
+  return takeFigure(new Figure(part("#figure"), { list, ...free, ...spec }));
+}
+export const LACKS_ONE = "One check of this code is not made here.";
 export const foot = (left, right) => tag("footer", { class: "foot" }, left, tag("span", { class: "spread" }), right);
 
 export const optionButtons = (texts, wrong = []) => {
@@ -135,7 +140,6 @@ export const optionButtons = (texts, wrong = []) => {
 
 const lowered = (text) => text[0].toLowerCase() + text.slice(1);
 
-// What the reader has said, and the reply to it.
 export function replyTo(options, chosen, isToCome) {
   const option = options?.[chosen];
   if (option === undefined) return "";
@@ -144,7 +148,6 @@ export function replyTo(options, chosen, isToCome) {
   return `<p class="you ${right ? "right" : "wrong"}"><b>${said}</b> ${say || (right && isToCome ? "Let us see." : "")}</p>`;
 }
 
-// What the answers promise against what the list has: the whole contradiction in two rows.
 export function drawLedger(run) {
   const [promised, has] = [run.promised(), run.has()];
   const all = [...new Set([...promised, ...has])].sort((one, other) => one - other);
@@ -164,6 +167,10 @@ export function threadOfKey({ key, ctrlKey, metaKey, altKey }) {
   return key.charCodeAt(0) - "a".charCodeAt(0);
 }
 
-export const numberOfKey = ({ key }) => (now.prefs.letters && /^[1-9]$/.test(key) ? Number(key) - 1 : -1);
+export function pressThread(event) {
+  const thread = threadOfKey(event);
+  if (thread !== -1) scene.figure?.press(thread);
+}
 
+export const numberOfKey = ({ key }) => (now.prefs.letters && /^[1-9]$/.test(key) ? Number(key) - 1 : -1);
 export const LIST_WORDS = { coarse: "One lock", fine: "Hand over hand", optimistic: "Optimistic", lazy: "Lazy", "lock-free": "Lock-free" };

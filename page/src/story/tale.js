@@ -1,8 +1,59 @@
-// One short sentence about an event, for who has not read the book: nodes go by their numbers, threads by their letters.
-import { isLock, ownerIn } from "../run/outcomes.js";
+// What belongs together in one press of a thread's button, by the rows of the tables; and what the button says.
 import { callText, chipOf, keyText } from "../run/markup.js";
-import { phaseAt } from "./phases.js";
+import { isLock, ownerIn } from "../run/outcomes.js";
 
+const walkers = (...rows) => Object.fromEntries(rows.map((row) => [row, "walk"]));
+
+const PHASES = {
+  plain: { ...walkers(1, 2, 3, 4), 5: "make", 6: "make", 7: "link", 8: "unlink", 9: "unlink", 10: "answer" },
+  coarse: { 1: "lock", ...walkers(2, 3, 4), 5: "make", 6: "make", 7: "link", 8: "unlink", 9: "unlink", 10: "unlock" },
+  fine: {
+    1: "first", 2: "next", 3: "next", 4: "next", 5: "letgo", 6: "next", 7: "make", 8: "make", 9: "link", 10: "unlink", 11: "unlink",
+    12: "unlock", 13: "unlock",
+  },
+  optimistic: {
+    ...walkers(1, 2, 3), 4: "locks", 5: "locks", 6: "again", 7: "again", 8: "again", 9: "make", 10: "make", 11: "link", 12: "unlink",
+    13: "unlink", 14: "unlock", 15: "unlock",
+  },
+  lazy: {
+    ...walkers(1, 2, 3, 20, 21, 23, 24), 25: "look", 4: "locks", 5: "locks", 6: "check", 7: "check", 8: "make", 9: "make", 10: "link", 11: "mark",
+    12: "tidy", 13: "unlock", 14: "unlock", 22: "look",
+  },
+  "lock-free": {
+    ...walkers(1, 2, 4, 8, 20, 21, 23, 24), 25: "look", 3: "snip", 5: "make", 6: "make", 7: "swing", 9: "marktry", 10: "tidytry", 22: "look",
+  },
+};
+
+export const phaseAt = (list, row, plain) => PHASES[plain ? "plain" : list][row] ?? "answer";
+// Rows that belong to what comes before them, whatever that is.
+export const joinedRows = (list, plain) => (plain ? [10] : list === "lock-free" || list === "lazy" ? [22, 25] : []);
+
+const WORDS = {
+  walk: ({ key }) => `walk to the place of ${key}`,
+  make: ({ key }) => `make a node for ${key}`,
+  link: ({ key }) => `hang ${key} in`,
+  unlink: ({ key }) => `point past ${key}`,
+  answer: () => "answer",
+  lock: () => "take the lock",
+  unlock: () => "let go, and answer",
+  first: () => "lock the head",
+  next: () => "lock the next node",
+  letgo: () => "let go of the one behind",
+  locks: () => "lock pred and curr",
+  again: () => "look once more",
+  check: () => "look at the marks",
+  mark: ({ key }) => `mark ${key}: removed`,
+  tidy: ({ key }) => `take ${key} out of the chain`,
+  look: () => "look at the mark",
+  snip: () => "take the marked node out",
+  swing: ({ key }) => `try to hang ${key} in`,
+  marktry: ({ key }) => `try to mark ${key}`,
+  tidytry: ({ key }) => `try to take ${key} out`,
+};
+
+export const phaseText = (phase, call) => WORDS[phase](call);
+
+// ---- One short sentence about an event, for who has not read the book: nodes go by their numbers, threads by their letters.
 const bold = (text) => `<b>${text}</b>`;
 
 const nodeName = (state, name) => {
@@ -11,8 +62,6 @@ const nodeName = (state, name) => {
   return name in state.nodes ? keyText(state.nodes[name].key) : "";
 };
 const bare = (link) => link.replace("*", "");
-
-// An answer as it is told: that of a ceiling is a number.
 export const answerText = (answer) => answer.replace(/^at-/, "");
 
 export function taleOf(moment, { plain = false } = {}) {

@@ -10,7 +10,8 @@ def test_one_goes_on_from_here_by_the_code(visitor):
     visitor.idle()
     assert "5 is out of the chain" in visitor.text(".tale")
     visitor.back()
-    visitor.wait("return document.getElementById('where')?.innerText.startsWith('event 20')")
+    visitor.wait("return document.getElementById('question-box').getClientRects().length > 0")
+    assert visitor.event() == 20
 
 
 def test_an_old_what_if_opens_as_its_schedule(visitor):

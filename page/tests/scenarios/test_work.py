@@ -80,6 +80,15 @@ def test_controls_have_names_and_ids_stand_once(visitor):
         assert nameless == [] and twice == [], address
 
 
+def test_no_place_is_wider_than_a_phone(visitor):
+    visitor.size(390, 844)
+    for address in ("#story=3", "#ask", "#ask=snip", "#break=1", "#learn", "#learn=one-lock", "#code=lazy", "#judge", "#compare", "#read", "#teachers",
+                    "#example=snip", "#example=snip&judge", "#assignment=x&learn=one-lock&break=6"):
+        visitor.open(address)
+        wide = visitor.script("return [document.documentElement.scrollWidth, document.documentElement.clientWidth]")
+        assert wide[0] <= wide[1], address
+
+
 def test_by_keys_alone_from_the_top_to_a_step(visitor):
     visitor.open("#example=snip")
     visitor.script("document.activeElement.blur()")

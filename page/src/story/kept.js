@@ -1,4 +1,5 @@
 // What the browser keeps of the story: the screens that are done, what was answered, the lists that were broken, the student's name.
+import { BOOK_NAME } from "../../made/book.js";
 import { LACKING } from "../../made/classics.js";
 import { isText, keepUnder, keptUnder } from "../page/kept.js";
 import { change } from "../page/now.js";
@@ -11,7 +12,6 @@ const NOTHING = { at: 1, done: {}, asks: {}, student: "", number: "", homework: 
 /** @returns {{ at: number, done: Record<string, boolean>, asks: Record<string, string>, student: string, number: string, homework: any }} */
 export const keptStory = () => ({ ...NOTHING, ...keptUnder(STORY) });
 export const keepStory = (change) => keepUnder(STORY, { ...keptStory(), ...change });
-
 const isBrokenLine = ([name, line]) => Object.hasOwn(LACKING, name) && isText(line);
 export const brokenLines = () => Object.entries(keptUnder(BROKEN) ?? {}).filter(isBrokenLine);
 export const isBrokenOnce = (name) => brokenLines().some(([one]) => one === name);
@@ -26,7 +26,7 @@ export function startAfresh(button) {
     button.textContent = "Press again: answers, solutions and names kept here go";
     return;
   }
-  change("text", { text: "" }); // and is not kept anew
+  change("run", { text: "" }); // and is not kept anew
   try {
     for (const name of Object.keys(localStorage)) if (name.startsWith("listset-")) localStorage.removeItem(name);
   } catch {
@@ -35,3 +35,30 @@ export function startAfresh(button) {
   location.hash = "#story=1&gone=yes"; // the first screen says so
   location.reload();
 }
+
+// ---- the courses that were opened, the schedules that solved a lesson, and the lessons whose answer was looked at
+const LESSONS_KEPT = "listset-lessons-2";
+const textsKept = (kept) => Object.entries(kept ?? {}).filter(([, text]) => isText(text));
+const namesKept = (kept) => (Array.isArray(kept) ? kept.filter(isText) : []);
+
+export class KeptLessons {
+  constructor() {
+    const kept = keptUnder(LESSONS_KEPT) ?? {};
+    this.course = isText(kept.course) ? kept.course : BOOK_NAME;
+    this.courses = new Map(textsKept(kept.courses));
+    this.of = new Map(Object.entries(kept.of ?? {}).map(([name, own]) => [name, ownOf(own)]));
+  }
+
+  ofCourse(name) {
+    if (!this.of.has(name)) this.of.set(name, ownOf({}));
+    return this.of.get(name);
+  }
+
+  save() {
+    const toObject = ({ solutions, looked }) => ({ solutions: Object.fromEntries(solutions), looked: [...looked] });
+    const of = Object.fromEntries([...this.of].map(([name, own]) => [name, toObject(own)]));
+    return keepUnder(LESSONS_KEPT, { course: this.course, courses: Object.fromEntries(this.courses), of });
+  }
+}
+
+const ownOf = (kept) => ({ solutions: new Map(textsKept(kept?.solutions)), looked: new Set(namesKept(kept?.looked)) });

@@ -1,0 +1,155 @@
+// The maps: of each activity its cards, with a list, a question, and a sign of what was done.
+import { BOOK_NAME } from "../../made/book.js";
+import { CLASSICS, LACKING } from "../../made/classics.js";
+import { BREAK_LEVELS, numberOfLevel, TEN, THREE_MORE } from "../data/levels.js";
+import { byId } from "../page/dom.js";
+import { keptUnder } from "../page/kept.js";
+import { examples } from "../page/work.js";
+import { escaped, inLetters, tag } from "../run/markup.js";
+import { QUESTIONS } from "../story/ask.js";
+import { bookCourse } from "../story/assignment.js";
+import { itemOf } from "../story/ask_branches.js";
+import { APPENDIX } from "../story/ask_more.js";
+import { isBrokenOnce, keptStory } from "../story/kept.js";
+import { learning } from "../story/learning.js";
+import { foot, head, LIST_WORDS, part } from "../story/scene.js";
+import { JUDGED } from "./judging.js";
+import { drawRecordedBox, listenToRecorded } from "./recorded.js";
+import { listenToSeedForm, seedForm } from "./bench.js";
+
+const SIGNS = { right: ["✓", "guessed right"], wrong: ["seen", "seen"], done: ["✓", "done"] };
+
+function drawCard({ href, list, title, says = "", state = "" }) {
+  const [sign, words] = SIGNS[state] ?? ["", ""];
+  const shown = sign === "" ? "" : tag("i", { class: "sign", "aria-label": words }, sign);
+  return tag("a", { class: `card ${state}`, href }, tag("i", { class: "small" }, list), tag("b", {}, title), tag("span", {}, says), shown);
+}
+
+const cards = (all) => tag("div", { class: "cards" }, ...all.map(drawCard));
+const lead = (words, score = "") => `<p class="lead">${words}</p>${score === "" ? "" : `<p class="score">${score}</p>`}`;
+const goOn = (href, count, all) => tag("a", { class: "button primary", href }, `${count === 0 ? "Begin" : count < all ? "Go on" : "Once more"} →`);
+
+// ---- Guess, then see
+function askHtml() {
+  const { asks } = keptStory();
+  const seen = QUESTIONS.filter(({ name }) => asks[name] !== undefined);
+  const right = seen.filter(({ name }) => asks[name] === "right").length;
+  const cardOf = ({ name, list, title, question }) => ({ href: `#ask=${name}`, list: LIST_WORDS[list], title, says: question, state: asks[name] });
+  const next = QUESTIONS.find((item) => !seen.includes(item)) ?? QUESTIONS[0];
+  const score = `<b>${right}</b> of ${QUESTIONS.length} guessed right at the first try, ${seen.length} seen`;
+  const words = "Eleven runs. Each stops just before the step on which it turns. Say what comes; then it goes on, and you may change it.";
+  return `${head("", "Guess, then see", lead(words, seen.length === 0 ? "" : score), "title")}${cards(QUESTIONS.map(cardOf))}
+    <h2>Seven more</h2><p class="prose">These lists have a fourth call, <b>ceiling</b>: the smallest number that is as big as the one
+    that is asked for, or more. And each thread may add only so many numbers.</p>${cards(APPENDIX.map(cardOf))}
+    ${foot('<a class="button quiet" href="#story=1">The path of twenty minutes</a>', goOn(`#ask=${next.name}`, seen.length, QUESTIONS.length))}`;
+}
+
+// ---- Break it: the lists that lack a check, the simplest first
+function breakHtml() {
+  const cardOf = (name) => {
+    const { story, lacks } = BREAK_LEVELS[name];
+    const state = isBrokenOnce(name) ? { says: lacks, state: "done" } : {};
+    return { href: `#break=${numberOfLevel(name)}`, list: LIST_WORDS[LACKING[name]], title: story, ...state };
+  };
+  const count = TEN.filter(isBrokenOnce).length;
+  const next = TEN.find((name) => !isBrokenOnce(name)) ?? TEN[0];
+  const words = `Ten lists, from one lock to none. Each lacks one check. Let A and B step until a number is lost, or two
+    answers cannot both be right. Then say what is missing.`;
+  const top = lead(words, count === 0 ? "" : `<b>${count}</b> of ${TEN.length} broken`);
+  return `${head("", "Break it", top, "title")}${cards(TEN.map(cardOf))}
+    <h2>Three more</h2>${cards(THREE_MORE.map(cardOf))}${foot("", goOn(`#break=${numberOfLevel(next)}`, count, Infinity))}`;
+}
+
+// ---- Solve it: the lessons of a course; below them what is handed in, and courses of one's own
+function learnHtml() {
+  const { panel } = learning;
+  const { lessons, name } = panel.course;
+  const cardOf = ({ name, title, list }, at) =>
+    ({ href: `#learn=${name}`, list: `${at + 1} · ${LIST_WORDS[list]}`, title: escaped(title), state: panel.isSolved(name) ? "done" : "" });
+  const count = lessons.filter((lesson) => panel.isSolved(lesson.name)).length;
+  const isBook = name === BOOK_NAME;
+  const words = "In each lesson you choose which thread makes the next step, until the run shows what is asked. There is more than one way.";
+  const top = lead(words, count === 0 ? "" : `<b>${count}</b> of ${lessons.length} solved`);
+  const back = isBook ? "" : '<p><button id="lesson-book" data-do="book">Back to the twelve lessons</button></p>';
+  return `${head("", isBook ? "Solve it" : escaped(name), top, "title")}${cards(lessons.map(cardOf))}
+    ${back}<div id="learn-folds"></div>${foot("", goOn(`#learn=${(panel.firstUnsolved() ?? lessons[0]).name}`, count, Infinity))}`;
+}
+
+function beginLearn() {
+  const { kept, course } = learning.panel;
+  part("#learn-folds").append(byId("lesson-folds"));
+  byId("lesson-course").replaceChildren(...[BOOK_NAME, ...kept.courses.keys()].map((name) => new Option(name)));
+  byId("lesson-course").value = course.name;
+  byId("lesson-student").value = keptStory().student;
+}
+const endLearn = () => byId("courses").append(byId("lesson-folds"));
+
+export function drawLearnMap() {
+  if (part("#learn-folds") === null) return;
+  endLearn();
+  byId("scene").innerHTML = learnHtml();
+  beginLearn();
+}
+
+function openBook() {
+  learning.panel.takeCourse(bookCourse());
+  drawLearnMap();
+}
+
+// ---- Judge: a run by its number, recorded calls, or an example by its question
+function judgeHtml() {
+  const judged = Object.keys(keptUnder(JUDGED) ?? {});
+  const cardOf = ({ name, kind }) => {
+    const state = judged.some((run) => run.startsWith(`${name} `)) ? "done" : "";
+    const says = escaped(inLetters(CLASSICS[name].question));
+    return { href: `#example=${name}&judge`, list: LIST_WORDS[kind], title: itemOf({ id: name }).title, says, state };
+  };
+  const words = `You see a run without its replies. Say what each call answers, and put a point where it takes effect. The proved
+    <code>check</code> judges your order: any order that explains the run is right.`;
+  return `${head("", "Judge a run yourself", lead(words), "title")}<h2>A random run</h2>${seedForm("judge-seed", "Judge a run")}${drawRecordedBox()}
+    <h2>An example, by its question</h2>${cards(examples().map(cardOf))}`;
+}
+
+function beginJudge() {
+  listenToSeedForm("judge-seed", "&judge");
+  listenToRecorded();
+}
+
+// ---- Read: the pages made of docs/, the words of the page, what is proved
+export const PAGES = [
+  ["how-it-works.html", "How it works", "The five lists, from one lock to none, each with the runs that show why."],
+  ["classic.html", "The examples", "Eighteen runs, each with its question, the answer, and what goes wrong without the check."],
+  ["tables.html", "The step tables", "Each list row by row: what a step reads and writes, and which row comes next."],
+  ["tables.html#progress", "Progress: blocking, lock-free, wait-free", "Which calls of each list may block, and within how many steps a call ends."],
+];
+const TERMS = {
+  event: "The begin of a call, or one step of it: one load, store or compare-and-exchange of one word.",
+  schedule: "Which thread makes the next step, from the first event to the last. It is the whole input of a run.",
+  history: "The calls with their begin, end, thread and reply. Two calls overlap if neither ends before the other begins.",
+  pending: "A call that has begun and not ended.",
+  "takes effect": "At its linearization point: the moment between begin and end at which a call counts in the order.",
+  order: "The calls one after the other. It explains a run if a sequential set gives the same replies in this order.",
+  linearizable: "Some order explains the replies, and keeps each pair of calls that do not overlap as they were.",
+  "row, step table": "The algorithm as numbered steps; a row says what the thread does next.",
+  "pred, curr": "The two nodes that a walk holds: curr is the next one behind pred.",
+  marked: "A node whose key is removed; it may still be in the chain until it is unlinked.",
+  "quota, slot": "How many keys a thread can add in all. Each needs a slot, a node of its own; then add answers full.",
+  "not linearizable": "Proved of a report by a few of its calls: no order of them explains their replies.",
+};
+
+function readHtml() {
+  const isAlone = document.body.dataset.alone !== undefined; // the page is one file, without the others beside it
+  const pages = isAlone ? "" : cards(PAGES.map(([href, title, says]) => ({ href, list: "", title, says: escaped(says) })));
+  const terms = Object.entries(TERMS).map(([term, says]) => `<div><dt>${term}</dt><dd>${escaped(says)}</dd></div>`);
+  return `${head("", "Read", "", "title")}${pages}<h2>Terms</h2>${tag("dl", { class: "words card" }, ...terms)}
+    <h2>What is proved, and what is not</h2><div class="panel prose">${byId("proved").innerHTML}</div>`;
+}
+
+const mapOf = (name, html, more = {}) => ({ kind: "asks", title: () => `${name()} · Why not just one lock?`, html, ...more });
+export const MAPS = {
+  "ask map": mapOf(() => "Guess, then see", askHtml),
+  "break map": mapOf(() => "Break it", breakHtml),
+  "learn map": mapOf(() => learning.panel.course.name, learnHtml, { begin: beginLearn, end: endLearn, deeds: { book: openBook } }),
+  judge: mapOf(() => "Judge", judgeHtml, { begin: beginJudge }),
+  read: mapOf(() => "Read", readHtml),
+};
