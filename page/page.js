@@ -1249,7 +1249,7 @@ return { momentAt, sentenceOf };
 // draw/history.js
 const $draw_history = (() => {
 const { callText, colourOf, label, letterOf, tag, title } = $run_markup;
-const HISTORY_LEFT = 50;
+const HISTORY_LEFT = 54;
 const HISTORY_RIGHT = 16;
 const LEAST_STEP = 7; // pixels of one event
 const BAR = 20; // pixels: the height of a bar
@@ -1269,7 +1269,8 @@ const shownIn = ({ calls }, first, last) => calls.filter(({ begun, ended }) => b
 function formOf(threads) {
   if (threads > 12) return { bar: 9, below: 1, mostRows: 1 };
   if (threads > 6) return { bar: 13, below: 4, mostRows: 1 };
-  return { bar: BAR, below: BELOW, mostRows: threads > 3 ? 2 : 3 };
+  if (threads > 2) return { bar: 15, below: 3, mostRows: 2 };
+  return { bar: BAR, below: BELOW, mostRows: 3 };
 }
 
 function layLabels(threads, calls, itemOf, room) {
@@ -1514,7 +1515,7 @@ function drawWindow(scale, total, x) {
 
 function nameOfContents({ lacks }) {
   if (lacks === null) return label({ class: "name", x: 6, y: 17 }, "set");
-  const lines = ["set as", "told"].map((words, line) => label({ class: "name", x: 2, y: 10 + 12 * line }, words));
+  const lines = ["by the", "answers"].map((words, line) => label({ class: "name", x: 0, y: 10 + 12 * line, style: "font-size:11px" }, words));
   return tag("g", {}, title(`${BY_POINTS}; the list may have other keys`), ...lines);
 }
 const BY_POINTS = "the set by the linearization points of the calls";
@@ -1528,7 +1529,7 @@ function drawContents(trace, scale) {
   const what = trace.lacks === null ? "the set" : BY_POINTS;
   const words = `${what} after event ${scale.count}: {${now.keys.slice(0, 40).join(", ")}}`;
   const frame = { width: scale.width, height: 50, viewBox: `0 0 ${scale.width} 50`, role: "img", "aria-label": words };
-  return tag("svg", frame, nameOfContents(trace), ...parts, drawCursor(scale, 24), number, drawWindow(scale, trace.total, x));
+  return tag("svg", frame, nameOfContents(trace), drawCursor(scale, 24), ...parts, number, drawWindow(scale, trace.total, x));
 }
 
 function drawOrder(trace, count, hides = false) {
@@ -2192,7 +2193,7 @@ function redraw(box, html) {
   else box.replaceChildren(...html);
   if (before === null) return;
   const same = [...box.querySelectorAll("button, select, input, a, [tabindex]")].find((part) => keyOf(part) === key);
-  (same ?? box.querySelector("button, a") ?? box).focus();
+  (same ?? box.querySelector("button:not([data-undo], [data-again]), a") ?? box).focus();
 }
 
 const setAble = (id, isAble) => byId(id).setAttribute("aria-disabled", String(!isAble));
@@ -2666,7 +2667,7 @@ const BOOK = [
   "  say That add has ended. Undo to where it is about to exchange the link of pred.",
   "",
   "lesson ceiling-in-anothers-step",
-  "title A ceiling in another thread's step",
+  "title ceiling(6) answers 9, and 7 is in the set",
   "list lock-free",
   "threads 2",
   "quota 4",
@@ -3401,7 +3402,7 @@ const BREAK_LEVELS = {
       "A remove takes its node out before it marks it.": "it marks the node first",
       "A remove does not look whether its key is there.": "it compares curr.key with its key",
     },
-    start: [["remove", 3], ["remove", 3]], shortest: [14, 2], missing: [{ row: 9, part: "no mark" }],
+    start: [["remove", 3], ["remove", 3]], shortest: [14, 2], missing: [{ row: 9, part: "unmarked" }],
   },
   mark: {
     story: "Removing a node is one compare-and-set here. Fast. Too fast?",
@@ -3415,7 +3416,7 @@ const BREAK_LEVELS = {
       "A remove marks a node that is marked already.": "it marks no node at all",
       "An add writes its arrow without comparing.": "it compares with what it saw",
     },
-    start: [["add", 5], ["remove", 3]], shortest: [15, 2], missing: [{ row: 9, part: "CAS curr.next: succ, no mark → mark" }],
+    start: [["add", 5], ["remove", 3]], shortest: [15, 2], missing: [{ row: 9, part: "CAS curr.next: succ unmarked → marked" }],
   },
   "new-slot": {
     story: "Each key that is added needs a node of its own. Does it get one?",
@@ -3497,7 +3498,7 @@ const BREAK_LEVELS = {
       "A remove does not mark its node.": "it marks the node before it unlinks it",
       "An add does not look whether its key is there.": "it compares curr.key with its key",
     },
-    start: [["add", 5], ["remove", 3]], shortest: [17, 2], missing: [{ row: 7, part: "no mark" }],
+    start: [["add", 5], ["remove", 3]], shortest: [17, 2], missing: [{ row: 7, part: "unmarked" }],
   },
   "same-node": {
     story: "The second walk looks for pred. It meets something that looks like it.",
@@ -5960,7 +5961,7 @@ function arranged(state, event, shape) {
   const { shown, more } = nodesAside(state, chain, important);
   const rooms = roomsUnder(state, items, shown, shape);
   const lanesUnder = (labels, row) => Math.max(0, ...labels.filter((own) => own.row === row).map((own) => own.lane + 1));
-  const below = TOP + NODE_HEIGHT + 18 * lanesUnder(pointerLabels(pointers, places, rooms), TOP) + 62;
+  const below = TOP + NODE_HEIGHT + 18 * lanesUnder(pointerLabels(pointers, places, rooms), TOP) + 54;
   const right = placeAside(state, chain, shown, places, below);
   const labels = pointerLabels(pointers, places, rooms);
   const bottom = shown.length > 0 ? below : TOP;
@@ -6166,7 +6167,7 @@ return { drawList };
 // story/code.js
 const $story_code = (() => {
 const { chipOf, colourOf, escaped, letterOf, tag } = $run_markup;
-const WORDS = /\b(while|if|else|return|start again|loop|until|unlock|lock|find|validate|CAS|mark|new)\b/g;
+const WORDS = /\b(while|if|else|return|start again|loop|until|unlock|lock|find|validate|CAS|new)\b/g;
 
 /**
  * Shown are the lines of the calls `operations`, without the rows `hides`, with `instead` in place of a row's words; `fresh` rows are new in
@@ -6246,9 +6247,9 @@ const BOOK_CODE = {
     { of: ["add"], text: "add, if curr.key ≠ key:" },
     { of: ["add"], text: "    node = new Node(key, next = curr)", rows: [5, 6] },
     { of: ["add"], text: "    pred.next = node", rows: [7] },
-    { of: ["remove"], text: "remove, if curr.key = key:" },
+    { of: ["remove"], text: "remove, if curr.key == key:" },
     { of: ["remove"], text: "    pred.next = curr.next", rows: [8, 9] },
-    { of: ["contains"], text: "contains: true if curr.key = key" },
+    { of: ["contains"], text: "contains: return curr.key == key" },
     { text: "unlock the list; return", rows: [10] },
   ],
   fine: [
@@ -6261,9 +6262,9 @@ const BOOK_CODE = {
     { of: ["add"], text: "add, if curr.key ≠ key:" },
     { of: ["add"], text: "    node = new Node(key, next = curr)", rows: [7, 8] },
     { of: ["add"], text: "    pred.next = node", rows: [9] },
-    { of: ["remove"], text: "remove, if curr.key = key:" },
+    { of: ["remove"], text: "remove, if curr.key == key:" },
     { of: ["remove"], text: "    pred.next = curr.next", rows: [10, 11] },
-    { of: ["contains"], text: "contains: true if curr.key = key" },
+    { of: ["contains"], text: "contains: return curr.key == key" },
     { text: "unlock curr; unlock pred; return", rows: [12, 13] },
   ],
   optimistic: [
@@ -6273,13 +6274,13 @@ const BOOK_CODE = {
     { text: "lock pred; lock curr", rows: [4, 5] },
     { text: "validate: walk from the head again", rows: [6] },
     { text: "    until pred is met, else not valid", rows: [7] },
-    { text: "    pred.next = curr? else not valid", rows: [8] },
+    { text: "    pred.next == curr, else not valid", rows: [8] },
     { of: ["add"], text: "add, if curr.key ≠ key:" },
     { of: ["add"], text: "    node = new Node(key, next = curr)", rows: [9, 10] },
     { of: ["add"], text: "    pred.next = node", rows: [11] },
-    { of: ["remove"], text: "remove, if curr.key = key:" },
+    { of: ["remove"], text: "remove, if curr.key == key:" },
     { of: ["remove"], text: "    pred.next = curr.next", rows: [12, 13] },
-    { of: ["contains"], text: "contains: true if curr.key = key" },
+    { of: ["contains"], text: "contains: return curr.key == key" },
     { text: "unlock pred; unlock curr", rows: [14, 15] },
     { text: "if not valid: start again; return", isPlain: true },
   ],
@@ -6293,7 +6294,7 @@ const BOOK_CODE = {
     { of: ["add"], text: "add, if curr.key ≠ key:" },
     { of: ["add"], text: "    node = new Node(key, next = curr)", rows: [8, 9] },
     { of: ["add"], text: "    pred.next = node", rows: [10] },
-    { of: ["remove"], text: "remove, if curr.key = key:" },
+    { of: ["remove"], text: "remove, if curr.key == key:" },
     { of: ["remove"], text: "    mark curr", rows: [11] },
     { of: ["remove"], text: "    pred.next = curr.next", rows: [12] },
     { of: CHANGES, text: "unlock curr; unlock pred", rows: [13, 14] },
@@ -6303,17 +6304,18 @@ const BOOK_CODE = {
   "lock-free": [
     { of: CHANGES, text: "find: pred = head; curr = pred.next", rows: [1] },
     { of: CHANGES, text: "    succ, marked = curr.next", rows: [2] },
-    { of: CHANGES, text: "    marked? CAS pred.next: curr → succ", rows: [3] },
+    { of: CHANGES, text: "    if marked: CAS pred.next: curr → succ", rows: [3] },
+    { of: CHANGES, text: "        else start again", isPlain: true },
     { of: CHANGES, text: "    if curr.key < key: go one node on", rows: [4] },
     { of: ["add"], text: "add, if curr.key ≠ key:" },
     { of: ["add"], text: "    node = new Node(key, next = curr)", rows: [5, 6] },
-    { of: ["add"], text: "    CAS pred.next: curr, no mark → node", rows: [7] },
+    { of: ["add"], text: "    CAS pred.next: curr unmarked → node", rows: [7] },
     { of: ["add"], text: "    else start again", isPlain: true },
-    { of: ["remove"], text: "remove, if curr.key = key:" },
+    { of: ["remove"], text: "remove, if curr.key == key:" },
     { of: ["remove"], text: "    succ = curr.next", rows: [8] },
-    { of: ["remove"], text: "    CAS curr.next: succ, no mark → mark", rows: [9] },
+    { of: ["remove"], text: "    CAS curr.next: succ unmarked → marked", rows: [9] },
     { of: ["remove"], text: "    else start again", isPlain: true },
-    { of: ["remove"], text: "    CAS pred.next: curr → succ, once", rows: [10] },
+    { of: ["remove"], text: "    CAS pred.next: curr → succ", rows: [10] },
     ...READS,
   ],
 };
@@ -6357,14 +6359,15 @@ const WORDS = {
   answer: () => "answer",
   lock: () => "take the lock",
   unlock: () => "let go, and answer",
+  restart: () => "let go, and start again",
   first: () => "lock the head",
   next: () => "lock the next node",
-  letgo: () => "let go of the one behind",
+  letgo: () => "let go of pred",
   locks: () => "lock pred and curr",
-  again: () => "look once more",
+  again: () => "look again",
   check: () => "look at the marks",
   mark: ({ key }) => `mark ${key}: removed`,
-  tidy: ({ key }) => `take ${key} out of the chain`,
+  tidy: ({ key }) => `take ${key} out`,
   look: () => "look at the mark",
   snip: () => "take the marked node out",
   swing: ({ key }) => `try to hang ${key} in`,
@@ -6418,7 +6421,7 @@ function lockTold(event, who, plain, waits) {
 
 function keyTold(event, owner, key, phase, held) {
   if (phase === "again") {
-    if (held.pc === 14 && held.reply === "none") return `is past the place of its pred, and has not met it: ${bold("pred is not in the list any more.")} It lets go and starts again.`;
+    if (held.pc === 14 && held.reply === "none") return `is past the place of its pred: ${bold("pred is not in the list any more.")} It starts again.`;
     return held.node === held.pred ? "meets its pred: it is still in the list." : "walks on: this is not its pred.";
   }
   if (owner === "tail") return "has come to the end: here is the place.";
@@ -6505,23 +6508,23 @@ function rowOf(figure, thread) {
   if (isIdle && next === undefined) return spec.free ? chooser(figure, thread, own) : restOf(run, thread, own.at(-1));
   const call = isIdle ? { operation: next[0], key: next[1] } : own.at(-1);
   const plan = run.nextOf(thread, next);
-  const words = spec.words?.[plan.phase] ?? phaseText(plan.phase, call);
+  const waits = plan.waitsFor !== null;
+  const words = waits ? `waits for ${letterOf(plan.waitsFor)}` : (spec.words?.[plan.phase] ?? phaseText(plan.phase, call));
   const key = letterOf(thread).toLowerCase();
-  const given = { class: "step", "data-step": thread, "aria-keyshortcuts": key, ...(figure.isOpen ? {} : { disabled: "" }) };
-  const button = tag("button", given, words, `<kbd aria-hidden="true">${key}</kbd>`);
-  const waits = plan.waits && plan.steps === 1 ? '<span class="waits">has to wait</span>' : "";
-  return threadRow(thread, `<code>${callText(call)}</code> ${button} ${waits}`);
+  const given = { class: "step", "data-step": thread, "aria-keyshortcuts": key, ...(waits ? { "aria-disabled": "true" } : {}) };
+  const button = tag("button", { ...given, ...(figure.isOpen ? {} : { disabled: "" }) }, words, `<kbd aria-hidden="true">${key}</kbd>`);
+  return threadRow(thread, button, callText(call));
 }
 
-function threadRow(thread, inside) {
+function threadRow(thread, inside, call = "") {
   const given = { class: `thread ${colourOf(thread)}`, "data-thread": thread, role: "group", "aria-label": `thread ${letterOf(thread)}` };
-  return tag("div", given, chipOf(thread), " ", inside);
+  return tag("div", given, tag("span", { class: "own" }, chipOf(thread), call === "" ? "" : ` <code>${call}</code>`), " ", inside);
 }
 
 function restOf(run, thread, last) {
   if (last === undefined) return threadRow(thread, "");
   const reply = last.ended !== null && run.count >= last.ended ? `<b class="reply ${last.reply}">${answerText(last.reply)}</b>` : "";
-  return threadRow(thread, `<code>${callText(last)}</code> <span class="does">${reply}</span>`);
+  return threadRow(thread, `<span class="does">${reply}</span>`, callText(last));
 }
 
 function chooser(figure, thread, own) {
@@ -6532,7 +6535,7 @@ function chooser(figure, thread, own) {
   const letter = letterOf(thread);
   const field = { type: "number", min: 0, max: 999, value: key, "data-key": thread, "aria-label": `number of ${letter}’s call` };
   const fields = tag("select", { "data-call": thread, "aria-label": `call of ${letter}` }, ...options) + tag("input", field);
-  const reply = last === undefined ? "" : `<small>${callText(last)}: <b class="reply ${last.reply}">${answerText(last.reply)}</b></small>`;
+  const reply = last === undefined ? "" : `<small>${callText(last)}:<br><b class="reply ${last.reply}">${answerText(last.reply)}</b></small>`;
   return threadRow(thread, `<span class="choose">${fields}<button data-begin="${thread}">begin</button></span> ${reply}`);
 }
 
@@ -6543,8 +6546,9 @@ function showStrip(figure) {
   const scale = scaleOf(run.trace, run.count, wide - room, figure.hides);
   Object.assign(scale, { edge: scale.edge + room, width: wide });
   figure.scale = scale;
-  setHtml(figure.part("strip"), tag("div", { class: "calls" }, drawCalls(run.trace, scale)) + drawContents(run.trace, scale));
+  setHtml(figure.part("strip"), tag("div", { class: "calls" }, drawCalls(run.trace, scale)) + drawContents(run.trace, scale) + LEGEND);
 }
+const LEGEND = '<p class="small legend">● changes the set · ○ here its answer is right first</p>';
 const MOST_CALLS = 400; // pixels: of more threads the bars scroll
 
 function scrollToLane(figure) {
@@ -6638,9 +6642,10 @@ const MOST_HEIGHT = 0.4; // of the window, for the list
 const NARROW = "(max-width: 760px)";
 const isNarrow = () => matchMedia(NARROW).matches;
 
-const codeBox = ({ codeTitle, codeNote = "" }) => `<details class="codebox" ${isNarrow() ? "" : "open"}><summary><b>${codeTitle}</b></summary>
+const CAS = "CAS x: a → b makes x point to b, if it still points to a. succ is the node after curr.";
+const codeBox = ({ list, codeTitle, codeNote = "" }) => `<details class="codebox" ${isNarrow() ? "" : "open"}><summary><b>${codeTitle}</b></summary>
     <p class="small code-note" ${codeNote === "" ? "hidden" : ""}>${codeNote}</p><span class="runs"></span><div class="lines"></div>
-    <p class="small hint">A letter stands at its thread’s next line. Press the line to step, another one to run there.</p></details>`;
+    <p class="small hint">${list === "lock-free" ? CAS : "A letter stands at its thread’s next line. Press the line to step, another one to run there."}</p></details>`;
 
 function frameOf({ box, spec }) {
   box.innerHTML = `<div class="stage"><div class="list" tabindex="0" role="group" aria-label="the list"></div>
@@ -6765,7 +6770,7 @@ function showCode(figure, { state, event, before }) {
   const hides = (figure.isGuess ? spec.hidden?.hides : undefined) ?? spec.hides; // some is not told before the guess
   setHtml(box, drawOwnCode({ list, plain, fresh, struck, hides, instead, operations: operationsOf(figure), next, made, canStep, active }));
   const toggles = figure.shown.filter(isAble).map((thread) => toggleOf(thread, active));
-  setHtml(figure.part("runs"), canStep && toggles.length > 1 ? toggles.join("") : "");
+  setHtml(figure.part("runs"), canStep && spec.free && toggles.length > 1 ? `who runs: ${toggles.join("")}` : "");
 }
 
 const toggleOf = (thread, active) => `<button class="who ${colourOf(thread)}" data-active="${thread}" aria-pressed="${thread === active}"
@@ -6826,9 +6831,9 @@ class ShownRun {
 
 /**
  * `lines` are the schedule's first lines, also those of a draft. In a `free` run the reader may begin any call, and stop before each look; of
- * a `plain` one the list's lock is ignored, and nothing is told of it.
+ * a `plain` one the list's lock is ignored, and nothing is told of it. `joined` are rows that belong to the press before them.
  * @typedef {{ list: string, lacks?: string | null, threads?: number, quota?: number, opening?: number[], lines?: string[], version?: number,
- *   free?: boolean, plain?: boolean }} RunSpec
+ *   free?: boolean, plain?: boolean, joined?: number[] }} RunSpec
  */
 class LiveRun extends ShownRun {
   /** @param {RunSpec} spec */
@@ -6881,27 +6886,31 @@ class LiveRun extends ShownRun {
     const trace = this.traceOf([...lines, `go ${thread} ${MOST_STEPS}`]);
     const begun = this.trace.total + lines.length - this.lines.length;
     const row = isBegin ? trace.event(begun).changes.pc : this.state.threads[thread].pc;
-    return { ...this.chunk(trace, begun, row), thread, row, isBegin };
+    const next = this.chunk(trace, begun, row);
+    const tried = this.trace.events().findLast((event) => event.thread === thread);
+    const waitsFor = next.waits && next.steps === 1 && tried?.word === next.last.word && tried.saw === next.last.saw ? Number(tried.saw.slice(1)) : null;
+    return { ...next, thread, row, isBegin, waitsFor };
   }
 
   chunk(trace, begun, row) {
-    const { list, plain } = this.spec;
+    const { list, plain, joined = [] } = this.spec;
     const phase = phaseAt(list, row, plain);
-    const joined = this.spec.free && !plain ? [] : joinedRows(list, plain);
+    const rows = this.spec.free && !plain ? [] : [...joinedRows(list, plain), ...joined];
+    let last;
     let steps = 0;
     let before = row;
     for (let number = begun + 1; number <= trace.total; number++) {
-      const event = trace.event(number);
+      last = trace.event(number);
       steps++;
-      if (event.answer !== undefined) break;
-      const after = event.changes.pc;
-      const ofLock = isFailed(event) && isLock(event.word);
+      if (last.answer !== undefined) break;
+      const after = last.changes.pc;
+      const ofLock = isFailed(last) && isLock(last.word);
       const waits = ofLock && after === before; // a broken list may go on all the same
-      if (waits || (isFailed(event) && !ofLock)) return { steps, phase, waits };
+      if (waits || (isFailed(last) && !ofLock)) return { steps, phase, waits, last };
       before = after;
-      if (phaseAt(list, after, plain) !== phase && !joined.includes(after)) break;
+      if (phaseAt(list, after, plain) !== phase && !rows.includes(after)) break;
     }
-    return { steps, phase, waits: false };
+    return { steps, phase: phase === "unlock" && last?.answer === undefined ? "restart" : phase, waits: false, last };
   }
 
   stepsUntil(thread, isThere) {
@@ -6979,7 +6988,8 @@ class Figure {
     this.run = spec.run ?? new LiveRun(spec);
     this.shown = spec.shown ?? this.run.state.threads.map((_, thread) => thread);
     this.chosen = spec.chosen ?? {}; // of an idle thread, the call that stands in its fields
-    this.most = { width: 0, height: spec.tall && !isNarrow() ? 262 : 0 }; // room for a node that is sure to come
+    const isRoomy = (spec.isPath || spec.free) && spec.again !== false && !isNarrow();
+    this.most = { width: 0, height: isRoomy ? 270 + 18 * this.shown.length : 0 }; // room for a node that may come
     frameOf(this);
     box.addEventListener("click", (event) => pressed(this, event));
     box.addEventListener("input", ({ target }) => target.closest(".choose") !== null && chooseCall(this, target.closest("[data-thread]")));
@@ -7166,20 +7176,17 @@ async function copyText(text, words) {
 
 function talk(html) {
   const box = part("#talk");
-  if (!setHtml(box, html) || scene.isNew || hiddenBelow() <= 0) return;
-  const last = box.lastElementChild;
-  const isTall = last.getBoundingClientRect().height > innerHeight / 2; // as on a phone: what comes first is to be seen
-  last.scrollIntoView({ block: isTall ? "start" : "end" });
+  const last = () => box.lastElementChild;
+  if (!setHtml(box, html) || scene.isNew || last() === null || underBar(last()) <= 0) return;
+  const isTall = last().getBoundingClientRect().height > innerHeight / 2; // as on a phone: what comes first is to be seen
+  last().scrollIntoView({ block: isTall ? "start" : "end" });
 }
 
-function hiddenBelow() {
-  const [last, bar] = [part("#talk")?.lastElementChild, part(".foot")];
-  return last == null || bar === null ? 0 : last.getBoundingClientRect().bottom - bar.getBoundingClientRect().top;
-}
+const underBar = (box) => box.getBoundingClientRect().bottom - (part(".foot")?.getBoundingClientRect().top ?? Infinity);
 
 function fitFigure({ spec }) {
   const list = scene.figure.part("list").firstElementChild;
-  const over = hiddenBelow();
+  const over = underBar(part("#talk") ?? list);
   if (over <= 0 || list === null || isNarrow()) return;
   Object.assign(spec, { high: (Number(list.getAttribute("height")) - over - 8) / innerHeight, least: 110 });
   scene.figure.draw();
@@ -8109,7 +8116,7 @@ const QUESTIONS = [
       { text: "Only A", right: true, say: "" },
       { text: "Only B", say: "B gets the lock only when A is done. What does it find then?" },
     ],
-    why: "<b>Only A.</b> Who has the lock comes first. B tries in vain, which is a step too and changes nothing. When it gets the lock it walks, finds 5, and answers false.",
+    why: "<b>Only A.</b> Who has the lock comes first. B’s try fails and changes nothing. When B gets the lock it walks, finds 5, and answers false. Its ring stands where that was right first: when A’s 5 came in.",
     lacks: "lock", without: { lines: ["begin 0 add 5", "go 0 to 5", "begin 1 add 5", "go 1 out", "go 0 out"] },
     broken: "Both are told true, and 5 came in once.",
   },
@@ -8123,11 +8130,11 @@ const QUESTIONS = [
       { text: "To 9, and waits there", say: "On its way it has to lock the head, as everybody." },
     ],
     why: "<b>Not even the head.</b> First A has to let go of it. Then B goes hand over hand: it lets go of the head only when it holds 5.",
-    lacks: "hand-over-hand", without: { opening: [3, 9], lines: ["begin 0 add 5", "go 0 7", "begin 1 remove 3", "go 1 8", "go 0 7"] },
+    lacks: "hand-over-hand", without: { question: "A adds 5, and lets go of 3 too early. B removes 3.", opening: [3, 9], lines: ["begin 0 add 5", "go 0 7", "begin 1 remove 3", "go 1 8", "go 0 7"] },
     broken: "5 is lost: its pred was taken out behind A’s back.",
   },
   {
-    name: "same-gap", list: "optimistic", title: "One gap for two", opening: [],
+    name: "same-gap", list: "optimistic", title: "One gap for two", opening: [], hides: [6, 7, 8],
     lines: ["begin 0 add 5", "begin 1 add 7", "go 0 2", "go 1 2", "go 1 out", "go 0 2"], rest: ["go 0 out"],
     question: "Both had walked to the gap between head and tail. B was first with its 7. Now A has its locks. What does A do?",
     options: [
@@ -8138,7 +8145,7 @@ const QUESTIONS = [
     why: "<b>It notices.</b> A looks whether its pred still points to its curr. The head points to 7 now. So A lets go of both, and walks again.",
   },
   {
-    name: "stale-pred", list: "optimistic", title: "A pred that is gone", opening: [3],
+    name: "stale-pred", list: "optimistic", title: "A pred that is gone", opening: [3], hides: [6, 7],
     lines: ["begin 0 add 5", "go 0 4", "begin 1 remove 3", "go 1 out", "go 0 2"], rest: ["go 0 out"],
     question: "A’s pred is 3. Meanwhile B has removed 3, whose node still points to the end. A has its locks. May A write?",
     options: [
@@ -8151,17 +8158,17 @@ const QUESTIONS = [
   },
   {
     name: "marked-in-chain", list: "lazy", title: "There, and removed", opening: [5],
-    lines: ["begin 1 remove 5", "go 1 to 12", "begin 0 contains 5", "go 0 2"], rest: ["go 0 out", "go 1 out"],
+    lines: ["begin 1 remove 5", "go 1 to 12", "begin 0 contains 5", "go 0 2"], rest: ["go 0 out"],
     question: "B has marked 5, and has not taken it out yet. A’s walk stops at that node. What does contains(5) answer?",
     options: [
       { text: "true", say: "The node is in the chain. But the mark says that it is removed." },
       { text: "false", right: true, say: "" },
       { text: "Nothing, before B is done", say: "A takes no lock, so nobody can hold it up." },
     ],
-    why: "<b>false.</b> It is the mark that removes 5 from the set. That its node is still in the chain does not matter. A reads one word, and takes no lock for it.",
+    why: "<b>false.</b> With the mark 5 has left the set; that its node is still in the chain does not matter. A takes no lock, and reads one word. (The book’s LazyList has the mark in a word of its own.)",
   },
   {
-    name: "marked-pred", list: "lazy", title: "Warned by a mark", opening: [3],
+    name: "marked-pred", list: "lazy", title: "Warned by a mark", opening: [3], hides: [6, 7],
     lines: ["begin 0 add 5", "go 0 4", "begin 1 remove 3", "go 1 out", "go 0 2"], rest: ["go 0 out"],
     question: "A’s pred, 3, has been removed by B. This list never walks twice. What warns A?",
     options: [
@@ -8174,15 +8181,15 @@ const QUESTIONS = [
     broken: "5 is lost: it hangs on a node that is out of the list.",
   },
   {
-    name: "read-in-anothers-step", list: "lazy", title: "In another’s step", opening: [5],
+    name: "read-in-anothers-step", list: "lazy", title: "In another’s step", opening: [5], isTimed: true,
     lines: ["begin 0 contains 5", "go 0 2", "begin 1 remove 5", "go 1 out", "begin 1 add 5", "go 1 out"], rest: ["go 0 1"],
-    question: "At each step of A 5 was in the set, and it is in now. A is about to answer false. When is that right?",
+    question: "A asks contains(5). Whenever A took a step, 5 was in the set, and it is in now. A is about to answer false. When is that right?",
     options: [
       { text: "Never: it is a bug", say: "It looks like one. But the call also runs while A stands still." },
       { text: "Between B’s remove and B’s add", right: true, say: "" },
       { text: "When A answers", say: "Then 5 is in the set, in a new node." },
     ],
-    why: "<b>Between B’s two calls.</b> There 5 was not in the set, and A’s call was under way. It takes effect there, in a step of B. Who looks for it among A’s own steps finds none, and calls a correct list wrong.",
+    why: "<b>Between B’s two calls.</b> There 5 was not in the set, and A’s call was under way. It takes effect there, at a step of B. Who looks only among A’s own steps finds no such moment, and calls a correct list wrong.",
   },
   {
     name: "two-removers", list: "lock-free", title: "Two removers", opening: [5],
@@ -8289,7 +8296,7 @@ const APPENDIX = [
     name: "nothing-in-anothers-step", list: "lock-free", title: "Nothing there", opening: [5, 7],
     lines: ["begin 0 ceiling 6", "go 0 2", "begin 1 remove 7", "go 1 out", "begin 1 remove 5", "go 1 out", "begin 1 add 7", "go 1 out"],
     rest: ["go 0 out"],
-    question: "At each step of A 7 was in the set. Its ceiling(6) is going to answer that there is none. Is that right?",
+    question: "Whenever A took a step, 7 was in the set. Its ceiling(6) is going to answer that there is none. Is that right?",
     options: [
       { text: "No", say: "Look at the time in which A stood still." },
       { text: "Yes", right: true, say: "" },
@@ -8333,7 +8340,7 @@ const { LiveRun } = $story_live_run;
 const { drawLedger, isOddRun, LIST_WORDS, part, scene, setScene, takeFigure } = $story_scene;
 const CHECK_WORDS = {
   lock: "the lock is ignored",
-  "hand-over-hand": "it lets go of one lock before it has the next",
+  "hand-over-hand": "it lets go of one node before it holds the next",
   "second-walk": "it does not walk again",
   "marks-in-validation": "it does not look at the marks",
   "mark-in-remove": "it marks a node that is marked already",
@@ -8346,11 +8353,12 @@ const isEmbed = () => now.place.view === "embed";
 
 function takeBranch({ lines, opening, lacks = null, isFree = false }) {
   const item = itemOf(now.place);
+  const { high = isEmbed() ? 0.34 : 0.23, least = isEmbed() ? 110 : 180 } = scene.figure?.spec ?? {}; // (a branch is as large as the example)
   const calls = isFree ? {} : item.calls;
-  return takeFigure(new Figure(freshBox(), {
+  return takeFigure(new Figure(freshBox(item), {
     list: item.list, lacks, lines, calls, threads: item.threads ?? 2, quota: item.quota ?? 4, opening: opening ?? item.opening,
-    operations: operationsIn(item),
-    strip: true, scrub: true, again: false, free: isFree, short: true, roomFor: 552, high: isEmbed() ? 0.34 : 0.23, least: isEmbed() ? 110 : 180,
+    operations: operationsIn(item), hidden: { hides: item.hides },
+    strip: true, scrub: true, again: false, free: isFree, short: true, roomFor: 552, high, least,
     code: !isEmbed(), codeTitle: LIST_WORDS[item.list], codeNote: lacks === null ? "" : `Here ${CHECK_WORDS[lacks]}.`,
     struck: BREAK_LEVELS[lacks]?.missing,
   }));
@@ -8358,8 +8366,8 @@ function takeBranch({ lines, opening, lacks = null, isFree = false }) {
 
 const operationsIn = ({ lines, rest }) => [...lines, ...rest].filter((line) => line.startsWith("begin")).map((line) => line.split(" ")[2]);
 
-function freshBox() {
-  const box = Object.assign(document.createElement("div"), { id: "figure" });
+function freshBox({ isTimed = false }) {
+  const box = Object.assign(document.createElement("div"), { id: "figure", className: isTimed ? "timed" : "" });
   part("#figure").replaceWith(box);
   return box;
 }
@@ -8458,12 +8466,15 @@ function talkOfBranch(branch) {
 function drawBranches({ branches, at }) {
   const box = part("#branches");
   box.hidden = branches.length === 1;
-  part("#what-if-mark").hidden = at === 0 || branches[at].isFixed === true;
+  const { isFixed = false } = branches[at];
+  const { question, without } = itemOf(now.place);
+  part("#what-if-mark").hidden = at === 0 || isFixed;
+  part("#question").textContent = (isFixed && without?.question) || question;
   const button = ({ name }, index) =>
     tag("button", { class: "small", "data-do": "branch", "data-branch": index, "aria-pressed": index === at }, index === 0 ? "" : "↳ ", name);
   box.innerHTML = branches.map(button).join("");
 }
-return { ALL, itemOf, isEmbed, takeBranch, openBranch, goBack, seeAgain, whatIf, withoutCheck, talkOfBranch, drawBranches };
+return { CHECK_WORDS, ALL, itemOf, isEmbed, takeBranch, openBranch, goBack, seeAgain, whatIf, withoutCheck, talkOfBranch, drawBranches };
 })();
 
 // activities/recorded.js
@@ -8571,7 +8582,7 @@ function askHtml() {
   const cardOf = ({ name, list, title, question }) => ({ href: `#ask=${name}`, list: LIST_WORDS[list], title, says: question, state: asks[name] });
   const next = QUESTIONS.find((item) => !seen.includes(item)) ?? QUESTIONS[0];
   const score = `<b>${right}</b> of ${QUESTIONS.length} guessed right at the first try, ${seen.length} seen`;
-  const words = "Eleven runs. Each stops just before the step on which it turns. Say what comes; then it goes on, and you may change it.";
+  const words = "Eleven runs. Each stops just before the decisive step. Say what comes; then it goes on, and you may change it.";
   return `${head("", "Guess, then see", lead(words, seen.length === 0 ? "" : score), "title")}${cards(QUESTIONS.map(cardOf))}
     <h2>Seven more</h2><p class="prose">These lists have a fourth call, <b>ceiling</b>: the smallest number that is as big as the one
     that is asked for, or more. And each thread may add only so many numbers.</p>${cards(APPENDIX.map(cardOf))}
@@ -8906,9 +8917,8 @@ const listsOf = ({ given }) => (given.sides ?? "coarse.lazy").split(".");
 function html(place) {
   const preset = ([name, href]) => tag("a", { class: "button", href }, escaped(name));
   const choice = (name, at) => tag("label", {}, ["left ", "right "][at], tag("select", { id: `sides-${name}` }, listOptions(listsOf(place)[at])));
-  const lead = `<p class="lead">The same calls on two lists. A turn of a thread executes its next step in both; a call that has ended waits for
-    the other list. Who has to wait, and who is done? <a class="beside" href="tables.html#progress">Progress of each list: blocking, lock-free, wait-free</a></p>`;
-  return `<section class="screen">${head("", "Two lists, one program", lead)}
+  const lead = `<p class="lead">A turn of a thread executes its next step in both; a call that has ended waits for the other list. <a class="beside" href="tables.html#progress">Progress of each list: blocking, lock-free, wait-free</a></p>`;
+  return `<section class="screen">${head("", "The same calls on two lists: who waits, and who is done?", lead)}
     <div id="sides-presets" class="line">${PRESETS.map(preset).join(" ")}</div>
     <details id="sides-own"><summary>Your own program</summary><div class="line small">${SIDES.map(choice).join("")}
       <label>initial keys <input id="sides-opening" spellcheck="false" placeholder="no keys" size="8"></label>
@@ -9339,7 +9349,7 @@ return { openRecorded, openCourseFile, followAddress, showBeforehand, openFirst 
 const $story_ask_view = (() => {
 const { now } = $page_now;
 const { QUESTIONS } = $story_ask;
-const { ALL, drawBranches, goBack, isEmbed, itemOf, openBranch, seeAgain, takeBranch, talkOfBranch, whatIf, withoutCheck } = $story_ask_branches;
+const { ALL, CHECK_WORDS, drawBranches, goBack, isEmbed, itemOf, openBranch, seeAgain, takeBranch, talkOfBranch, whatIf, withoutCheck } = $story_ask_branches;
 const { isNarrow } = $story_figure_parts;
 const { keepStory, keptStory } = $story_kept;
 const { LiveRun } = $story_live_run;
@@ -9354,7 +9364,7 @@ function html(place) {
   const kicker = `${isEmbed() ? "Guess, then see" : '<a href="#ask">Guess, then see</a>'} · ${which} · ${LIST_WORDS[item.list]}`;
   const out = `<a class="button quiet small" target="_blank" href="${location.pathname}#ask=${item.name}">open in a page ↗</a>`;
   const all = '<a class="button quiet" href="#ask">All questions</a>';
-  return `<section class="screen">${head(kicker, `<span id="what-if-mark" class="what-if" hidden>What if?</span>${item.question}`)}
+  return `<section class="screen">${head(kicker, `<span id="what-if-mark" class="what-if" hidden>What if?</span><span id="question">${item.question}</span>`)}
     <div id="branches" class="branches" hidden></div>${FIGURE_AND_TALK}</section>
     <footer class="foot">${isEmbed() ? "" : all}<span class="spread"></span>${isEmbed() ? out : ""}
     <button id="show-me" class="primary" data-do="show">${isNarrow() ? "Show me" : "I do not know: show me"}</button>
@@ -9364,7 +9374,7 @@ function html(place) {
 function begin(place) {
   const { lines, rest } = itemOf(place);
   const whole = { name: "The example", lines: [...lines, ...rest] };
-  takeBranch({ lines, opening: undefined }).set({ hidesDock: true, isOpen: false });
+  takeBranch({ lines, opening: undefined }).set({ hidesDock: true, isOpen: false, isGuess: true });
   setScene({ stage: "guess", branches: [whole], at: 0 });
 }
 
@@ -9377,7 +9387,7 @@ async function guessed(index) {
   setScene({ stage: "playing", chosen: index });
   const asked = figure.run.count;
   figure.run = new LiveRun({ ...figure.spec, lines: now.scene.branches[0].lines });
-  figure.isOpen = true;
+  Object.assign(figure, { isOpen: true, isGuess: false });
   await figure.show(asked);
   if (scene.figure !== figure) return;
   setScene({ branches: [{ ...now.scene.branches[0], from: asked }] });
@@ -9394,7 +9404,7 @@ function talkOf({ stage, chosen, at, branches }) {
     return `<p class="ask">This was the question. Go to any moment with the slider, and let the other thread go on.</p>
       <p class="line"><button data-do="home">← Back to the example</button></p>`;
   }
-  const without = item.lacks === undefined ? "" : '<button data-do="without">And without this check?</button>';
+  const without = item.lacks === undefined ? "" : `<button data-do="without">And if ${CHECK_WORDS[item.lacks]}?</button>`;
   return `<div class="reveal${item.options[chosen]?.right ? "" : " other"}"><div>${reply}<p class="why">${item.why}</p><p class="line more"><button data-do="if">What if …?</button> ${without}
     <button data-do="again" class="quiet">See it again</button></p></div></div>`;
 }
@@ -9513,7 +9523,7 @@ const NOBODY_KNOWS = "Nobody knows a run that breaks this list. Try it, and say 
 function taskHtml({ hints, note }) {
   const items = BREAK_LEVELS[nameNow()].hints.slice(0, hints).map((text) => `<li>${text}</li>`);
   const list = items.length === 0 ? "" : `<ol class="hints">${items.join("")}</ol>`;
-  const ask = nameNow() === NO_TASK ? NOBODY_KNOWS : "Let A and B step, until no order of their calls explains what they answer.";
+  const ask = nameNow() === NO_TASK ? NOBODY_KNOWS : "Let A and B step until the list lacks a number that was promised, or two answers contradict each other.";
   return `<p class="ask">${ask}</p>${note === "" ? "" : `<p class="again">${note}</p>`}${list}`;
 }
 
@@ -9525,9 +9535,9 @@ function wonHtml({ note, wrong }) {
   const isDone = isNamed(name);
   const { lacks, shortest } = BREAK_LEVELS[name];
   const reply = wrong.length === 0 ? "" : whyWrong(name, wrong.at(-1));
-  const asked = `<p class="ask">Which check is missing?</p>${optionButtons(optionsOf(name), wrong)}<p role="status">${reply}</p>`;
+  const asked = `<p class="ask">What does this list do wrong?</p>${optionButtons(optionsOf(name), wrong)}<p role="status">${reply}</p>`;
   const { total } = run.trace;
-  const own = `${total} steps; ${total < shortest[0] ? "the shortest known before had" : "the shortest known has"} ${shortest[0]}.`;
+  const own = `${total} steps, of which one press makes several; ${total < shortest[0] ? "the shortest known before had" : "the shortest known has"} ${shortest[0]}.`;
   const named = `<p><b class="yes">✓ ${lacks}</b> It is struck out in the code. <span class="small">Yours has ${own}</span></p>
     <p class="line"><button data-do="replay">See your run again</button> <button data-do="afresh" class="quiet">Break it in another way</button></p>`;
   const ledger = isOddRun(run) ? drawLedger(run) : "";
@@ -9760,9 +9770,9 @@ function taskHtml({ hints }) {
 function solvedHtml() {
   const { lesson } = learning.panel;
   const teaches = lesson.teaches === "" ? "" : escaped(inLetters(lesson.teaches));
-  return `<div class="reveal"><div><p class="why"><b>Solved.</b> ${teaches}</p>
-    <p class="line"><button data-do="replay">See your run again</button>
-    <button data-do="afresh" class="quiet">Solve it in another way</button></p></div></div>`;
+  return `<div class="reveal"><div><p class="why"><b>Solved.</b> ${teaches}</p></div>
+    <p class="line"><button data-do="replay" class="small">See your run again</button>
+    <button data-do="afresh" class="quiet small">Solve it in another way</button></p></div>`;
 }
 
 function draw(state) {
@@ -9812,8 +9822,8 @@ const b = (text) => `<b>${text}</b>`;
 const SCREENS = [
   {
     id: "alone", nav: "One thread", question: "How does a thread put 5 into a sorted list?",
-    prose: "A set of numbers is kept as a chain of nodes, in order. To add 5, a thread walks along it with two fingers: <b>curr</b> is on the node that it looks at, <b>pred</b> on the one before. Where the next number is too big, it makes a node and hangs it in between.",
-    figure: { list: "coarse", lacks: "lock", plain: true, opening: [3, 7], calls: { 0: [["add", 5]] }, shown: [0], codeTitle: "The algorithm", tale: "Head and tail stand at the ends: smaller and bigger than every number.", roomFor: 694, tall: true, high: 0.26 },
+    prose: "A set of numbers is kept as a chain of nodes, in order. To add 5, thread A walks along it with two fingers: <b>curr</b> is on the node that it looks at, <b>pred</b> on the one before. In front of the first bigger number it hangs in a node of its own.",
+    figure: { list: "coarse", lacks: "lock", plain: true, opening: [3, 7], calls: { 0: [["add", 5]] }, shown: [0], codeTitle: "The algorithm", tale: "Head and tail stand at the ends: smaller and bigger than every number.", roomFor: 694, high: 0.32 },
     task: "Press the blue button until A has its answer.", help: [[0]],
     goal: (fig) => (fig.run.trace.calls[0]?.reply ? { done: "" } : null),
     reveal: () => `${b("5 is in, and A was told true.")} Walk, make a node, change one arrow: that is all of it. For one thread it is right. Now let a second one in.`,
@@ -9821,7 +9831,7 @@ const SCREENS = [
   {
     id: "lost", nav: "Lost", question: "Two threads take the same steps. Can a number get lost?",
     prose: "A adds 5, B adds 6. A computer may stop a thread between any two of its steps, and let another one run. Here, you decide.",
-    figure: { list: "coarse", lacks: "lock", plain: true, opening: [3, 7], calls: { 0: [["add", 5]], 1: [["add", 6]] }, codeTitle: "The same algorithm", tale: "Nobody has begun yet.", roomFor: 836, tall: true },
+    figure: { list: "coarse", lacks: "lock", plain: true, opening: [3, 7], calls: { 0: [["add", 5]], 1: [["add", 6]] }, codeTitle: "The same algorithm", tale: "Nobody has begun yet.", roomFor: 836 },
     task: "Press A and B in an order that loses a number.", help: [[0], [1], [1], [1], [0], [0]],
     goal: (fig) => {
       if (fig.run.trace.calls.filter(({ reply }) => reply !== null).length < 2) return null;
@@ -9837,36 +9847,37 @@ const SCREENS = [
   },
   {
     id: "one-lock", nav: "One lock", question: "One lock for the whole list: what does it cost?",
-    prose: "The cure is simple. A thread takes the lock before its first step, and gives it back after its last. A thread that finds it taken has to wait. Now no number can get lost.",
-    figure: { list: "coarse", opening: [3, 7, 9], calls: { 0: [["add", 5]], 1: [["contains", 9]] }, lines: ["begin 0 add 5", "go 0 5"], codeTitle: "One lock", fresh: [1, 10], roomFor: 836, tall: true, tale: "" },
-    ask: "A has the lock, and the computer stops A for a while. B only wants to know whether 9 is in the list. How far does B get?",
+    prose: "The cure is simple. A thread takes the lock before its first step, and gives it back after its last. No number can get lost now.",
+    figure: { list: "coarse", opening: [3, 7, 9], calls: { 0: [["add", 5]], 1: [["contains", 9]] }, lines: ["begin 0 add 5", "go 0 5"], codeTitle: "One lock", fresh: [1, 10], roomFor: 836, tale: "" },
+    ask: "A has the lock, and the computer stops A for a while. B only asks contains(9): is 9 in the list? How far does B get?",
     options: [
       { text: "To its answer", say: "True, B changes nothing. But a thread that reads in the middle of a change may see half of it. So in this list, readers take the lock too." },
       { text: "As far as A", say: "There is no “as far as”: the lock is not on a node, it is on the whole list." },
       { text: "Not one step", right: true, say: "" },
     ],
-    play: [[1], [1]], after: "Go on as you like: let A finish, then B.",
-    reveal: () => `${b("Not one step.")} One lock is always right. But while one thread works, all others wait: even those that only read, even at the other end of the list.`,
+    play: [[1], [1]],
+    reveal: () => `${b("Not one step.")} Who finds the lock taken waits. One lock is always right. But while one thread works, all others wait: even those that only read, even at the other end of the list.`,
   },
   {
     id: "hand-over-hand", nav: "Hand over hand", question: "Can each node have a lock of its own?",
-    prose: "Now a thread locks only where it stands: pred and curr. Like hands on a rope, it lets go of one node only when it holds the next. Others may be elsewhere in the list.",
-    figure: { list: "fine", opening: [3, 7, 9], calls: { 0: [["add", 8]], 1: [["contains", 9]] }, lines: ["begin 0 add 8", "go 0 8"], codeTitle: "Hand over hand", fresh: [1, 3, 5], roomFor: 836, tall: true },
-    ask: "The same question. A has locked 3 and 7, and is stopped there. B wants to know whether 9 is in the list. How far does B get?",
+    prose: "Now each node has a lock, and a thread locks only where it stands: pred and curr. Like hands on a rope, it lets go of one node only when it holds the next.",
+    figure: { list: "fine", opening: [3, 7, 9], calls: { 0: [["add", 8]], 1: [["contains", 9]] }, lines: ["begin 0 add 8", "go 0 8"], codeTitle: "Hand over hand", fresh: [1, 3, 5], roomFor: 836 },
+    ask: "A adds 8. It has locked 3 and 7, and is stopped there. B asks contains(9). How far does B get?",
     options: [
       { text: "To its answer", say: "B has to lock each node on its way, and A holds two of them. On a rope, nobody overtakes." },
       { text: "As far as A", right: true, say: "" },
       { text: "Not one step", say: "The head is free: A let go of it when it held the next two. So B can get in." },
     ],
-    play: [[1], [1], [0], [1]], after: "Go on as you like: B follows A, hand over hand.",
-    reveal: () => `${b("Up to A, and no further.")} When A moved on, B followed: both work in the list at the same time. But nobody overtakes: one slow thread near the front holds up everyone behind it. And each step of a walk takes one lock and gives one back.`,
+    play: [[1], [1]], after: "Go on as you like: let A move on, and B follows.",
+    reveal: () => `${b("Up to A, and no further.")} Nobody overtakes: one slow thread near the front holds up all behind it. And why two hands? With one, B could take 7 out while A steps from 7 to 9, and A would hang its node on one that is gone. <button class="small" data-do="why">Show me</button>`,
+    without: { list: "fine", lacks: "hand-over-hand", opening: [7, 9], lines: ["begin 0 add 8", "go 0 7", "begin 1 remove 7", "go 1 8", "go 0 7"], codeTitle: "With one hand", codeNote: "Here it lets go of one node before it holds the next.", struck: [{ row: 3, part: "pred still locked" }] },
   },
   {
     id: "no-look", nav: "Free walk", question: "Most steps only look. Can a walk do without locks?",
-    prose: "So let threads walk freely, and lock only at the end: pred and curr. Then check that pred still points to curr, and only then write. Nothing holds up a walk any more. Is it still right?",
-    figure: { list: "optimistic", lacks: "second-walk", opening: [3, 7], calls: { 0: [["add", 5]], 1: [["remove", 3]] }, codeTitle: "Walk, then lock", tale: "Nobody has begun yet.", hides: [6, 7], instead: { 8: "valid: pred.next is curr" }, words: { again: "see if pred points to curr" }, roomFor: 694, tall: true },
+    prose: "So let threads walk freely, and lock only at the end: pred and curr. Then check that pred still points to curr, and only then write. (To remove 3 is to let the node before it point past 3.) Is it still right?",
+    figure: { list: "optimistic", lacks: "second-walk", opening: [3, 7], calls: { 0: [["add", 5]], 1: [["remove", 3]] }, codeTitle: "Walk, then lock", tale: "Nobody has begun yet.", hides: [6, 7], instead: { 8: "valid: pred.next == curr" }, joined: [8, 11], words: { locks: "lock both, and check", make: "hang 5 in" }, roomFor: 694 },
     task: "A adds 5, B removes 3. Find an order in which 5 gets lost, although both lock what they change.",
-    help: [[0], [1], [1], [1], [1], [1], [1], [0], [0], [0], [0], [0]],
+    help: [[0], [1], [1], [1], [1], [0], [0], [0]],
     goal: (fig) => {
       if (fig.run.trace.calls.filter(({ reply }) => reply !== null).length < 2) return null;
       if (fig.run.isBroken()) return { done: "" };
@@ -9878,11 +9889,11 @@ const SCREENS = [
   {
     id: "look-again", nav: "Look again", question: "What must A look at, once it has its locks?",
     prose: "The same moment again. B has taken 3 out; A has locked 3, its pred, and 7, its curr. Before A writes, it should notice.",
-    figure: { list: "optimistic", opening: [3, 7], calls: { 0: [["add", 5]] }, lines: ["begin 0 add 5", "go 0 4", "begin 1 remove 3", "go 1 out", "go 0 2"], shown: [0], codeTitle: "Walk, lock, look again", fresh: [6, 7], hidden: { hides: [6, 7] }, roomFor: 694, tall: true },
+    figure: { list: "optimistic", opening: [3, 7], calls: { 0: [["add", 5]] }, lines: ["begin 0 add 5", "go 0 4", "begin 1 remove 3", "go 1 out", "go 0 2"], shown: [0], codeTitle: "Walk, lock, look again", fresh: [6, 7], hidden: { hides: [6, 7] }, roomFor: 694 },
     ask: "Which check tells A that its pred is out of the list?",
     options: [
       { text: "Does pred still hold 3?", say: "It does: a node that is taken out keeps its number. A would go on, and 5 be lost." },
-      { text: "Does pred still point to curr?", say: "It does, and A has looked at that before, in vain: B changed the arrow <i>before</i> 3, not that of 3. A needs this check too, but it is not enough." },
+      { text: "Does pred still point to curr?", say: "It does: B changed the head’s arrow, not that of 3. So this check is not enough." },
       { text: "Does a new walk from the head meet pred?", right: true, say: "" },
     ],
     play: [[0]], after: "Let A go on: it lets go, starts again, and 5 is in.",
@@ -9891,32 +9902,32 @@ const SCREENS = [
   {
     id: "mark", nav: "A mark", question: "Could a node itself say that it is gone?",
     prose: "Walking twice, only to learn whether one node is still in? Give each node a <b>mark</b> instead. To remove 5, a thread first marks it, and then takes it out of the chain.",
-    figure: { list: "lazy", opening: [3, 5, 8], calls: { 0: [["contains", 5]] }, lines: ["begin 1 remove 5", "go 1 to 12"], shown: [0, 1], codeTitle: "Mark, then take out", fresh: [6, 7, 11, 22], hidden: { operations: ["contains"] }, roomFor: 694 },
-    ask: "B has marked 5, and is stopped before it takes the node out. A asks contains(5), and walks onto that node. What may A answer?",
+    figure: { list: "lazy", opening: [3, 5, 8], calls: { 0: [["contains", 5]] }, lines: ["begin 1 remove 5", "go 1 to 12"], told: "B has just marked 5.", shown: [0, 1], codeTitle: "Mark, then take out", fresh: [6, 7, 11, 22], hidden: { operations: ["contains"] }, roomFor: 694 },
+    ask: "B has marked 5, and is stopped before it takes the node out. A asks contains(5), and walks onto that node. What does A answer?",
     options: [
-      { text: "true", say: "True, the node is in the chain. But in this list the mark counts, not the chain." },
+      { text: "true", say: "The node is still in the chain, yes. But in this list the mark decides." },
       { text: "false", right: true, say: "" },
       { text: "It has to wait for B", say: "B holds two locks. But A takes none, so it has nothing to wait for." },
     ],
-    play: [[0, "out"]], after: "Let B finish, if you like: taking the node out does not change the set.",
-    reveal: () => `${b("false.")} With the mark, 5 has left the set; taking the node out is only tidying up. A looks at the mark alone, takes no lock, and waits for nobody. This list is called <i>lazy</i>.`,
+    play: [[0, "out"]],
+    reveal: () => `${b("false.")} With the mark, 5 has left the set; taking the node out is only tidying up. A looks only at the node’s key and mark, takes no lock, and waits for nobody. Who adds or removes looks at the marks of pred and curr, and need not walk twice. This list is called <i>lazy</i>.`,
   },
   {
     id: "when", nav: "When?", question: "At which moment has an answer to be right?",
     prose: "A asks contains(5), comes to the node of 5, and is stopped. B removes 5, and adds it again in a new node. Then A looks at the mark of its old node. Below the list, each call is a bar in time.",
-    figure: { list: "lazy", opening: [5], calls: { 0: [["contains", 5]] }, lines: ["begin 0 contains 5", "go 0 2", "begin 1 remove 5", "go 1 out", "begin 1 add 5", "go 1 out"], strip: true, code: false, dock: false, high: .27, hidesPoints: true, roomFor: 552 },
-    ask: "At each of A’s own steps 5 was in the set. A is going to answer false. Is that a bug?",
+    figure: { list: "lazy", opening: [5], calls: { 0: [["contains", 5]] }, lines: ["begin 0 contains 5", "go 0 2", "begin 1 remove 5", "go 1 out", "begin 1 add 5", "go 1 out"], strip: true, code: false, dock: false, high: .3, hidesPoints: true, roomFor: 552 },
+    ask: "Whenever A took a step, 5 was in the set. Now A is going to answer false. Is that a bug?",
     options: [
       { text: "Yes, it is a bug", say: "It looks like one. But look at the whole time of A’s call, also where A stood still." },
       { text: "No, false is right", right: true, say: "" },
     ],
     play: [[0]],
     then: { task: "When was false right? Press that time in the row “set”.", wrong: "At that moment 5 was in the set, and false would be wrong. Look for another one." },
-    reveal: () => `${b("There: between B’s remove and B’s add, 5 was not in the set.")} A’s call was under way, so it may count as made at that moment, in a step of <i>B</i>. An answer need not be true when it is given. It has to be true at one moment while its call runs. This is called <b>linearizable</b>, and all five lists keep to it.`,
+    reveal: () => `${b("There: between B’s remove and B’s add, 5 was not in the set.")} A’s call was under way, so it may count as made there, at the step in which <i>B</i> marks 5. An answer need not be right when it is given. It has to be right at one moment while its call runs. This is called <b>linearizable</b>, and all five lists are.`,
   },
   {
     id: "no-lock", nav: "No lock at all", question: "And with no lock at all?",
-    prose: "A processor can do this in one step: <b>change the arrow, but only if it is still what I saw.</b> It is called compare-and-set, CAS. If someone was faster, it changes nothing, and the thread looks again. A node’s mark is kept in its arrow now, so that one CAS sees both.",
+    prose: "A processor can do this in one step: <b>change the arrow, but only if it is still what I saw.</b> It is called compare-and-set, CAS. If someone was faster, it changes nothing, and the thread looks again. The mark is kept in the arrow now, so one CAS sees both.",
     figure: { list: "lock-free", opening: [3, 5, 8], calls: { 0: [["remove", 5]], 1: [["remove", 5]] }, lines: ["begin 0 remove 5", "go 0 to 9", "begin 1 remove 5", "go 1 to 9"], codeTitle: "Lock-free", fresh: [7, 9, 10, 3], roomFor: 694 },
     ask: "A and B both want to remove 5. Both have found it, without a mark. How many of them are told true?",
     options: [
@@ -9948,8 +9959,8 @@ const $story_path_parts = (() => {
 const { tag } = $run_markup;
 const { LISTS_AT_END, SCREENS } = $story_path;
 const HERO = `<div class="hero"><p class="kicker">Concurrent lists, from nothing</p><p class="title">Why not just one lock?</p>
-  <p class="lead">Two threads share one list. In twenty minutes you break it, mend it, and meet the five list sets of Herlihy and Shavit.
-  You press, and the threads step. You need no book.</p></div>`;
+  <p class="lead">Two threads share one list. You press, and they step. <span class="roomy">In twenty minutes you break it, mend it, and meet
+  the five list sets of Herlihy and Shavit.</span> You need no book.</p></div>`;
 
 function dots(number, done) {
   const names = [...SCREENS.map(({ nav }) => nav), "And now?"];
@@ -10047,7 +10058,7 @@ function begin(place) {
   figure.box.classList.toggle("hides-points", screen.figure.hidesPoints === true);
   const isGuess = screen.ask !== undefined;
   setScene({ stage: isGuess ? "guess" : "task" });
-  if (isGuess) figure.set({ hidesDock: true, isOpen: false, isGuess: true });
+  if (isGuess) figure.set({ hidesDock: true, isOpen: false, isGuess: true, told: screen.figure.told ?? null });
 }
 
 const asked = (text, note = "") => `<p class="ask">${text}</p>${note === "" ? "" : `<p class="again">${note}</p>`}`;
@@ -10071,7 +10082,7 @@ function draw(state) {
   drawBar(state.stage, numberOf(now.place));
 }
 
-const SHOW = { guess: "I do not know: show me", again: "Start over", moment: "Show me", task: "Show me the next step", playing: "Show me" };
+const SHOW = { guess: "I do not know: show me", again: "Start over", moment: "Show me", task: "Show a step", playing: "Show me" };
 
 function drawBar(stage, number) {
   const [show, on] = [part("#show-me"), part("#go-on")];
@@ -10079,15 +10090,16 @@ function drawBar(stage, number) {
   if (isDone && document.activeElement === show) on.focus({ preventScroll: true });
   show.hidden = isDone;
   show.className = "primary";
-  show.textContent = isNarrow() && stage !== "again" ? "Show me" : SHOW[stage];
+  show.textContent = isNarrow() && stage === "guess" ? "Show me" : SHOW[stage];
   drawOn(isDone, number === SCREENS.length ? "And now? →" : "Continue →");
 }
 
 function looked() {
   const screen = here();
   const { stage } = now.scene;
-  if (stage === "done" || stage === "playing") return;
+  if (stage === "playing") return;
   const met = stage === "again" ? null : screen.goal?.(scene.figure) ?? null;
+  if (stage === "done" && (met !== null || screen.goal === undefined)) return focusOn();
   if (met?.again !== undefined) setScene({ stage: "again", note: met.again });
   else if (met !== null) done();
   else setScene({ stage: "task", note: "" }); // a press was taken back
@@ -10140,8 +10152,18 @@ function done() {
   if (here().ledger) figure.set({ isLost: true });
   keepStory({ done: { ...keptStory().done, [here().id]: true } });
   setScene({ stage: "done" });
-  const on = part("#go-on");
-  if (document.activeElement === document.body) on.focus({ preventScroll: true });
+  focusOn();
+}
+
+function focusOn() {
+  if (document.activeElement.closest("button, a, input, [tabindex='0']") === null) part("#go-on").focus({ preventScroll: true });
+}
+
+async function showWhy() {
+  const { figure, without } = here();
+  const own = takeFigure(new Figure(part("#figure"), { ...figure, ...without, calls: {}, dock: false, isPath: true }));
+  await own.replay();
+  if (scene.figure === own) own.set({ isLost: true });
 }
 
 const isOver = (thread) => scene.figure.run.isIdle(thread) && scene.figure.left(thread).length === 0;
@@ -10188,6 +10210,7 @@ const pathView = {
   deeds: {
     answer: ({ dataset }) => guessed(Number(dataset.option)),
     show: showMe,
+    why: showWhy,
     on: () => goTo(numberOf(now.place) + 1),
     back: () => goTo(numberOf(now.place) - 1),
     afresh: startAfresh,

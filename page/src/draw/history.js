@@ -1,7 +1,7 @@
 // Draws the history: a bar for each call, the moment at which it takes effect, the contents of the set below, and the order.
 import { callText, colourOf, label, letterOf, tag, title } from "../run/markup.js";
 
-export const HISTORY_LEFT = 50;
+export const HISTORY_LEFT = 54;
 const HISTORY_RIGHT = 16;
 const LEAST_STEP = 7; // pixels of one event
 const BAR = 20; // pixels: the height of a bar
@@ -22,7 +22,8 @@ const shownIn = ({ calls }, first, last) => calls.filter(({ begun, ended }) => b
 function formOf(threads) {
   if (threads > 12) return { bar: 9, below: 1, mostRows: 1 };
   if (threads > 6) return { bar: 13, below: 4, mostRows: 1 };
-  return { bar: BAR, below: BELOW, mostRows: threads > 3 ? 2 : 3 };
+  if (threads > 2) return { bar: 15, below: 3, mostRows: 2 };
+  return { bar: BAR, below: BELOW, mostRows: 3 };
 }
 
 export function layLabels(threads, calls, itemOf, room) {

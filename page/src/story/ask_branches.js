@@ -8,9 +8,9 @@ import { Figure } from "./figure.js";
 import { LiveRun } from "./live_run.js";
 import { drawLedger, isOddRun, LIST_WORDS, part, scene, setScene, takeFigure } from "./scene.js";
 
-const CHECK_WORDS = {
+export const CHECK_WORDS = {
   lock: "the lock is ignored",
-  "hand-over-hand": "it lets go of one lock before it has the next",
+  "hand-over-hand": "it lets go of one node before it holds the next",
   "second-walk": "it does not walk again",
   "marks-in-validation": "it does not look at the marks",
   "mark-in-remove": "it marks a node that is marked already",
@@ -23,11 +23,12 @@ export const isEmbed = () => now.place.view === "embed";
 
 export function takeBranch({ lines, opening, lacks = null, isFree = false }) {
   const item = itemOf(now.place);
+  const { high = isEmbed() ? 0.34 : 0.23, least = isEmbed() ? 110 : 180 } = scene.figure?.spec ?? {}; // (a branch is as large as the example)
   const calls = isFree ? {} : item.calls;
-  return takeFigure(new Figure(freshBox(), {
+  return takeFigure(new Figure(freshBox(item), {
     list: item.list, lacks, lines, calls, threads: item.threads ?? 2, quota: item.quota ?? 4, opening: opening ?? item.opening,
-    operations: operationsIn(item),
-    strip: true, scrub: true, again: false, free: isFree, short: true, roomFor: 552, high: isEmbed() ? 0.34 : 0.23, least: isEmbed() ? 110 : 180,
+    operations: operationsIn(item), hidden: { hides: item.hides },
+    strip: true, scrub: true, again: false, free: isFree, short: true, roomFor: 552, high, least,
     code: !isEmbed(), codeTitle: LIST_WORDS[item.list], codeNote: lacks === null ? "" : `Here ${CHECK_WORDS[lacks]}.`,
     struck: BREAK_LEVELS[lacks]?.missing,
   }));
@@ -35,8 +36,8 @@ export function takeBranch({ lines, opening, lacks = null, isFree = false }) {
 
 const operationsIn = ({ lines, rest }) => [...lines, ...rest].filter((line) => line.startsWith("begin")).map((line) => line.split(" ")[2]);
 
-function freshBox() {
-  const box = Object.assign(document.createElement("div"), { id: "figure" });
+function freshBox({ isTimed = false }) {
+  const box = Object.assign(document.createElement("div"), { id: "figure", className: isTimed ? "timed" : "" });
   part("#figure").replaceWith(box);
   return box;
 }
@@ -138,7 +139,10 @@ export function talkOfBranch(branch) {
 export function drawBranches({ branches, at }) {
   const box = part("#branches");
   box.hidden = branches.length === 1;
-  part("#what-if-mark").hidden = at === 0 || branches[at].isFixed === true;
+  const { isFixed = false } = branches[at];
+  const { question, without } = itemOf(now.place);
+  part("#what-if-mark").hidden = at === 0 || isFixed;
+  part("#question").textContent = (isFixed && without?.question) || question;
   const button = ({ name }, index) =>
     tag("button", { class: "small", "data-do": "branch", "data-branch": index, "aria-pressed": index === at }, index === 0 ? "" : "↳ ", name);
   box.innerHTML = branches.map(button).join("");

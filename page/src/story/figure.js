@@ -41,7 +41,8 @@ export class Figure {
     this.run = spec.run ?? new LiveRun(spec);
     this.shown = spec.shown ?? this.run.state.threads.map((_, thread) => thread);
     this.chosen = spec.chosen ?? {}; // of an idle thread, the call that stands in its fields
-    this.most = { width: 0, height: spec.tall && !isNarrow() ? 262 : 0 }; // room for a node that is sure to come
+    const isRoomy = (spec.isPath || spec.free) && spec.again !== false && !isNarrow();
+    this.most = { width: 0, height: isRoomy ? 270 + 18 * this.shown.length : 0 }; // room for a node that may come
     frameOf(this);
     box.addEventListener("click", (event) => pressed(this, event));
     box.addEventListener("input", ({ target }) => target.closest(".choose") !== null && chooseCall(this, target.closest("[data-thread]")));

@@ -14,9 +14,10 @@ const MOST_HEIGHT = 0.4; // of the window, for the list
 const NARROW = "(max-width: 760px)";
 export const isNarrow = () => matchMedia(NARROW).matches;
 
-const codeBox = ({ codeTitle, codeNote = "" }) => `<details class="codebox" ${isNarrow() ? "" : "open"}><summary><b>${codeTitle}</b></summary>
+const CAS = "CAS x: a → b makes x point to b, if it still points to a. succ is the node after curr.";
+const codeBox = ({ list, codeTitle, codeNote = "" }) => `<details class="codebox" ${isNarrow() ? "" : "open"}><summary><b>${codeTitle}</b></summary>
     <p class="small code-note" ${codeNote === "" ? "hidden" : ""}>${codeNote}</p><span class="runs"></span><div class="lines"></div>
-    <p class="small hint">A letter stands at its thread’s next line. Press the line to step, another one to run there.</p></details>`;
+    <p class="small hint">${list === "lock-free" ? CAS : "A letter stands at its thread’s next line. Press the line to step, another one to run there."}</p></details>`;
 
 export function frameOf({ box, spec }) {
   box.innerHTML = `<div class="stage"><div class="list" tabindex="0" role="group" aria-label="the list"></div>
@@ -144,7 +145,7 @@ function showCode(figure, { state, event, before }) {
   const hides = (figure.isGuess ? spec.hidden?.hides : undefined) ?? spec.hides; // some is not told before the guess
   setHtml(box, drawOwnCode({ list, plain, fresh, struck, hides, instead, operations: operationsOf(figure), next, made, canStep, active }));
   const toggles = figure.shown.filter(isAble).map((thread) => toggleOf(thread, active));
-  setHtml(figure.part("runs"), canStep && toggles.length > 1 ? toggles.join("") : "");
+  setHtml(figure.part("runs"), canStep && spec.free && toggles.length > 1 ? `who runs: ${toggles.join("")}` : "");
 }
 
 const toggleOf = (thread, active) => `<button class="who ${colourOf(thread)}" data-active="${thread}" aria-pressed="${thread === active}"

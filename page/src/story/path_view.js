@@ -35,7 +35,7 @@ function begin(place) {
   figure.box.classList.toggle("hides-points", screen.figure.hidesPoints === true);
   const isGuess = screen.ask !== undefined;
   setScene({ stage: isGuess ? "guess" : "task" });
-  if (isGuess) figure.set({ hidesDock: true, isOpen: false, isGuess: true });
+  if (isGuess) figure.set({ hidesDock: true, isOpen: false, isGuess: true, told: screen.figure.told ?? null });
 }
 
 const asked = (text, note = "") => `<p class="ask">${text}</p>${note === "" ? "" : `<p class="again">${note}</p>`}`;
@@ -59,7 +59,7 @@ function draw(state) {
   drawBar(state.stage, numberOf(now.place));
 }
 
-const SHOW = { guess: "I do not know: show me", again: "Start over", moment: "Show me", task: "Show me the next step", playing: "Show me" };
+const SHOW = { guess: "I do not know: show me", again: "Start over", moment: "Show me", task: "Show a step", playing: "Show me" };
 
 function drawBar(stage, number) {
   const [show, on] = [part("#show-me"), part("#go-on")];
@@ -67,15 +67,16 @@ function drawBar(stage, number) {
   if (isDone && document.activeElement === show) on.focus({ preventScroll: true });
   show.hidden = isDone;
   show.className = "primary";
-  show.textContent = isNarrow() && stage !== "again" ? "Show me" : SHOW[stage];
+  show.textContent = isNarrow() && stage === "guess" ? "Show me" : SHOW[stage];
   drawOn(isDone, number === SCREENS.length ? "And now? →" : "Continue →");
 }
 
 function looked() {
   const screen = here();
   const { stage } = now.scene;
-  if (stage === "done" || stage === "playing") return;
+  if (stage === "playing") return;
   const met = stage === "again" ? null : screen.goal?.(scene.figure) ?? null;
+  if (stage === "done" && (met !== null || screen.goal === undefined)) return focusOn();
   if (met?.again !== undefined) setScene({ stage: "again", note: met.again });
   else if (met !== null) done();
   else setScene({ stage: "task", note: "" }); // a press was taken back
@@ -128,8 +129,20 @@ function done() {
   if (here().ledger) figure.set({ isLost: true });
   keepStory({ done: { ...keptStory().done, [here().id]: true } });
   setScene({ stage: "done" });
-  const on = part("#go-on");
-  if (document.activeElement === document.body) on.focus({ preventScroll: true });
+  focusOn();
+}
+
+// The next key goes on, where no other button has the focus.
+function focusOn() {
+  if (document.activeElement.closest("button, a, input, [tabindex='0']") === null) part("#go-on").focus({ preventScroll: true });
+}
+
+// A run that shows why, in place of the reader's own.
+async function showWhy() {
+  const { figure, without } = here();
+  const own = takeFigure(new Figure(part("#figure"), { ...figure, ...without, calls: {}, dock: false, isPath: true }));
+  await own.replay();
+  if (scene.figure === own) own.set({ isLost: true });
 }
 
 const isOver = (thread) => scene.figure.run.isIdle(thread) && scene.figure.left(thread).length === 0;
@@ -176,6 +189,7 @@ export const pathView = {
   deeds: {
     answer: ({ dataset }) => guessed(Number(dataset.option)),
     show: showMe,
+    why: showWhy,
     on: () => goTo(numberOf(now.place) + 1),
     back: () => goTo(numberOf(now.place) - 1),
     afresh: startAfresh,

@@ -33,21 +33,18 @@ export async function copyText(text, words) {
 // What is said below the figure. What is new comes in sight, above the bar at the bottom.
 export function talk(html) {
   const box = part("#talk");
-  if (!setHtml(box, html) || scene.isNew || hiddenBelow() <= 0) return;
-  const last = box.lastElementChild;
-  const isTall = last.getBoundingClientRect().height > innerHeight / 2; // as on a phone: what comes first is to be seen
-  last.scrollIntoView({ block: isTall ? "start" : "end" });
+  const last = () => box.lastElementChild;
+  if (!setHtml(box, html) || scene.isNew || last() === null || underBar(last()) <= 0) return;
+  const isTall = last().getBoundingClientRect().height > innerHeight / 2; // as on a phone: what comes first is to be seen
+  last().scrollIntoView({ block: isTall ? "start" : "end" });
 }
 
-function hiddenBelow() {
-  const [last, bar] = [part("#talk")?.lastElementChild, part(".foot")];
-  return last == null || bar === null ? 0 : last.getBoundingClientRect().bottom - bar.getBoundingClientRect().top;
-}
+const underBar = (box) => box.getBoundingClientRect().bottom - (part(".foot")?.getBoundingClientRect().top ?? Infinity);
 
-// The list is drawn smaller where what is asked below it would lie under the bar.
+// The list is drawn smaller where what is said below it would lie under the bar.
 function fitFigure({ spec }) {
   const list = scene.figure.part("list").firstElementChild;
-  const over = hiddenBelow();
+  const over = underBar(part("#talk") ?? list);
   if (over <= 0 || list === null || isNarrow()) return;
   Object.assign(spec, { high: (Number(list.getAttribute("height")) - over - 8) / innerHeight, least: 110 });
   scene.figure.draw();
