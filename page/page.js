@@ -1249,7 +1249,7 @@ return { momentAt, sentenceOf };
 // draw/history.js
 const $draw_history = (() => {
 const { callText, colourOf, label, letterOf, tag, title } = $run_markup;
-const HISTORY_LEFT = 54;
+const HISTORY_LEFT = 50;
 const HISTORY_RIGHT = 16;
 const LEAST_STEP = 7; // pixels of one event
 const BAR = 20; // pixels: the height of a bar
@@ -8355,7 +8355,7 @@ function takeBranch({ lines, opening, lacks = null, isFree = false }) {
   const item = itemOf(now.place);
   const { high = isEmbed() ? 0.34 : 0.23, least = isEmbed() ? 110 : 180 } = scene.figure?.spec ?? {}; // (a branch is as large as the example)
   const calls = isFree ? {} : item.calls;
-  return takeFigure(new Figure(freshBox(item), {
+  return takeFigure(new Figure(freshBox(item.isTimed), {
     list: item.list, lacks, lines, calls, threads: item.threads ?? 2, quota: item.quota ?? 4, opening: opening ?? item.opening,
     operations: operationsIn(item), hidden: { hides: item.hides },
     strip: true, scrub: true, again: false, free: isFree, short: true, roomFor: 552, high, least,
@@ -8366,7 +8366,7 @@ function takeBranch({ lines, opening, lacks = null, isFree = false }) {
 
 const operationsIn = ({ lines, rest }) => [...lines, ...rest].filter((line) => line.startsWith("begin")).map((line) => line.split(" ")[2]);
 
-function freshBox({ isTimed = false }) {
+function freshBox(isTimed) {
   const box = Object.assign(document.createElement("div"), { id: "figure", className: isTimed ? "timed" : "" });
   part("#figure").replaceWith(box);
   return box;

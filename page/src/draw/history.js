@@ -1,7 +1,7 @@
 // Draws the history: a bar for each call, the moment at which it takes effect, the contents of the set below, and the order.
 import { callText, colourOf, label, letterOf, tag, title } from "../run/markup.js";
 
-export const HISTORY_LEFT = 54;
+export const HISTORY_LEFT = 50;
 const HISTORY_RIGHT = 16;
 const LEAST_STEP = 7; // pixels of one event
 const BAR = 20; // pixels: the height of a bar
