@@ -9851,7 +9851,7 @@ const SCREENS = [
     figure: { list: "coarse", opening: [3, 7, 9], calls: { 0: [["add", 5]], 1: [["contains", 9]] }, lines: ["begin 0 add 5", "go 0 5"], codeTitle: "One lock", fresh: [1, 10], roomFor: 836, tale: "" },
     ask: "A has the lock, and the computer stops A for a while. B only asks contains(9): is 9 in the list? How far does B get?",
     options: [
-      { text: "To its answer", say: "True, B changes nothing. But a thread that reads in the middle of a change may see half of it. So in this list, readers take the lock too." },
+      { text: "To its answer", say: "B changes nothing, yes. But a thread that reads in the middle of a change may see half of it. So in this list, readers take the lock too." },
       { text: "As far as A", say: "There is no “as far as”: the lock is not on a node, it is on the whole list." },
       { text: "Not one step", right: true, say: "" },
     ],
