@@ -2,6 +2,29 @@
 "use strict";
 
 const listsets = (() => {
+// data/lecture.js
+const $data_lecture = (() => {
+/** @type {[number, string, string, string][]} */
+const LECTURE = [
+  [4, "Lose a number", "#story=2&view=lecture", "No lock. Let the class call out A or B until a number is lost."],
+  [3, "One lock", "#story=3&view=lecture", "A has the lock and is stopped. How far does B get? Let the class guess."],
+  [5, "FineList: hand over hand", "#story=4&view=lecture", "A has locked 3 and 7. How far does B get now? Then B follows A, node by node."],
+  [5, "A walk without locks", "#story=5&view=lecture", "Both lock what they change, and 5 gets lost all the same. Let the class find the order."],
+  [5, "Why a second walk", "#ask=stale-pred&view=lecture", "May A write? Then the same on a list without this check: 5 is lost."],
+  [5, "LazyList: a mark", "#story=7&view=lecture", "B has marked 5, and its node is still in the chain. What does A answer?"],
+  [4, "In another thread’s step", "#ask=read-in-anothers-step&view=lecture", "A will answer false. When is that right? In a step of B."],
+  [3, "Who waits?", "#sides=coarse.lazy&quota=4&calls=0.add.5,1.contains.5&turns=0.0.0.0.1.1.1&view=lecture",
+    "A is stopped after four turns. LazyList answers B all the same; in CoarseList B tries the lock."],
+  [4, "LockFreeList: compare-and-set", "#story=9&view=lecture", "Two removes of 5, no lock. Who comes first? Let the class decide, by A and B."],
+  [4, "Helping", "#ask=snip&view=lecture", "A has marked 5 and stops. Does B have to wait?"],
+  [3, "Everybody judges", "#seed=lock-free.2.3.1.5&judge&view=lecture",
+    "Three calls in 17 events. All open this slide, by its short link on the board, and say what each call answers."],
+];
+
+const slideAddress = (number) => `#lecture=${number}`;
+return { LECTURE, slideAddress };
+})();
+
 // made/rows.js
 const $made_rows = (() => {
 // The rows of the step tables, from docs/TABLES.md by page/build: for show alone, no state is computed from them.
@@ -791,7 +814,8 @@ function partsOf(hash) {
   for (const [name, value] of new URLSearchParams(hash.replace(/^#/, ""))) {
     if (!Object.hasOwn(ADDRESS_PARTS, name)) throw new AddressFault(`the address has a part "${name}", which is none`);
     if (name in parts) throw new AddressFault(`the address has "${name}" twice`);
-    if (!ADDRESS_PARTS[name].test(value)) throw new AddressFault(`"${value.slice(0, 60)}" is no ${name} of an address`);
+    const bad = ADDRESS_PARTS[name].test(value) ? undefined : (value.split(",").find((one) => !ADDRESS_PARTS[name].test(one)) ?? value);
+    if (bad !== undefined) throw new AddressFault(`"${bad.slice(0, 60)}" is no ${name} of an address`);
     parts[name] = value;
   }
   return parts;
@@ -2966,7 +2990,7 @@ const $page_state = (() => {
  * `count` events; `isRun`: the trace is that of the text. A task is what the run is for: tries are kept under the name `work`, `begun` is
  * the text with which it begins.
  * @typedef {"lecture" | "embed" | "list" | "history" | null} PageView
- * @typedef {{ activity: string, screen: "stage" | "scene", id: string, given: Record<string, string>, view: PageView }} Place
+ * @typedef {{ activity: string, screen: "stage" | "scene", id: string, given: Record<string, string>, view: PageView, slide: number }} Place
  * @typedef {"" | "task" | "again" | "guess" | "playing" | "moment" | "done"} Stage
  * @typedef {{ stage: Stage, chosen: number | null, note: string, text: string, hints: number, at: number, branches: any[], wrong: string[] }} Scene
  * @typedef {{ text: string, trace: any, state: any, count: number, lacks: string | null, source: string, isRun: boolean, faultLine: number | null }} Run
@@ -2983,7 +3007,7 @@ const SCENE_AT_FIRST = { stage: "", chosen: null, note: "", text: "", hints: 0, 
 
 /** @returns {State} */
 const stateAtFirst = () => ({
-  place: { activity: "watch", screen: "stage", id: "", given: {}, view: null },
+  place: { activity: "watch", screen: "stage", id: "", given: {}, view: null, slide: 0 },
   scene: SCENE_AT_FIRST,
   run: { text: "", trace: null, state: null, count: 0, lacks: null, source: "", isRun: false, faultLine: null },
   task: /** @type {Task} */ ({ ...NO_TASK_YET }),
@@ -3006,7 +3030,7 @@ const MAKES = {
   place: (state, { activity, screen, id = "", given = {} }) =>
     ({ ...state, place: { ...state.place, activity, screen, id, given }, scene: SCENE_AT_FIRST }),
   scene: (state, { type, ...given }) => ({ ...state, scene: { ...state.scene, ...given } }),
-  view: (state, { view }) => ({ ...state, place: { ...state.place, view } }),
+  view: (state, { view, slide = 0 }) => ({ ...state, place: { ...state.place, view, slide } }),
   task: (state, { task, lacks = null }) =>
     onStage({ ...state, task: { ...NO_TASK_YET, ...task }, run: { ...state.run, lacks }, exercise: null }),
   run: (state, { type, ...given }) => ({ ...state, run: { ...state.run, ...given } }),
@@ -3032,7 +3056,7 @@ function reduce(state, action) {
 /** What an entry of the browser's history is: a place or a task, and not a step of its run. @param {State} state */
 function entryOf({ place, task, exercise }) {
   const ofRun = place.screen === "stage" ? [task.kind, task.id, exercise !== null] : [place.id, JSON.stringify(place.given)];
-  return [place.activity, place.screen, place.view, ...ofRun].join("\n");
+  return [place.activity, place.screen, place.view, place.slide, ...ofRun].join("\n");
 }
 return { stateAtFirst, exampleIn, reduce, entryOf };
 })();
@@ -3068,6 +3092,8 @@ function announce(what, ...given) {
   for (const deed of listeners[what]) deed(...given);
 }
 
+const isLecture = () => now.place.view === "lecture";
+const isSceneSlide = () => isLecture() && now.place.screen === "scene"; // whose figure takes the height that is left
 const isJudging = () => now.exercise !== null;
 const hiddenOutcomes = () => (isJudging() ? LEVELS[now.exercise.level].hidden : []);
 const exampleShown = () => exampleIn(now);
@@ -3124,7 +3150,7 @@ function tellLine(text) {
   const { line, cause } = readFault(text);
   tellFault(line, cause ?? "", text);
 }
-return { NO_ENGINE, now, held, change, show, dispatch, on, announce, isJudging, hiddenOutcomes, exampleShown, goTo, tell, takeTrace, takeScheduleOfTrace, askNow, tellFault, tellTrouble, tellLine };
+return { NO_ENGINE, now, held, change, show, dispatch, on, announce, isLecture, isSceneSlide, isJudging, hiddenOutcomes, exampleShown, goTo, tell, takeTrace, takeScheduleOfTrace, askNow, tellFault, tellTrouble, tellLine };
 })();
 
 // page/kept.js
@@ -3278,7 +3304,7 @@ function showParts(state) {
 const placed = { key: "" };
 const services = { hasEngine: true }; // until it is known that there is none
 
-const setView = (view) => change("view", { view });
+const setView = (view, slide = 0) => change("view", { view, slide });
 return { factsOf, SEEN, showParts, services, setView };
 })();
 
@@ -3286,7 +3312,7 @@ return { factsOf, SEEN, showParts, services, setView };
 const $page_play = (() => {
 const { CLASSICS } = $made_classics;
 const { byId } = $page_dom;
-const { exampleShown, goTo, now, show } = $page_now;
+const { exampleShown, goTo, isLecture, now, show } = $page_now;
 const { setView } = $page_seen;
 const SPEEDS = { slow: 1600, medium: 700, fast: 200 }; // milliseconds of one event
 const play = { timer: null };
@@ -3339,16 +3365,22 @@ function goToTurn(step) {
   goByHand(count);
 }
 
-const keysOf = { scene: (event) => event }; // what keys do in a scene
+const keysOf = { scene: (event) => event, slide: (by) => by }; // what keys do in a scene, and a presenter's on a slide
+const WAYS = { PageDown: 1, ArrowRight: 1, ArrowDown: 1, " ": 1, PageUp: -1, ArrowLeft: -1, ArrowUp: -1 };
+const isPress = ({ key, target }) => key === " " && target.matches(":is(button, a, summary):focus-visible"); // of what has the focus
 
 function pressKey(event) {
   if (/^(TEXTAREA|INPUT|SELECT)$/.test(event.target.tagName) && event.target.id !== "slider") return;
   if (event.ctrlKey || event.metaKey || event.altKey || event.target.closest("[role=slider]") !== null) return;
   if (event.key === "Escape" && now.place.view !== null) return toggleLecture();
+  if (isLecture() && event.key in WAYS && !isPress(event)) {
+    event.preventDefault();
+    if (document.activeElement.matches("button")) document.activeElement.blur(); // which the key would press too
+    return keysOf.slide(WAYS[event.key]);
+  }
   if (now.place.screen === "scene") return keysOf.scene(event);
   const { total } = now.run.trace;
-  const far = now.place.view === "lecture" ? 1 : 10; // what a lecturer's pointer sends
-  const steps = { ArrowRight: 1, ArrowLeft: -1, PageDown: far, PageUp: -far, Home: -total, End: total };
+  const steps = { ArrowRight: 1, ArrowLeft: -1, PageDown: 10, PageUp: -10, Home: -total, End: total };
   if (event.key in steps) {
     event.preventDefault();
     if (event.shiftKey && event.key.startsWith("Arrow")) goToTurn(steps[event.key]);
@@ -3365,6 +3397,7 @@ function toggleKeys() {
 }
 
 function toggleLecture() {
+  if (now.place.slide > 0) return void (location.hash = "#teachers");
   const isLeft = document.activeElement === byId("leave");
   setView(now.place.view === null ? "lecture" : null);
   show();
@@ -3634,6 +3667,7 @@ return { EXPLAINED, TO_BREAK, NO_TASK, isTaskDone, askList, startOfLacking, verd
 const $page_visit = (() => {
 const { CLASSICS } = $made_classics;
 const { LISTS } = $made_rows;
+const { slideAddress } = $data_lecture;
 const { levelOfNumber } = $data_levels;
 const { AddressFault, addressOf, LONGEST_ADDRESS, longLine, partsOfSeed, shortLine, warningOf } = $run_address;
 const { startOfLacking } = $run_broken;
@@ -3736,6 +3770,7 @@ const ADDRESSES = {
 
 function addressIn(state, given) {
   const { place, task, run, exercise } = state;
+  if (place.slide > 0) return slideAddress(place.slide);
   const view = place.view === null ? "" : `&view=${place.view}`;
   if (place.screen === "scene") return (ADDRESSES[place.activity] ?? plainAddress)(place, state.scene, given) + view;
   const address = task.kind === "own" ? addressOf(run.text, run.count, run.lacks) : `#${task.kind}=${task.id}&event=${run.count}`;
@@ -5254,9 +5289,15 @@ const { COURSE_TITLE } = $course_course_text;
 const { judged, missingIn, MOST_EVENTS } = $course_lesson;
 const HAND_IN_TITLE = "listset-lessons 2";
 
-function handInText(course, student, solutions, otherLines) {
+function handInText(course, student, solutions, otherLines, assignment = null) {
   const lines = solutions.map(({ name, schedule }) => `${name} ${addressOf(schedule, eventsAsked(schedule))}`);
-  return [HAND_IN_TITLE, `course ${course}`, `student ${student}`, ...lines, ...otherLines, "end", ""].join("\n");
+  const title = assignment === null ? [] : [`assignment ${assignment}`];
+  return [HAND_IN_TITLE, `course ${course}`, ...title, `student ${student}`, ...lines, ...otherLines, "end", ""].join("\n");
+}
+
+function textOfBytes(bytes) {
+  const coding = { 0xfeff: "utf-16be", 0xfffe: "utf-16le" }[(bytes[0] << 8) | bytes[1]] ?? "utf-8";
+  return new TextDecoder(coding).decode(bytes);
 }
 
 function unmailed(text) {
@@ -5293,9 +5334,9 @@ function textsIn(text) {
   return found;
 }
 
-const isBegin = (line) => /^(student|course|judge|break) /.test(line) || /^[a-z][a-z0-9-]* +(\S*#|<?https?:)/.test(line);
+const isBegin = (line) => /^(student|course|assignment|judge|break) /.test(line) || /^[a-z][a-z0-9-]* +(\S*#|<?https?:)/.test(line);
 const lacksWords = (line) =>
-  /^judge /.test(line) ? line.split(" ").length < 4 : !/^(student|course) /.test(line) && !line.includes("#");
+  /^judge /.test(line) ? line.split(" ").length < 4 : !/^(student|course|assignment) /.test(line) && !line.includes("#");
 const isPiece = (line) => !line.includes(" ") || /^\S*[.,=&]\S* /.test(line);
 
 function readHandIn({ lines, isEnded, number }) {
@@ -5311,8 +5352,8 @@ function readHandIn({ lines, isEnded, number }) {
   }
   const valueOf = (word) => parts.find(({ line }) => line.startsWith(`${word} `))?.line.slice(word.length + 1) ?? null;
   if (!isEnded) faults.push({ line: number, fault: 'the text is cut: the line "end" is missing' });
-  const solutions = parts.filter(({ line }) => !/^(student|course) /.test(line));
-  return { course: valueOf("course"), student: valueOf("student"), solutions, faults };
+  const solutions = parts.filter(({ line }) => !/^(student|course|assignment) /.test(line));
+  return { course: valueOf("course"), assignment: valueOf("assignment"), student: valueOf("student"), solutions, faults };
 }
 
 function readSchedule(link) {
@@ -5382,7 +5423,7 @@ function scheduleOfExample(ask, name) {
   const { status, text } = ask("listset_example", name);
   return status === 0 ? { schedule: text } : { fault: `there is no example ${JSON.stringify(name.slice(0, 60))}` };
 }
-return { handInText, textsIn, readHandIn, judgedPart };
+return { handInText, textOfBytes, textsIn, readHandIn, judgedPart };
 })();
 
 // run/check_trace.js
@@ -5544,6 +5585,7 @@ return { RECORDED_EXAMPLE, withNewline, recordedInWords, reasonsOf, verdictOnCal
 
 // page/files.js
 const $page_files = (() => {
+const { textOfBytes } = $course_hand_in;
 const { readVerdict } = $engine_answers;
 const { askList } = $run_broken;
 const { faultOfTrace } = $run_check_trace;
@@ -5567,7 +5609,7 @@ function saveText(name, text, type = "text/plain") {
 function onFile(input, take) {
   input.onchange = async () => {
     const [file] = input.files;
-    await take(await file.text(), file.name);
+    await take(textOfBytes(new Uint8Array(await file.arrayBuffer())), file.name);
     input.value = "";
   };
 }
@@ -6631,6 +6673,7 @@ const $story_figure_parts = (() => {
 const { glide } = $draw_glide;
 const { drawList } = $draw_list;
 const { arranged, shapeFor } = $draw_places;
+const { isSceneSlide } = $page_now;
 const { callText, colourOf, letterOf } = $run_markup;
 const { momentAt } = $run_sentences;
 const { setHtml } = $page_dom;
@@ -6677,6 +6720,7 @@ function scrollSoon(figure, moved) {
   cancelAnimationFrame(figure.scroll);
   figure.scroll = requestAnimationFrame(() => {
     if (figure.isEnded) return;
+    if (isSceneSlide()) fitCode(figure.part("lines"));
     scrollToTouched(figure);
     scrollToLit(figure, moved);
     if (figure.spec.strip) scrollToLane(figure);
@@ -6701,7 +6745,7 @@ function placeTheList(figure, { state, event }, isNear) {
   const shape = shapeFor(room);
   const list = arranged(state, event, shape);
   most.height = Math.max(most.height, list.height);
-  most.width = Math.max(most.width, list.width, (spec.roomFor ?? 0) * shape.share);
+  most.width = Math.max(most.width, list.width, (isSceneSlide() ? 0 : (spec.roomFor ?? 0)) * shape.share);
   const draw = () => {
     box.innerHTML = drawList(state, event, list, most.height, id);
     const svg = box.firstElementChild;
@@ -6714,10 +6758,11 @@ function placeTheList(figure, { state, event }, isNear) {
   glide(box, draw, isNear);
 }
 
-function fitList({ spec, most: { width } }, svg, room, own) {
+function fitList({ spec, tall: left, most: { width } }, svg, room, own) {
   const [, top, , high] = svg.getAttribute("viewBox").split(" ").map(Number);
-  const tall = Math.max(innerHeight * (spec.high ?? MOST_HEIGHT), spec.least ?? 180);
-  const scale = Math.max(0.5, Math.min(MOST_SCALE, (room - 4) / width, tall / high));
+  const tall = isSceneSlide() ? left : Math.max(innerHeight * (spec.high ?? MOST_HEIGHT), spec.least ?? 180);
+  const [least, most] = isSceneSlide() ? [0.1, Infinity] : [0.5, MOST_SCALE];
+  const scale = Math.max(least, Math.min(most, (room - 4) / width, tall / high));
   svg.setAttribute("viewBox", `${(own - width) / 2} ${top} ${width} ${high}`);
   svg.setAttribute("width", width * scale);
   svg.setAttribute("height", high * scale);
@@ -6752,7 +6797,7 @@ function markLostNodes({ run, box }) {
 
 function operationsOf({ spec, run, isGuess }) {
   const planned = Object.values(spec.calls ?? {}).flat().map(([operation]) => operation);
-  const begun = run.trace.calls.map(({ operation }) => operation);
+  const begun = isSceneSlide() && spec.operations !== undefined ? [] : run.trace.calls.map(({ operation }) => operation);
   const hidden = isGuess ? (spec.hidden?.operations ?? []) : [];
   return [...new Set([...(spec.operations ?? []), ...planned, ...begun])].filter((name) => !hidden.includes(name));
 }
@@ -6772,6 +6817,14 @@ function showCode(figure, { state, event, before }) {
   const toggles = figure.shown.filter(isAble).map((thread) => toggleOf(thread, active));
   setHtml(figure.part("runs"), canStep && spec.free && toggles.length > 1 ? `who runs: ${toggles.join("")}` : "");
 }
+
+function fitCode(box) {
+  for (let size = Math.round(innerHeight / 26); box !== null && size > SMALLEST_CODE; size--) {
+    box.style.fontSize = `${size}px`;
+    if (box.scrollHeight <= box.clientHeight && box.scrollWidth <= box.clientWidth) return;
+  }
+}
+const SMALLEST_CODE = 10;
 
 const toggleOf = (thread, active) => `<button class="who ${colourOf(thread)}" data-active="${thread}" aria-pressed="${thread === active}"
   title="${letterOf(thread)} runs to another line that is pressed">${letterOf(thread)}</button>`;
@@ -6913,6 +6966,15 @@ class LiveRun extends ShownRun {
     return { steps, phase: phase === "unlock" && last?.answer === undefined ? "restart" : phase, waits: false, last };
   }
 
+  endOfBit(count) {
+    this.moveTo(count);
+    const { thread, deed, changes } = this.trace.event(count + 1);
+    const isBegin = deed === "begin";
+    const begun = isBegin ? count + 1 : count;
+    const { steps } = this.chunk(this.trace, begun, isBegin ? changes.pc : this.state.threads[thread].pc);
+    return begun + steps;
+  }
+
   stepsUntil(thread, isThere) {
     const { total } = this.trace;
     const trace = this.traceOf([...this.lines, `go ${thread} ${MOST_STEPS}`]);
@@ -6948,6 +7010,7 @@ return { linesOf, runOfText, ShownRun, LiveRun };
 
 // story/figure.js
 const $story_figure = (() => {
+const { isSceneSlide } = $page_now;
 const { momentAt } = $run_sentences;
 const { drawFigure, frameOf, isNarrow, markLostNodes } = $story_figure_parts;
 const { beginOwn, chooseCall, pressed } = $story_dock;
@@ -6975,6 +7038,7 @@ class Figure {
   isLost = false; // the nodes that are lost are lit
   hides = true; // of the history, what comes later
   wide = 0; // of the list, in pixels
+  tall = 0;
   stripWide = 0;
   scroll = 0;
   told = null;
@@ -6994,7 +7058,8 @@ class Figure {
     box.addEventListener("click", (event) => pressed(this, event));
     box.addEventListener("input", ({ target }) => target.closest(".choose") !== null && chooseCall(this, target.closest("[data-thread]")));
     this.stretch = new ResizeObserver(() => {
-      if (this.part("list").clientWidth !== this.wide) requestAnimationFrame(() => this.isEnded || this.fit());
+      const { clientWidth, clientHeight } = this.part("list");
+      if (clientWidth !== this.wide || (isSceneSlide() && clientHeight !== this.tall)) requestAnimationFrame(() => this.isEnded || this.fit());
     });
     this.stretch.observe(this.part("list"));
     this.fit();
@@ -7002,6 +7067,7 @@ class Figure {
 
   fit() {
     [this.wide, this.stripWide] = ["list", "strip"].map((name) => this.part(name).clientWidth);
+    this.tall = this.part("list").clientHeight;
     this.draw();
   }
 
@@ -7059,8 +7125,12 @@ class Figure {
     if (!this.isEnded) this.onStep?.(this);
   }
 
-  async show(from) {
-    const { total } = this.run.trace;
+  show(from, total = this.run.trace.total) {
+    this.playing = this.showSteps(from, total);
+    return this.playing;
+  }
+
+  async showSteps(from, total) {
     this.isBusy = true;
     this.isHurried = false;
     tellBusy(true);
@@ -7144,7 +7214,7 @@ return { STILL, Figure };
 
 // story/scene.js
 const $story_scene = (() => {
-const { change, dispatch, now } = $page_now;
+const { change, dispatch, isLecture, now } = $page_now;
 const { byId, setHtml } = $page_dom;
 const { copied } = $page_visit;
 const { warningOf } = $run_address;
@@ -7153,11 +7223,12 @@ const { Figure } = $story_figure;
 const { isNarrow } = $story_figure_parts;
 /**
  * A view has the class of its place (`kind`) and its parts as text; `fault` says why there is no such place, `begin` makes the figure once the
- * parts are there, `draw` shows how far one is, `end` comes before the parts go; `deeds` are done by buttons, `press` by a key.
+ * parts are there, `draw` shows how far one is, `end` comes before the parts go; `deeds` are done by buttons, `press` by a key; `goes` on or
+ * back on a slide, and says whether it did.
  * @typedef {import("../page/state.js").Place} Place
  * @typedef {{ kind: string, title: (place: Place) => string, html: (place: Place) => string, fault?: (place: Place) => string | null,
  *   begin?: (place: Place) => void, draw?: (scene: import("../page/state.js").Scene) => void, end?: () => void,
- *   deeds?: Record<string, (target: any) => any>, press?: (event: KeyboardEvent) => any }} View
+ *   deeds?: Record<string, (target: any) => any>, press?: (event: KeyboardEvent) => any, goes?: (by: number) => any }} View
  */
 
 /** @type {Record<string, View>} of an activity, or of one without an id its map */
@@ -7187,7 +7258,7 @@ const underBar = (box) => box.getBoundingClientRect().bottom - (part(".foot")?.g
 function fitFigure({ spec }) {
   const list = scene.figure.part("list").firstElementChild;
   const over = underBar(part("#talk") ?? list);
-  if (over <= 0 || list === null || isNarrow()) return;
+  if (over <= 0 || list === null || isNarrow() || isLecture()) return;
   Object.assign(spec, { high: (Number(list.getAttribute("height")) - over - 8) / innerHeight, least: 110 });
   scene.figure.draw();
 }
@@ -7226,9 +7297,9 @@ function renderScene({ place, scene: state }) {
   scene.isFirst = false; // who comes by a key goes on at the title of what is opened
 }
 
-function openScene({ activity, id = "", given = {}, view = null }) {
+function openScene({ activity, id = "", given = {}, view = null, slide = 0 }) {
   scene.key = ""; // also where it is shown already, it begins anew
-  change("view", { view });
+  change("view", { view, slide });
   dispatch("place", { activity, screen: "scene", id, given });
 }
 
@@ -7238,8 +7309,6 @@ function listenToScene() {
     if (target !== null && byId("scene").contains(target)) scene.view?.deeds?.[target.dataset.do]?.(target);
   });
 }
-
-const pressInScene = (event) => scene.view?.press?.(event);
 
 const head = (kicker, title, more = "", kind = "") =>
   `<div class="head">${kicker === "" ? "" : `<p class="kicker">${kicker}</p>`}<h1 class="${kind}" tabindex="-1">${title}</h1>${more}</div>`;
@@ -7312,7 +7381,7 @@ function pressThread(event) {
 
 const numberOfKey = ({ key }) => (now.prefs.letters && /^[1-9]$/.test(key) ? Number(key) - 1 : -1);
 const LIST_WORDS = { coarse: "One lock", fine: "Hand over hand", optimistic: "Optimistic", lazy: "Lazy", "lock-free": "Lock-free" };
-return { VIEWS, scene, part, titleOfScene, faultOfScene, isScene, setScene, copyText, talk, takeFigure, leaveScene, renderScene, openScene, listenToScene, pressInScene, head, FIGURE_AND_TALK, hintAndOn, drawHintAndOn, drawOn, takeFreeFigure, LACKS_ONE, foot, optionButtons, replyTo, drawLedger, isOddRun, threadOfKey, pressThread, numberOfKey, LIST_WORDS };
+return { VIEWS, scene, part, titleOfScene, faultOfScene, isScene, setScene, copyText, talk, takeFigure, leaveScene, renderScene, openScene, listenToScene, head, FIGURE_AND_TALK, hintAndOn, drawHintAndOn, drawOn, takeFreeFigure, LACKS_ONE, foot, optionButtons, replyTo, drawLedger, isOddRun, threadOfKey, pressThread, numberOfKey, LIST_WORDS };
 })();
 
 // story/assignment.js
@@ -7454,7 +7523,7 @@ function html(place) {
     <p class="small">New to this? <a href="#story=1">Why not just one lock?</a> Twenty minutes, from nothing.</p>`;
   const verb = done.length === 0 ? "Begin" : "Go on";
   const next = (task) => tag("a", { class: "button primary", href: task.href }, `${verb}: ${escaped(task.title)} →`);
-  const bar = first === undefined ? foot("All done.", '<button class="primary" data-do="hand">Hand in ↑</button>') : foot("", next(first));
+  const bar = first === undefined ? foot(tasks.length === 0 ? "No task." : "All done.", '<button class="primary" data-do="hand">Hand in ↑</button>') : foot("", next(first));
   const items = tasks.map((task) => itemOf(task, lines[task.id] !== undefined));
   const title = head("Assignment", escaped(titleOfAssignment(place)), lead, "title");
   return `${title}${tag("ol", { class: "tasks" }, ...items)}${HAND(keptStory(), done.length)}${bar}`;
@@ -7470,7 +7539,7 @@ function textNow() {
   const [student, number] = ["student", "number"].map((name) => part(`#hand-${name}`).value.trim());
   keepStory({ student, number });
   const { done, lines } = doneOf(now.place);
-  return handInText(BOOK_NAME, `${student || "?"}${number === "" ? "" : ` (${number})`}`, [], done.map(({ id }) => lines[id]));
+  return handInText(BOOK_NAME, `${student || "?"}${number === "" ? "" : ` (${number})`}`, [], done.map(({ id }) => lines[id]), titleOfAssignment(now.place));
 }
 
 const fill = () => (part("#hand-text").textContent = textNow());
@@ -7482,7 +7551,18 @@ function isNamed() {
   return false;
 }
 
-const fileName = () => `${part("#hand-student").value.trim().toLowerCase().replace(/\W+/g, "-") || "hand-in"}.txt`;
+function fileName() {
+  const { student, number } = keptStory();
+  const letters = { ä: "ae", ö: "oe", ü: "ue", ß: "ss" };
+  const words = [student, number, titleOfAssignment(now.place)].join(" ").toLowerCase().replace(/[äöüß]/g, (letter) => letters[letter]);
+  return `${words.normalize("NFD").replace(/\p{M}/gu, "").replace(/[^\p{L}\p{N}]+/gu, "-")}.txt`;
+}
+
+function save() {
+  if (!isNamed()) return;
+  saveText(fileName(), textNow());
+  part("#scene-told").textContent = `Saved: ${fileName()}. Hand in this file.`;
+}
 
 const assignmentView = {
   kind: "assignment",
@@ -7491,7 +7571,7 @@ const assignmentView = {
   begin,
   deeds: {
     copy: () => isNamed() && copyText(textNow(), "The text is copied: paste it where you hand in."),
-    save: () => isNamed() && saveText(fileName(), textNow()),
+    save,
     afresh: startAfresh,
     hand: () => {
       part("#hand").scrollIntoView({ behavior: "smooth" });
@@ -7504,6 +7584,7 @@ return { bookCourse, allLevels, addressOfTasks, homeworkOf, wayOn, tasksOf, task
 
 // activities/bench.js
 const $activities_bench = (() => {
+const { LECTURE } = $data_lecture;
 const { LISTS } = $made_rows;
 const { anotherSeed, partsOfSeed, scheduleOfSeed, seedOf } = $run_address;
 const { escaped, listOptions } = $run_markup;
@@ -7668,6 +7749,7 @@ function aimGoOn() {
 function showPlace() {
   document.title = titleIn(now, titleOfScene);
   showHome();
+  byId("leave").textContent = now.place.slide > 0 ? `${now.place.slide} of ${LECTURE.length} ✕` : "✕";
   if (now.place.screen !== "stage") return;
   const links = taskOfWatch();
   for (const name of ["before", "next"]) {
@@ -7921,6 +8003,7 @@ const { addressOf } = $run_address;
 const { askList } = $run_broken;
 const { exerciseOf, LEVELS, MOST_JUDGED, OwnAnswer, repliesOf, verdictOn, wordOfAnswer } = $run_judged;
 const { callText, chipOf, escaped } = $run_markup;
+const { homeworkOf } = $story_assignment;
 const JUDGED = "listset-judged"; // in the browser's storage: of each run and level the order that was right
 const HALF_STEPS = { ArrowLeft: -0.5, ArrowDown: -0.5, ArrowRight: 0.5, ArrowUp: 0.5 };
 const SLIDER_KEYS = { ...HALF_STEPS, PageDown: -5, PageUp: 5, Home: -Infinity, End: Infinity };
@@ -8046,6 +8129,8 @@ class Judging {
 
   drawVerdict() {
     const { verdict, tries } = this;
+    const isAsked = homeworkOf(now.place, now.task) !== null && verdict?.isRight !== true; // what shows its answer is not there yet
+    for (const name of ["end", "levels"]) judgePart(name).style.visibility = isAsked ? "hidden" : "";
     const kind = { true: "right", false: "wrong" }[verdict?.isRight] ?? "";
     judgePart("verdict").className = kind;
     judgePart("verdict").textContent = verdict?.says ?? "";
@@ -8076,7 +8161,7 @@ function beginJudging() {
   if (trace.calls.length === 0) return tell("There is no call to judge yet.");
   if (trace.total > MOST_JUDGED) return tell(`A run of at most ${MOST_JUDGED} events can be judged; this one has ${trace.total}.`);
   tell("");
-  judging.begin(judgePart("level").value);
+  judging.begin(homeworkOf(now.place, now.task) === null ? judgePart("level").value : "replies");
   byId("next").focus(); // the arrows step; on the level they would change it
 }
 
@@ -8332,7 +8417,7 @@ return { APPENDIX };
 const $story_ask_branches = (() => {
 const { BREAK_LEVELS } = $data_levels;
 const { tag } = $run_markup;
-const { now } = $page_now;
+const { isLecture, now } = $page_now;
 const { QUESTIONS } = $story_ask;
 const { APPENDIX } = $story_ask_more;
 const { Figure } = $story_figure;
@@ -8364,7 +8449,11 @@ function takeBranch({ lines, opening, lacks = null, isFree = false }) {
   }));
 }
 
-const operationsIn = ({ lines, rest }) => [...lines, ...rest].filter((line) => line.startsWith("begin")).map((line) => line.split(" ")[2]);
+function operationsIn({ lines, rest }) {
+  const isOver = (line, at) => isLecture() && lines.slice(at).includes(`go ${line.split(" ")[1]} out`);
+  const shown = [...lines.filter((line, at) => !isOver(line, at)), ...rest];
+  return shown.filter((line) => line.startsWith("begin")).map((line) => line.split(" ")[2]);
+}
 
 function freshBox(isTimed) {
   const box = Object.assign(document.createElement("div"), { id: "figure", className: isTimed ? "timed" : "" });
@@ -8430,7 +8519,7 @@ function withoutCheck(item) {
   if (known !== -1) return openBranch(known, true);
   const { lines = sameLines(item), opening } = item.without ?? {};
   setScene({ branches: [...branches, { name: "Without this check", lines, opening, lacks: item.lacks, isFixed: true }] });
-  openBranch(branches.length, true);
+  return openBranch(branches.length, true);
 }
 
 function sameLines({ list, opening, lines, rest, lacks }) {
@@ -8944,6 +9033,7 @@ function begin({ given }) {
   sidesPart("slider").oninput = () => turnTo(Number(sidesPart("slider").value));
   Object.assign(shown, { sides: null, quota: Number(quota), figures: [] });
   beginSides(turns.split(".").filter((thread) => thread !== "").map(Number));
+  if (now.place.slide > 0) shown.at = 0; // a slide goes through its turns
 }
 
 function beginSides(turns = []) {
@@ -9034,6 +9124,12 @@ function press(event) {
   } else if (threadOfKey(event) in sides.program) turnOf(threadOfKey(event));
 }
 
+function goes(by) {
+  const isThere = shown.at + by >= 0 && shown.at + by <= shown.sides.turns.length;
+  if (isThere) turnTo(shown.at + by);
+  return isThere;
+}
+
 const compareView = {
   kind: "compare",
   title: (place) => `${listsOf(place).map((kind) => LISTS[kind].name).join(" beside ")} · Why not just one lock?`,
@@ -9042,6 +9138,7 @@ const compareView = {
   draw,
   end,
   press,
+  goes,
   deeds: {
     begin: () => beginSides(),
     copy: () => copyText(linkTo(addressOfSides()), "The link is copied."),
@@ -9189,6 +9286,7 @@ return { stopUnable, listenToBar, listenToSettings, listenToWork, listenToFiles,
 // activities/open.js
 const $activities_open = (() => {
 const { TRACES } = $made_traces;
+const { LECTURE } = $data_lecture;
 const { numberOfLevel } = $data_levels;
 const { byId } = $page_dom;
 const { isExample, openKept, openTask, openWork, ownTask, showMarks } = $page_work;
@@ -9264,18 +9362,26 @@ function openLink({ text, event, lacks, view = null }) {
   openTask(ownTask("from a link"), text, event, `${told}${others}.`);
 }
 
-async function openAddress(hash) {
+function slideOf(hash) {
+  const [, number = "1"] = /^#lecture(?:=(.*))?$/.exec(hash) ?? [null, "0"];
+  if (number === "0" || LECTURE[Number(number) - 1] !== undefined) return Number(number);
+  throw new AddressFault(`the lecture has the slides 1 to ${LECTURE.length}, and no "${number.slice(0, 60)}"`);
+}
+
+async function openAddress(given) {
   try {
+    const slide = slideOf(given);
+    const hash = slide === 0 ? given : LECTURE[slide - 1][2];
     const place = sceneOfHash(hash);
     if (place !== null) {
-      openStory(place);
+      openStory({ ...place, slide });
       return true;
     }
     const wanted = readAddress(hash);
-    setView(wanted.view);
+    setView(wanted.view, slide);
     if (wanted.course !== null) await openCourse(wanted);
     else if (wanted.place !== null) openPlace(wanted.place, wanted);
-    else if (wanted.sides !== null) openStory({ activity: "compare", given: wanted.sides, view: wanted.view });
+    else if (wanted.sides !== null) openStory({ activity: "compare", given: wanted.sides, view: wanted.view, slide });
     else if (wanted.example !== null || wanted.text !== null || wanted.seed !== null) openRun(wanted);
     else return false;
     return true;
@@ -9347,13 +9453,14 @@ return { openRecorded, openCourseFile, followAddress, showBeforehand, openFirst 
 
 // story/ask_view.js
 const $story_ask_view = (() => {
-const { now } = $page_now;
+const { slideAddress } = $data_lecture;
+const { isLecture, now } = $page_now;
 const { QUESTIONS } = $story_ask;
 const { ALL, CHECK_WORDS, drawBranches, goBack, isEmbed, itemOf, openBranch, seeAgain, takeBranch, talkOfBranch, whatIf, withoutCheck } = $story_ask_branches;
 const { isNarrow } = $story_figure_parts;
 const { keepStory, keptStory } = $story_kept;
 const { LiveRun } = $story_live_run;
-const { drawOn, FIGURE_AND_TALK, head, LIST_WORDS, numberOfKey, optionButtons, part, replyTo, scene, setScene, talk, threadOfKey } = $story_scene;
+const { drawOn, FIGURE_AND_TALK, head, LIST_WORDS, numberOfKey, openScene, optionButtons, part, replyTo, scene, setScene, talk, threadOfKey } = $story_scene;
 const here = () => itemOf(now.place);
 
 function html(place) {
@@ -9368,7 +9475,7 @@ function html(place) {
     <div id="branches" class="branches" hidden></div>${FIGURE_AND_TALK}</section>
     <footer class="foot">${isEmbed() ? "" : all}<span class="spread"></span>${isEmbed() ? out : ""}
     <button id="show-me" class="primary" data-do="show">${isNarrow() ? "Show me" : "I do not know: show me"}</button>
-    <a id="go-on" class="button quiet" href="#ask=${next.name}" ${isEmbed() ? "hidden" : ""}>Skip →</a></footer>`;
+    <a id="go-on" class="button quiet" href="${place.slide > 0 ? slideAddress(place.slide + 1) : `#ask=${next.name}`}" ${isEmbed() ? "hidden" : ""}>Skip →</a></footer>`;
 }
 
 function begin(place) {
@@ -9388,10 +9495,26 @@ async function guessed(index) {
   const asked = figure.run.count;
   figure.run = new LiveRun({ ...figure.spec, lines: now.scene.branches[0].lines });
   Object.assign(figure, { isOpen: true, isGuess: false });
-  await figure.show(asked);
+  const stop = isLecture() ? figure.run.endOfBit(asked) : figure.run.trace.total; // a lecturer goes on from the step that decides
+  await figure.show(asked, stop);
   if (scene.figure !== figure) return;
   setScene({ branches: [{ ...now.scene.branches[0], from: asked }] });
   openBranch(0);
+  scene.figure.moveTo(stop);
+}
+
+async function goes(by) {
+  const { figure } = scene;
+  const { stage, branches } = now.scene;
+  const { lacks } = here();
+  const { count, trace } = figure.run;
+  if (by < 0 && stage !== "guess") openScene(now.place);
+  else if (by < 0) return false;
+  else if (stage === "guess") await guessed(-1);
+  else if (count < trace.total) await figure.show(count);
+  else if (lacks !== undefined && !branches.some(({ isFixed }) => isFixed)) await withoutCheck(here());
+  else return false;
+  return true;
 }
 
 function talkOf({ stage, chosen, at, branches }) {
@@ -9440,6 +9563,7 @@ const askView = {
   begin,
   draw,
   press,
+  goes,
   deeds: {
     answer: ({ dataset }) => guessed(Number(dataset.option)),
     show: () => guessed(-1),
@@ -10021,21 +10145,73 @@ function endHtml(done) {
 return { HERO, dots, barHtml, GONE, welcome, LAST, endHtml };
 })();
 
+// story/slide.js
+const $story_slide = (() => {
+const { LECTURE, slideAddress } = $data_lecture;
+const { isLecture, now } = $page_now;
+const { goByHand } = $page_play;
+const { scene } = $story_scene;
+const queue = { last: Promise.resolve(), waiting: 0 };
+
+function hurry() {
+  if (scene.figure?.isBusy) scene.figure.isHurried = true;
+}
+
+function inTurn(deed) {
+  queue.waiting++;
+  hurry();
+  queue.last = queue.last.then(async () => {
+    queue.waiting--;
+    const done = deed();
+    if (queue.waiting > 0) hurry();
+    await done;
+    await scene.figure?.playing;
+    await new Promise((next) => setTimeout(next));
+  });
+}
+
+const pressInScene = (event) => (isLecture() ? inTurn(() => scene.view?.press?.(event)) : scene.view?.press?.(event));
+
+function toSlide(by) {
+  const number = now.place.slide + by;
+  if (now.place.slide === 0 || number < 1 || number > LECTURE.length) return false;
+  const isThere = new Promise((done) => window.addEventListener("popstate", () => setTimeout(done), { once: true }));
+  location.hash = slideAddress(number);
+  return isThere;
+}
+
+function goesOnStage(by) {
+  const count = now.run.count + by;
+  if (count < 0 || count > now.run.trace.total) return false;
+  goByHand(count);
+  return true;
+}
+
+const goOnSlide = (by) =>
+  inTurn(async () => {
+    const isGone = now.place.screen === "stage" ? goesOnStage(by) : await scene.view?.goes?.(by);
+    return isGone || toSlide(by);
+  });
+return { pressInScene, toSlide, goOnSlide };
+})();
+
 // story/path_view.js
 const $story_path_view = (() => {
-const { now } = $page_now;
+const { isLecture, now } = $page_now;
 const { Figure } = $story_figure;
 const { isNarrow } = $story_figure_parts;
 const { keepStory, keptStory, startAfresh } = $story_kept;
 const { SCREENS } = $story_path;
 const { barHtml, dots, endHtml, GONE, HERO, LAST, welcome } = $story_path_parts;
-const { drawLedger, drawOn, FIGURE_AND_TALK, head, numberOfKey, optionButtons, part, pressThread, replyTo, scene, setScene, takeFigure, talk } = $story_scene;
+const { drawLedger, drawOn, FIGURE_AND_TALK, head, numberOfKey, openScene, optionButtons, part, pressThread, replyTo, scene, setScene, takeFigure, talk, threadOfKey } = $story_scene;
+const { toSlide } = $story_slide;
 const numberOf = ({ id }) => Math.max(1, Math.min(LAST, Number(id) || 1));
 const screenOf = (place) => SCREENS[numberOf(place) - 1] ?? null;
 const here = () => screenOf(now.place);
 const shown = { count: 0 }; // how many deeds of the way were shown
-const hashOf = (number) => `#story=${number}${now.place.view === "lecture" ? "&view=lecture" : ""}`;
+const hashOf = (number) => `#story=${number}${isLecture() ? "&view=lecture" : ""}`;
 const goTo = (number) => (location.hash = hashOf(number));
+const goBy = (by) => (now.place.slide > 0 ? toSlide(by) : goTo(numberOf(now.place) + by));
 
 function html(place) {
   const number = numberOf(place);
@@ -10068,7 +10244,7 @@ function talkOf(screen, { stage, chosen, note }) {
   if (stage === "guess") return asked(screen.ask) + optionButtons(screen.options.map(({ text }) => text));
   if (stage === "task" || stage === "again") return reply + asked(screen.task ?? screen.playTask, note);
   if (stage === "moment") return reply + asked(screen.then.task, note);
-  if (stage === "playing") return reply;
+  if (stage === "playing") return (isLecture() ? asked(screen.ask) : "") + reply;
   const after = screen.after === undefined ? "" : `<p class="small">${screen.after}</p>`;
   const ledger = screen.ledger ? drawLedger(scene.figure.run) : "";
   const isOther = screen.options !== undefined && !screen.options[chosen]?.right;
@@ -10116,10 +10292,24 @@ async function guessed(index) {
     return figure.set({ isOpen: true, hidesDock: false });
   }
   figure.set({ isOpen: true });
+  if (isLecture()) return playOn();
   await figure.act(screen.play);
+  if (scene.figure === figure) played(figure);
+}
+
+async function playOn() {
+  const { figure } = scene;
+  const { play } = here();
+  const [thread, many] = play[shown.count];
+  await figure.step(thread);
   if (scene.figure !== figure) return;
+  if (many !== "out" || figure.run.isIdle(thread)) shown.count++;
+  if (shown.count === play.length) played(figure);
+}
+
+function played(figure) {
   figure.set({ hidesDock: false });
-  if (screen.then === undefined) return done();
+  if (here().then === undefined) return done();
   setScene({ stage: "moment" });
   markContents(figure);
 }
@@ -10156,7 +10346,7 @@ function done() {
 }
 
 function focusOn() {
-  if (document.activeElement.closest("button, a, input, [tabindex='0']") === null) part("#go-on").focus({ preventScroll: true });
+  if (!isLecture() && document.activeElement.closest("button, a, input, [tabindex='0']") === null) part("#go-on").focus({ preventScroll: true });
 }
 
 async function showWhy() {
@@ -10173,7 +10363,8 @@ async function showMe() {
   const screen = here();
   const { stage } = now.scene;
   if (figure.isBusy) figure.isHurried = true;
-  else if (stage === "guess") guessed(-1);
+  else if (stage === "guess") return guessed(-1);
+  else if (stage === "playing" && isLecture()) return playOn();
   else if (stage === "moment") pressedMoment("{}", 1);
   else if (stage === "again") {
     shown.count = 0;
@@ -10182,7 +10373,7 @@ async function showMe() {
     const way = [...screen.help.slice(shown.count), ...figure.shown.map((thread) => [thread])];
     const next = way.find(([thread]) => !isOver(thread));
     shown.count++;
-    if (next !== undefined) figure.step(next[0]);
+    if (next !== undefined) return figure.step(next[0]);
   }
 }
 
@@ -10190,13 +10381,36 @@ function press(event) {
   const number = numberOf(now.place);
   const { stage } = now.scene;
   if (event.key === "ArrowLeft" && number > 1) return goTo(number - 1);
-  if (["ArrowRight", "PageDown"].includes(event.key) && number < LAST) {
-    if (stage === "done") goTo(number + 1);
-    else if (now.place.view === "lecture") showMe();
-    return;
-  }
+  if (["ArrowRight", "PageDown"].includes(event.key) && number < LAST) return stage === "done" && goTo(number + 1);
   if (stage === "guess" && numberOfKey(event) !== -1 && numberOfKey(event) < here().options.length) guessed(numberOfKey(event));
-  else pressThread(event);
+  else {
+    if (isLecture() && stage === "guess" && here().playTask !== undefined && threadOfKey(event) !== -1) guessed(-1);
+    pressThread(event);
+  }
+}
+
+async function goes(by) {
+  const number = numberOf(now.place) + by;
+  if (by > 0 && now.scene.stage !== "done" && here() !== null) await showMe();
+  else if (by > 0 || !takeBack()) {
+    if (now.place.slide > 0 || number < 1 || number > LAST) return false;
+    goTo(number);
+  }
+  return true;
+}
+
+function takeBack() {
+  const { figure } = scene;
+  const { stage } = now.scene;
+  const { play, ask } = here() ?? {};
+  if (figure === null || (figure.past.length === 0 && (ask === undefined || stage === "guess"))) return false;
+  if (play !== undefined || figure.past.length === 0) openScene(now.place);
+  else {
+    shown.count = Math.max(0, shown.count - 1);
+    if (stage === "done") setScene({ stage: "task" });
+    figure.undo();
+  }
+  return true;
 }
 
 const pathView = {
@@ -10207,12 +10421,13 @@ const pathView = {
   begin,
   draw,
   press,
+  goes,
   deeds: {
     answer: ({ dataset }) => guessed(Number(dataset.option)),
     show: showMe,
     why: showWhy,
-    on: () => goTo(numberOf(now.place) + 1),
-    back: () => goTo(numberOf(now.place) - 1),
+    on: () => goBy(1),
+    back: () => goBy(-1),
     afresh: startAfresh,
   },
 };
@@ -10221,81 +10436,136 @@ return { pathView };
 
 // story/handins.js
 const $story_handins = (() => {
+const { LISTS } = $made_rows;
 const { judgedPart, readHandIn, textsIn } = $course_hand_in;
 const { triedCourse } = $course_lesson;
+const { numberOfLevel } = $data_levels;
 const { askNow } = $page_now;
-const { bookCourse, taskOfJudged } = $story_assignment;
+const { counted, inLetters } = $run_markup;
+const { bookCourse, taskOfJudged, tasksOf } = $story_assignment;
+const MANY = 10; // a schedule that one in so many students has is no sign of a copy
+
+const stripped = (name) => name.replace(/^.*\//, "").replace(/\.[A-Za-z]+$/, "");
+
 function studentOf(text, file) {
   const [, name, number] = /^(.*?)\s*(?:[([#]\s*((?=\D*\d)\w[\w-]{0,20})\s*[)\]]?)?\s*$/.exec(text ?? "") ?? [];
-  return { name: name || file.replace(/^.*\//, "").replace(/\.[A-Za-z]+$/, ""), number: number ?? "" };
+  return { name: name || stripped(file), number: number ?? "" };
 }
 
-async function checkAll(files, tasks, tellProgress = (_at, _of) => {}) {
+function assignmentOfLink(link) {
+  const { assignment: title, ...given } = Object.fromEntries(new URLSearchParams(link.replaceAll("&amp;", "&").replace(/^[^#]*#?/, "")));
+  const { tasks, unknown } = tasksOf(given);
+  if (title === undefined) return { fault: "This is no link of an assignment: “#assignment=” is missing." };
+  if (unknown.length > 0) return { fault: `This link names tasks that there are not: ${unknown.join(", ")}.` };
+  return tasks.length === 0 ? { fault: "The assignment of this link has no task." } : { title, tasks };
+}
+
+async function checkAll(files, assignment, tellProgress = (_at, _of) => {}) {
   const found = files.flatMap(({ name, text }) => textsIn(text).map((one) => ({ ...one, file: name })));
-  const empty = files.filter(({ name }) => !found.some(({ file }) => file === name)).map(({ name }) => name);
+  const without = files.filter(({ name }) => !found.some(({ file }) => file === name));
+  const empty = without.map(({ name, text }) => (text.startsWith("PK\u0003\u0004") ? `${name} (unpack it first)` : name));
   const courses = [bookCourse(), ...found.filter(({ kind }) => kind === "course").map(({ text }) => triedCourse(askNow, text))];
-  const students = new Map();
   const handed = found.filter(({ kind }) => kind === "hand-in");
+  const students = new Map();
   for (const [index, text] of handed.entries()) {
-    const read = readHandIn(text);
-    const who = studentOf(read.student, text.file);
-    const key = `${who.number} ${who.name.toLowerCase()}`;
-    const own = students.get(key) ?? { ...who, files: [], solved: new Map(), wrong: new Set(), notes: [] };
-    students.set(key, own);
-    if (!own.files.includes(text.file)) own.files.push(text.file);
-    own.notes.push(...read.faults.map(({ line, fault }) => `line ${line}: ${fault}`));
-    const lessons = (courses.find(({ name }) => name === read.course) ?? courses[0]).lessons;
-    for (const { line } of read.solutions) judgePart(own, lessons, line, tasks ?? []);
+    takeText(students, text, courses, assignment);
     tellProgress(index + 1, handed.length);
     if (index % 3 === 2) await new Promise((done) => setTimeout(done));
   }
   const rows = [...students.values()].sort((one, other) => one.name.localeCompare(other.name));
-  noteSame(rows);
-  noteNumbers(rows);
-  const all = [...new Set(rows.flatMap(({ solved }) => [...solved.keys()]))].sort();
-  const columns = tasks === null ? all.map((id) => ({ id, title: id })) : tasks.map(({ id, title }) => ({ id, title }));
-  return { rows, columns, empty };
+  const columns = assignment?.tasks ?? columnsOf(rows, courses);
+  const common = noteCopies(rows);
+  for (const row of rows) row.notes.unshift(...notesOnNames(row, rows));
+  return { rows, columns, empty, common: common.map((task) => titleOf(task, courses)) };
 }
 
-function judgePart(own, lessons, line, tasks) {
+function takeText(students, text, courses, assignment) {
+  const read = readHandIn(text);
+  const who = studentOf(read.student, text.file);
+  const key = who.number === "" ? `${text.file}\n${text.number}` : `${who.number} ${who.name.toLowerCase()}`;
+  const own = students.get(key) ?? { ...who, files: [], solved: new Map(), wrong: new Set(), notes: [], faults: 0, copies: [] };
+  students.set(key, own);
+  if (!own.files.includes(text.file)) own.files.push(text.file);
+  if (assignment !== null && ![null, assignment.title].includes(read.assignment)) own.notes.push(`handed in for “${read.assignment}”`);
+  own.notes.push(...read.faults.map(({ line, fault }) => `line ${line}: ${fault}`));
+  const course = read.course === null ? courses[0] : courses.find(({ name }) => name === read.course);
+  if (course === undefined) own.notes.push(`the course “${read.course}” is not among the files`);
+  own.faults += read.faults.length + (course === undefined ? 1 : 0);
+  const odd = { others: new Set(), answers: new Set() };
+  for (const { line } of read.solutions) judgePart(own, course?.lessons ?? [], line, assignment?.tasks ?? null, odd);
+  const [others, answers] = [odd.others, odd.answers].map((some) => [...some].map((task) => titleOf(task, courses)));
+  if (others.length > 0) own.notes.push(`${counted(others.length, "solution")} of tasks not asked: ${others.join("; ")}`);
+  if (answers.length > 0) own.notes.push(`the very answer of the lesson: ${answers.join("; ")}`);
+}
+
+function judgePart(own, lessons, line, tasks, odd) {
   const verdict = judgedPart(askNow, lessons, line);
-  const task = line.startsWith("judge ") ? (taskOfJudged(line, tasks)?.id ?? verdict.task) : verdict.task;
+  const task = (line.startsWith("judge ") ? taskOfJudged(line, tasks ?? [])?.id : undefined) ?? verdict.task;
+  if (tasks !== null && task !== null && !tasks.some(({ id }) => id === task)) return void odd.others.add(task);
+  const title = task === null ? line.slice(0, 40) : (tasks?.find(({ id }) => id === task)?.title ?? titleOf(task, [{ lessons }]));
   const isOwn = verdict.schedule !== undefined && !verdict.isVeryAnswer; // what two may have in common only by copying
   if (verdict.isSolved) own.solved.set(task, isOwn ? verdict.schedule : null);
   else {
-    own.wrong.add(task);
-    own.notes.push(`${task ?? line.slice(0, 40)}: ${verdict.says}`);
+    if (task === null) own.faults++;
+    else own.wrong.add(task);
+    own.notes.push(`${title}: ${inLetters(verdict.says)}`);
   }
-  if (verdict.isVeryAnswer) own.notes.push(`${task}: the very answer of the lesson`);
-  if (verdict.ofExample) own.notes.push(`${task}: the very run of an example`);
+  if (verdict.isVeryAnswer) odd.answers.add(task);
+  if (verdict.ofExample) own.notes.push(`${title}: the very run of the example ${verdict.ofExample}`);
+}
+
+function titleOf(task, courses) {
+  const [kind, name] = task.split(" ");
+  if (kind === "break") return tasksOf({ break: String(numberOfLevel(name)) }).tasks[0]?.title ?? task;
+  if (kind !== "judge") return courses.flatMap(({ lessons }) => lessons).find((lesson) => lesson.name === task)?.title ?? task;
+  const [, list] = /list=([a-z-]+)/.exec(name) ?? [];
+  return LISTS[list] === undefined ? task : `Judged: ${LISTS[list].name}, ${/event=(\d+)/.exec(name)?.[1] ?? "?"} events`;
+}
+
+function columnsOf(rows, courses) {
+  const ids = new Set(rows.flatMap(({ solved, wrong }) => [...solved.keys(), ...wrong]));
+  return [...ids].sort().map((id) => ({ id, title: titleOf(id, courses) }));
 }
 
 const markOf = ({ solved, wrong }, { id }) => (solved.has(id) ? "solved" : wrong.has(id) ? "wrong" : "none");
+const countOf = ({ solved }, columns) => columns.filter(({ id }) => solved.has(id)).length;
 
-function noteNumbers(rows) {
-  for (const row of rows) {
-    const names = rows.filter(({ number }) => number !== "" && number === row.number).map(({ name }) => name);
-    if (names.length > 1) row.notes.unshift(`two names for one number: ${names.join(", ")}`);
-  }
+function notesOnNames(row, rows) {
+  const { name, number, files } = row;
+  const same = rows.filter((other) => number !== "" && other.number === number).map((other) => other.name);
+  const twins = rows.filter((other) => other.name.toLowerCase() === name.toLowerCase() && [number, other.number].includes(""));
+  return [
+    ...(files.length > 1 ? [`merged from ${files.join(", ")}`] : []),
+    ...(same.length > 1 ? [`two names for one number: ${same.join(", ")}`] : []),
+    ...(twins.length > 1 ? [`${twins.length} rows with this name, since a number is missing: ${twins.flatMap((one) => one.files).join(", ")}`] : []),
+  ];
 }
 
-function noteSame(rows) {
+function noteCopies(rows) {
   const byText = new Map();
-  const note = (row, { name }, task) => row.same.set(name, [...(row.same.get(name) ?? []), task]);
+  const own = new Map(rows.map((row) => [row, [...row.solved].filter(([, schedule]) => schedule !== null).map((entry) => entry.join("\n"))]));
+  for (const row of rows) for (const key of own.get(row)) byText.set(key, [...(byText.get(key) ?? []), row]);
+  const most = Math.max(4, rows.length / MANY);
+  const isRare = (key) => byText.get(key).length <= most;
   for (const row of rows) {
-    row.same = new Map();
-    for (const [task, schedule] of row.solved) {
-      const key = `${task}\n${schedule}`;
-      const others = schedule === null ? [] : (byText.get(key) ?? []);
-      byText.set(key, [...others, row]);
-      for (const other of others) note(row, other, task), note(other, row, task);
+    const keys = own.get(row);
+    const rare = keys.filter(isRare);
+    for (const other of new Set(rare.flatMap((key) => byText.get(key)).filter((one) => one !== row))) {
+      const shared = keys.filter((key) => own.get(other).includes(key));
+      const isTold = shared.filter(isRare).length >= Math.min(2, rare.length);
+      const group = row.copies.find((one) => one.count === shared.length && one.isTold === isTold);
+      if (group === undefined) row.copies.push({ count: shared.length, of: keys.length, isTold, rows: [other] });
+      else group.rows.push(other);
     }
+    row.copies.sort((one, other) => Number(other.isTold) - Number(one.isTold) || other.count - one.count);
   }
+  return [...new Set([...byText.keys()].filter((key) => !isRare(key)).map((key) => key.split("\n")[0]))];
 }
 
-function sameText(row) {
-  const others = [...row.same].map(([name, tasks]) => `${name} (${tasks.length})`);
-  return others.length > 3 ? `${others.slice(0, 2).join(", ")} and ${others.length - 2} more` : others.join(", ");
+function copiesText({ copies }, all = false) {
+  const nameOf = ({ name, number }) => (number === "" ? name : `${name} (${number})`);
+  const groups = copies.filter(({ isTold }) => all || isTold);
+  return groups.map(({ count, of, rows }) => `${count} of ${of} with ${rows.map(nameOf).join(", ")}`).join("; ");
 }
 
 function csvOf({ rows, columns }) {
@@ -10303,28 +10573,27 @@ function csvOf({ rows, columns }) {
     const text = String(value).replace(/^[=+\-@\t\r]/, "'$&");
     return /[",\n;]/.test(text) ? `"${text.replaceAll('"', '""')}"` : text;
   };
-  const head = ["student", "number", ...columns.map(({ title }) => title), "solved", "of", "same schedules as", "notes", "files"];
+  const head = ["student", "number", ...columns.map(({ title }) => title), "solved", "of", "same schedules", "notes", "files"];
   const line = (row) => {
     const marks = columns.map((column) => ({ solved: 1, wrong: 0, none: "" })[markOf(row, column)]);
-    const solved = marks.filter((mark) => mark === 1).length;
-    return [row.name, row.number, ...marks, solved, columns.length, sameText(row), row.notes.join(" | "), row.files.join(" ")];
+    return [row.name, row.number, ...marks, countOf(row, columns), columns.length, copiesText(row, true), row.notes.join(" | "), row.files.join(" ")];
   };
-  return `${[head, ...rows.map(line)].map((cells) => cells.map(cell).join(",")).join("\r\n")}\r\n`;
+  return `\ufeff${[head, ...rows.map(line)].map((cells) => cells.map(cell).join(",")).join("\r\n")}\r\n`;
 }
-return { checkAll, markOf, sameText, csvOf };
+return { assignmentOfLink, checkAll, markOf, countOf, copiesText, csvOf };
 })();
 
 // story/handins_view.js
 const $story_handins_view = (() => {
+const { textOfBytes } = $course_hand_in;
 const { saveText } = $page_files;
 const { linkTo } = $page_visit;
 const { counted, escaped, tag } = $run_markup;
-const { tasksOf } = $story_assignment;
-const { checkAll, csvOf, markOf, sameText } = $story_handins;
+const { assignmentOfLink, checkAll, copiesText, countOf, csvOf, markOf } = $story_handins;
 const { part } = $story_scene;
 const MOST_BYTES = 2_000_000; // of a file
-const MOST_NOTES = 2; // that the table has of a student; the CSV has all
-const given = { files: [], tooLong: [], result: null };
+const MOST_NOTES = 3; // that the table has of a student; the CSV has all
+const given = { files: [], tooLong: [], result: null, sort: 0, turn: 0 };
 const MARKS = { solved: '<b class="yes">✓</b>', wrong: '<b class="no" title="handed in, and wrong">✗</b>', none: "–" };
 const piece = (name) => part(`#in-${name}`);
 
@@ -10339,21 +10608,20 @@ const handInsHtml = () => `<section class="panel" id="handins"><h2>What they han
   <div id="in-table" class="scroll" tabindex="0" role="group" aria-label="what was handed in"></div>
   <p class="line" id="in-save" hidden><button class="primary" data-do="csv">Save as CSV</button><button class="quiet" data-do="clear">Clear</button></p></section>`;
 
-function tasksGiven() {
-  const link = piece("link").value.trim();
-  const parts = Object.fromEntries(new URLSearchParams(link.slice(link.indexOf("#") + 1)));
-  return "assignment" in parts ? tasksOf(parts).tasks : null;
-}
-
 async function check() {
-  if (given.files.length === 0) return;
+  const turn = ++given.turn; // what was begun before and is not done yet is not shown
+  if (given.files.length + given.tooLong.length === 0) return;
+  const link = piece("link").value.trim();
+  const assignment = link === "" ? null : assignmentOfLink(link);
+  if (assignment?.fault !== undefined) return showNothing(assignment.fault);
   Object.assign(piece("progress"), { hidden: false, max: 1, value: 0 });
   piece("told").textContent = `${given.files.length} files …`;
-  const tell = (value, max) => piece("progress") !== null && Object.assign(piece("progress"), { value, max });
-  given.result = await checkAll(given.files, tasksGiven(), tell);
-  if (piece("progress") === null) return; // another place was opened meanwhile
+  const isNow = () => turn === given.turn && piece("progress") !== null; // another place may be opened meanwhile
+  const result = await checkAll(given.files, assignment, (value, max) => isNow() && Object.assign(piece("progress"), { value, max }));
+  if (!isNow()) return;
   piece("progress").hidden = true;
-  drawResult(given.result);
+  given.result = result;
+  drawResult(result);
 }
 
 async function filesOf(entry) {
@@ -10369,7 +10637,7 @@ async function filesOf(entry) {
 
 async function take(found) {
   for (const { name, file } of found) {
-    if (file.size < MOST_BYTES) given.files.push({ name, text: await file.text() });
+    if (file.size < MOST_BYTES) given.files.push({ name, text: textOfBytes(new Uint8Array(await file.arrayBuffer())) });
     else given.tooLong.push(name);
   }
   await check();
@@ -10378,7 +10646,7 @@ async function take(found) {
 function beginHandIns() {
   const drop = piece("drop");
   piece("files").onchange = ({ target }) => take([...target.files].map((file) => ({ name: file.name, file })));
-  piece("link").onchange = check;
+  piece("link").oninput = check;
   drop.ondragover = (event) => {
     event.preventDefault();
     drop.classList.add("over");
@@ -10393,83 +10661,94 @@ function beginHandIns() {
   check();
 }
 
-function notesOf(row) {
-  const same = sameText(row);
-  const notes = [...(same === "" ? [] : [`same schedules as ${same}`]), ...row.notes];
+function takeLink(link) {
+  piece("link").value = link;
+  check();
+}
+
+function notesOf({ notes }) {
   const more = notes.length > MOST_NOTES ? ` … and ${notes.length - MOST_NOTES} more` : "";
   return `${escaped(notes.slice(0, MOST_NOTES).join("; "))}${more}`;
 }
 
 function drawRow(row, columns) {
-  const marks = columns.map((column) => markOf(row, column));
-  const cells = marks.map((mark) => `<td class="mark">${MARKS[mark]}</td>`).join("");
-  const count = marks.filter((mark) => mark === "solved").length;
-  return `<tr><th scope="row">${escaped(row.name)}</th><td>${escaped(row.number)}</td>${cells}
-    <td class="mark"><b>${count}</b></td><td class="notes">${notesOf(row)}</td></tr>`;
+  const cells = columns.map((column) => `<td class="mark">${MARKS[markOf(row, column)]}</td>`).join("");
+  return `<tr><th scope="row">${escaped(row.name)}</th><td>${escaped(row.number)}</td>${cells}<td class="mark"><b>${countOf(row, columns)}</b></td>
+    <td class="same">${escaped(copiesText(row))}</td><td class="notes">${notesOf(row)}</td></tr>`;
 }
 
-function drawResult({ rows, columns, empty }) {
-  const full = rows.filter(({ solved }) => columns.every(({ id }) => solved.has(id))).length;
-  const odd = [["Without a hand-in", empty], ["Too long", given.tooLong]].filter(([, names]) => names.length > 0);
-  const wrong = odd.map(([what, names]) => tag("span", { class: "odd" }, `${what}: ${escaped(names.join(", "))}.`)).join(" ");
+function sorted(rows, columns) {
+  const ofMark = { wrong: 0, none: 1, solved: 2 };
+  const values = (row) => [row.name, row.number, ...columns.map((column) => ofMark[markOf(row, column)]), countOf(row, columns),
+    -Math.max(0, ...row.copies.filter(({ isTold }) => isTold).map(({ count, of }) => count + count / of)), -row.notes.length];
+  const compared = (one, other) => (typeof one === "number" ? one - other : one.localeCompare(other, undefined, { numeric: true }));
+  return [...rows].sort((one, other) => compared(values(one)[given.sort], values(other)[given.sort]));
+}
+
+function drawResult({ rows, columns, empty, common }) {
+  const full = rows.filter((row) => countOf(row, columns) === columns.length).length;
+  const odd = [["Without a hand-in", empty], ["Too long", given.tooLong], ["Same schedules: left out, as many have them", common]];
+  const wrong = odd.filter(([, names]) => names.length > 0).map(([what, names]) => tag("span", { class: "odd" }, `${what}: ${escaped(names.join(", "))}.`));
   const merged = rows.reduce((sum, { files }) => sum + files.length - 1, 0);
   const files = `${counted(given.files.length + given.tooLong.length, "file")}: <b>${counted(rows.length, "student")}</b>`;
-  piece("told").innerHTML = `${files}, ${merged} merged, ${empty.length} without a hand-in. ${full} with all ${columns.length} tasks. ${wrong}`;
-  const heads = ["Student", "Number", ...columns.map(({ title }) => title), "Solved", "Notes"].map((name) => `<th scope="col">${escaped(name)}</th>`);
-  const body = rows.map((row) => drawRow(row, columns)).join("");
+  piece("told").innerHTML = `${files}, ${merged} merged, ${empty.length} without a hand-in. ${full} with all ${columns.length} tasks. ${wrong.join(" ")}`;
+  const head = (name, at) => tag("th", { scope: "col", ...(at === given.sort ? { "aria-sort": "ascending" } : {}) },
+    tag("button", { "data-do": "sort", "data-at": at }, escaped(name)));
+  const heads = ["Student", "Number", ...columns.map(({ title }) => title), "Solved", "Same schedules", "Notes"].map(head);
+  const body = sorted(rows, columns).map((row) => drawRow(row, columns)).join("");
   piece("table").innerHTML = `<table class="class"><thead><tr>${heads.join("")}</tr></thead><tbody>${body}</tbody></table>`;
   piece("save").hidden = false;
 }
 
+function showNothing(told) {
+  piece("table").innerHTML = "";
+  piece("told").textContent = told;
+  piece("save").hidden = piece("progress").hidden = true;
+}
+
 function clear() {
-  Object.assign(given, { files: [], tooLong: [], result: null });
-  for (const name of ["table", "told"]) piece(name).innerHTML = "";
-  piece("save").hidden = true;
+  Object.assign(given, { files: [], tooLong: [], result: null, turn: given.turn + 1 });
+  showNothing("");
   piece("files").value = "";
 }
 
-const handInDeeds = { csv: () => saveText("hand-ins.csv", `\ufeff${csvOf(given.result)}`, "text/csv"), clear };
-return { handInsHtml, beginHandIns, handInDeeds };
+const handInDeeds = {
+  csv: () => saveText("hand-ins.csv", csvOf(given.result), "text/csv"),
+  clear,
+  sort({ dataset }) {
+    given.sort = Number(dataset.at);
+    drawResult(given.result);
+    piece("table").querySelector(`[data-at="${dataset.at}"]`).focus();
+  },
+};
+return { handInsHtml, beginHandIns, takeLink, handInDeeds };
 })();
 
 // story/teach_view.js
 const $story_teach_view = (() => {
 const { LACKING } = $made_classics;
 const { LISTS } = $made_rows;
+const { LECTURE, slideAddress } = $data_lecture;
 const { BREAK_LEVELS } = $data_levels;
 const { escaped, listOptions, tag } = $run_markup;
 const { seedOf } = $run_address;
 const { linkTo } = $page_visit;
 const { QUESTIONS } = $story_ask;
 const { addressOfTasks, allLevels, bookCourse } = $story_assignment;
-const { beginHandIns, handInDeeds, handInsHtml } = $story_handins_view;
+const { beginHandIns, handInDeeds, handInsHtml, takeLink } = $story_handins_view;
 const { startAfresh } = $story_kept;
 const { copyText, head, part } = $story_scene;
-/** @type {[number, string, string, string][]} */
-const LECTURE = [
-  [4, "Lose a number", "#story=2&view=lecture", "No lock. Let the class call out A or B until a number is lost."],
-  [4, "One lock", "#story=3&view=lecture", "A has the lock and is stopped. How far does B get? Let the class guess, then press 1, 2 or 3."],
-  [5, "FineList: hand over hand", "#story=4&view=lecture", "A has locked 3 and 7. How far does B get now? Then let B follow A, node by node."],
-  [5, "A walk without locks", "#story=5&view=lecture", "Both lock what they change, and 5 gets lost all the same. Let the class find the order."],
-  [6, "Why a second walk", "#ask=stale-pred&view=lecture", "May A write? After the answer, press “And without this check?”: 5 is lost."],
-  [5, "LazyList: a mark", "#story=7&view=lecture", "B has marked 5, and its node is still in the chain. What may A answer?"],
-  [5, "In another thread’s step", "#ask=read-in-anothers-step&view=lecture", "A will answer false. When is that right? In a step of B."],
-  [3, "Who waits?", "#sides=coarse.lazy&quota=4&calls=0.add.5,1.contains.5&turns=0.0.0.0&view=lecture",
-    "Press B three times: LazyList has answered, CoarseList tries its lock."],
-  [5, "LockFreeList: compare-and-set", "#story=9&view=lecture", "Two removes of 5, no lock. Who comes first? Let the class decide, then step A and B."],
-  [3, "Everybody judges", "#seed=lazy.2.5.2.17&judge", "Write the link on the board. All get the same run, without its answers."],
-];
 const PANELS = { slides: "Lecture", embed: "Embed", homework: "Homework", handins: "Hand-ins", own: "Your own lessons" };
 
 function lectureHtml() {
-  const slide = ([minutes, title, href, says]) =>
-    tag("li", {}, tag("span", { class: "minutes" }, `${minutes}′`), `<div><b>${title}</b><p class="small">${says}</p></div>`,
-      tag("a", { class: "button", href, target: "_blank" }, "Open slide ↗"),
-      tag("button", { class: "quiet", "data-do": "link", "data-link": href }, "Copy link"));
+  const slide = ([minutes, title, _, says], at) =>
+    tag("li", {}, tag("span", { class: "minutes" }, `${minutes}′`), `<div><b>${at + 1}. ${title}</b><p class="small">${says}</p></div>`,
+      tag("a", { class: "button", href: slideAddress(at + 1) }, "Open slide"),
+      tag("button", { class: "quiet", "data-do": "link", "data-link": slideAddress(at + 1) }, "Copy link"));
   const sum = LECTURE.reduce((total, [minutes]) => total + minutes, 0);
   return `<section class="panel" id="slides"><h2>A lecture of ${sum} minutes</h2>
-    <p class="prose">Each link opens one slide, as large as the screen. A presenter’s keys and the arrows step; A and B let a thread go on; Escape
-    leads back. Ask the class first, then step.</p><ol class="plan">${LECTURE.map(slide).join("")}</ol></section>`;
+    <p class="prose">Each slide is as large as the screen. A presenter’s keys, the arrows and Space go on and back, through all of them; A and B
+    let a thread step; Escape leads back here. Ask the class first, then step.</p><ol class="plan">${LECTURE.map(slide).join("")}</ol></section>`;
 }
 
 const titleOf = (name) => QUESTIONS.find((item) => item.name === name).title;
@@ -10549,6 +10828,7 @@ function fill() {
   piece("count").textContent = count === 0 ? "Nothing is ticked yet." : `${count} task${count === 1 ? "" : "s"}`;
   piece("link").textContent = linkTo(address);
   piece("open").href = address;
+  if (count > 0) takeLink(linkTo(address));
   const item = (seed, at) => `<li><code>${seed}</code> <a href="#seed=${seed}" target="_blank">look</a>
     <button class="quiet small" data-do="drop" data-at="${at}" aria-label="leave out ${seed}">✕</button></li>`;
   piece("seeds").innerHTML = work.seeds.map(item).join("");
@@ -10647,7 +10927,8 @@ const { breakView } = $story_break_view;
 const { codeView } = $story_code_view;
 const { learnView } = $story_learn_view;
 const { pathView } = $story_path_view;
-const { isScene, leaveScene, listenToScene, pressInScene, renderScene, VIEWS } = $story_scene;
+const { isScene, leaveScene, listenToScene, renderScene, VIEWS } = $story_scene;
+const { goOnSlide, pressInScene } = $story_slide;
 const { teachView } = $story_teach_view;
 const EMPTY_TRACE = "listset-trace 1\nlist lazy\nthreads 2\nquota 4\nend\n";
 
@@ -10660,7 +10941,7 @@ const LISTEN = [listenToBar, listenToBench, listenToWork, listenToFiles, listenT
 
 function listen() {
   for (const begin of LISTEN) begin();
-  keysOf.scene = pressInScene;
+  Object.assign(keysOf, { scene: pressInScene, slide: goOnSlide });
   document.addEventListener("click", stopUnable, true);
   document.addEventListener("keydown", pressKey);
   window.addEventListener("resize", show);
@@ -10723,5 +11004,5 @@ if (typeof document !== "undefined") startPage(); // in node there is none
 return {  };
 })();
 
-return Object.assign({}, $made_rows, $made_classics, $run_trace, $run_schedule_text, $run_address, $run_markup, $run_state, $run_outcomes, $run_sentences, $draw_history, $draw_tables, $made_code, $draw_listing, $page_dom, $made_book, $engine_answers, $run_judged, $page_state, $page_now, $page_kept, $page_seen, $page_play, $data_levels, $run_broken, $page_visit, $made_traces, $engine_engine, $page_long_run, $page_work, $course_goal_words, $course_course_text, $course_lesson, $course_hand_in, $run_check_trace, $run_recorded, $page_files, $story_kept, $draw_glide, $draw_places, $draw_arrows, $draw_list, $story_code, $story_tale, $story_dock, $story_figure_parts, $story_live_run, $story_figure, $story_scene, $story_assignment, $activities_bench, $story_learning, $draw_judged, $activities_judging, $story_ask, $story_ask_more, $story_ask_branches, $activities_recorded, $activities_maps, $activities_courses, $run_sides, $activities_compare, $page_controls, $activities_open, $story_ask_view, $story_break_view, $story_code_view, $story_learn_view, $story_path, $story_path_parts, $story_path_view, $story_handins, $story_handins_view, $story_teach_view);
+return Object.assign({}, $data_lecture, $made_rows, $made_classics, $run_trace, $run_schedule_text, $run_address, $run_markup, $run_state, $run_outcomes, $run_sentences, $draw_history, $draw_tables, $made_code, $draw_listing, $page_dom, $made_book, $engine_answers, $run_judged, $page_state, $page_now, $page_kept, $page_seen, $page_play, $data_levels, $run_broken, $page_visit, $made_traces, $engine_engine, $page_long_run, $page_work, $course_goal_words, $course_course_text, $course_lesson, $course_hand_in, $run_check_trace, $run_recorded, $page_files, $story_kept, $draw_glide, $draw_places, $draw_arrows, $draw_list, $story_code, $story_tale, $story_dock, $story_figure_parts, $story_live_run, $story_figure, $story_scene, $story_assignment, $activities_bench, $story_learning, $draw_judged, $activities_judging, $story_ask, $story_ask_more, $story_ask_branches, $activities_recorded, $activities_maps, $activities_courses, $run_sides, $activities_compare, $page_controls, $activities_open, $story_ask_view, $story_break_view, $story_code_view, $story_learn_view, $story_path, $story_path_parts, $story_slide, $story_path_view, $story_handins, $story_handins_view, $story_teach_view);
 })();

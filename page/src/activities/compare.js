@@ -53,6 +53,7 @@ function begin({ given }) {
   sidesPart("slider").oninput = () => turnTo(Number(sidesPart("slider").value));
   Object.assign(shown, { sides: null, quota: Number(quota), figures: [] });
   beginSides(turns.split(".").filter((thread) => thread !== "").map(Number));
+  if (now.place.slide > 0) shown.at = 0; // a slide goes through its turns
 }
 
 function beginSides(turns = []) {
@@ -144,6 +145,12 @@ function press(event) {
   } else if (threadOfKey(event) in sides.program) turnOf(threadOfKey(event));
 }
 
+function goes(by) {
+  const isThere = shown.at + by >= 0 && shown.at + by <= shown.sides.turns.length;
+  if (isThere) turnTo(shown.at + by);
+  return isThere;
+}
+
 export const compareView = {
   kind: "compare",
   title: (place) => `${listsOf(place).map((kind) => LISTS[kind].name).join(" beside ")} · Why not just one lock?`,
@@ -152,6 +159,7 @@ export const compareView = {
   draw,
   end,
   press,
+  goes,
   deeds: {
     begin: () => beginSides(),
     copy: () => copyText(linkTo(addressOfSides()), "The link is copied."),

@@ -1,7 +1,7 @@
 // The figure of a question: its run, one of its branches, or a run of a list that lacks a check.
 import { BREAK_LEVELS } from "../data/levels.js";
 import { tag } from "../run/markup.js";
-import { now } from "../page/now.js";
+import { isLecture, now } from "../page/now.js";
 import { QUESTIONS } from "./ask.js";
 import { APPENDIX } from "./ask_more.js";
 import { Figure } from "./figure.js";
@@ -34,7 +34,12 @@ export function takeBranch({ lines, opening, lacks = null, isFree = false }) {
   }));
 }
 
-const operationsIn = ({ lines, rest }) => [...lines, ...rest].filter((line) => line.startsWith("begin")).map((line) => line.split(" ")[2]);
+// Whose code is shown: on a slide of the calls alone that are under way, so that it is larger.
+function operationsIn({ lines, rest }) {
+  const isOver = (line, at) => isLecture() && lines.slice(at).includes(`go ${line.split(" ")[1]} out`);
+  const shown = [...lines.filter((line, at) => !isOver(line, at)), ...rest];
+  return shown.filter((line) => line.startsWith("begin")).map((line) => line.split(" ")[2]);
+}
 
 function freshBox(isTimed) {
   const box = Object.assign(document.createElement("div"), { id: "figure", className: isTimed ? "timed" : "" });
@@ -103,7 +108,7 @@ export function withoutCheck(item) {
   if (known !== -1) return openBranch(known, true);
   const { lines = sameLines(item), opening } = item.without ?? {};
   setScene({ branches: [...branches, { name: "Without this check", lines, opening, lacks: item.lacks, isFixed: true }] });
-  openBranch(branches.length, true);
+  return openBranch(branches.length, true);
 }
 
 function sameLines({ list, opening, lines, rest, lacks }) {

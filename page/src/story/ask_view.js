@@ -1,11 +1,12 @@
 // Ask, then show: a run stops at its question; the reader says what comes; the run plays on, and the reply says why.
-import { now } from "../page/now.js";
+import { slideAddress } from "../data/lecture.js";
+import { isLecture, now } from "../page/now.js";
 import { QUESTIONS } from "./ask.js";
 import { ALL, CHECK_WORDS, drawBranches, goBack, isEmbed, itemOf, openBranch, seeAgain, takeBranch, talkOfBranch, whatIf, withoutCheck } from "./ask_branches.js";
 import { isNarrow } from "./figure_parts.js";
 import { keepStory, keptStory } from "./kept.js";
 import { LiveRun } from "./live_run.js";
-import { drawOn, FIGURE_AND_TALK, head, LIST_WORDS, numberOfKey, optionButtons, part, replyTo, scene, setScene, talk, threadOfKey } from "./scene.js";
+import { drawOn, FIGURE_AND_TALK, head, LIST_WORDS, numberOfKey, openScene, optionButtons, part, replyTo, scene, setScene, talk, threadOfKey } from "./scene.js";
 
 const here = () => itemOf(now.place);
 
@@ -21,7 +22,7 @@ function html(place) {
     <div id="branches" class="branches" hidden></div>${FIGURE_AND_TALK}</section>
     <footer class="foot">${isEmbed() ? "" : all}<span class="spread"></span>${isEmbed() ? out : ""}
     <button id="show-me" class="primary" data-do="show">${isNarrow() ? "Show me" : "I do not know: show me"}</button>
-    <a id="go-on" class="button quiet" href="#ask=${next.name}" ${isEmbed() ? "hidden" : ""}>Skip →</a></footer>`;
+    <a id="go-on" class="button quiet" href="${place.slide > 0 ? slideAddress(place.slide + 1) : `#ask=${next.name}`}" ${isEmbed() ? "hidden" : ""}>Skip →</a></footer>`;
 }
 
 function begin(place) {
@@ -41,10 +42,26 @@ async function guessed(index) {
   const asked = figure.run.count;
   figure.run = new LiveRun({ ...figure.spec, lines: now.scene.branches[0].lines });
   Object.assign(figure, { isOpen: true, isGuess: false });
-  await figure.show(asked);
+  const stop = isLecture() ? figure.run.endOfBit(asked) : figure.run.trace.total; // a lecturer goes on from the step that decides
+  await figure.show(asked, stop);
   if (scene.figure !== figure) return;
   setScene({ branches: [{ ...now.scene.branches[0], from: asked }] });
   openBranch(0);
+  scene.figure.moveTo(stop);
+}
+
+async function goes(by) {
+  const { figure } = scene;
+  const { stage, branches } = now.scene;
+  const { lacks } = here();
+  const { count, trace } = figure.run;
+  if (by < 0 && stage !== "guess") openScene(now.place);
+  else if (by < 0) return false;
+  else if (stage === "guess") await guessed(-1);
+  else if (count < trace.total) await figure.show(count);
+  else if (lacks !== undefined && !branches.some(({ isFixed }) => isFixed)) await withoutCheck(here());
+  else return false;
+  return true;
 }
 
 function talkOf({ stage, chosen, at, branches }) {
@@ -93,6 +110,7 @@ export const askView = {
   begin,
   draw,
   press,
+  goes,
   deeds: {
     answer: ({ dataset }) => guessed(Number(dataset.option)),
     show: () => guessed(-1),

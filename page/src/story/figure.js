@@ -1,4 +1,5 @@
 // A live figure: the list, a sentence, the code, and a button for each thread. Pressing a button lets that thread do its next bit.
+import { isSceneSlide } from "../page/now.js";
 import { momentAt } from "../run/sentences.js";
 import { drawFigure, frameOf, isNarrow, markLostNodes } from "./figure_parts.js";
 import { beginOwn, chooseCall, pressed } from "./dock.js";
@@ -28,6 +29,7 @@ export class Figure {
   isLost = false; // the nodes that are lost are lit
   hides = true; // of the history, what comes later
   wide = 0; // of the list, in pixels
+  tall = 0;
   stripWide = 0;
   scroll = 0;
   told = null;
@@ -47,7 +49,8 @@ export class Figure {
     box.addEventListener("click", (event) => pressed(this, event));
     box.addEventListener("input", ({ target }) => target.closest(".choose") !== null && chooseCall(this, target.closest("[data-thread]")));
     this.stretch = new ResizeObserver(() => {
-      if (this.part("list").clientWidth !== this.wide) requestAnimationFrame(() => this.isEnded || this.fit());
+      const { clientWidth, clientHeight } = this.part("list");
+      if (clientWidth !== this.wide || (isSceneSlide() && clientHeight !== this.tall)) requestAnimationFrame(() => this.isEnded || this.fit());
     });
     this.stretch.observe(this.part("list"));
     this.fit();
@@ -55,6 +58,7 @@ export class Figure {
 
   fit() {
     [this.wide, this.stripWide] = ["list", "strip"].map((name) => this.part(name).clientWidth);
+    this.tall = this.part("list").clientHeight;
     this.draw();
   }
 
@@ -115,9 +119,13 @@ export class Figure {
     if (!this.isEnded) this.onStep?.(this);
   }
 
-  // Shows the steps from a moment to the end of the run; another press meanwhile shows the end at once.
-  async show(from) {
-    const { total } = this.run.trace;
+  // Shows the steps from a moment to another; another press meanwhile shows the end at once.
+  show(from, total = this.run.trace.total) {
+    this.playing = this.showSteps(from, total);
+    return this.playing;
+  }
+
+  async showSteps(from, total) {
     this.isBusy = true;
     this.isHurried = false;
     tellBusy(true);

@@ -128,6 +128,16 @@ export class LiveRun extends ShownRun {
     return { steps, phase: phase === "unlock" && last?.answer === undefined ? "restart" : phase, waits: false, last };
   }
 
+  // The moment at which the bit ends that is made after this one.
+  endOfBit(count) {
+    this.moveTo(count);
+    const { thread, deed, changes } = this.trace.event(count + 1);
+    const isBegin = deed === "begin";
+    const begun = isBegin ? count + 1 : count;
+    const { steps } = this.chunk(this.trace, begun, isBegin ? changes.pc : this.state.threads[thread].pc);
+    return begun + steps;
+  }
+
   // How many steps lead a thread to where this is so, end its call, or lead to a lock for which it waits.
   stepsUntil(thread, isThere) {
     const { total } = this.trace;

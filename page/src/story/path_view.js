@@ -1,18 +1,20 @@
 // The path: one screen at a time, with Continue. A screen is done by a deed or by a guess; "Show me" makes the next deed of one way.
-import { now } from "../page/now.js";
+import { isLecture, now } from "../page/now.js";
 import { Figure } from "./figure.js";
 import { isNarrow } from "./figure_parts.js";
 import { keepStory, keptStory, startAfresh } from "./kept.js";
 import { SCREENS } from "./path.js";
 import { barHtml, dots, endHtml, GONE, HERO, LAST, welcome } from "./path_parts.js";
-import { drawLedger, drawOn, FIGURE_AND_TALK, head, numberOfKey, optionButtons, part, pressThread, replyTo, scene, setScene, takeFigure, talk } from "./scene.js";
+import { drawLedger, drawOn, FIGURE_AND_TALK, head, numberOfKey, openScene, optionButtons, part, pressThread, replyTo, scene, setScene, takeFigure, talk, threadOfKey } from "./scene.js";
+import { toSlide } from "./slide.js";
 
 const numberOf = ({ id }) => Math.max(1, Math.min(LAST, Number(id) || 1));
 const screenOf = (place) => SCREENS[numberOf(place) - 1] ?? null;
 const here = () => screenOf(now.place);
 const shown = { count: 0 }; // how many deeds of the way were shown
-const hashOf = (number) => `#story=${number}${now.place.view === "lecture" ? "&view=lecture" : ""}`;
+const hashOf = (number) => `#story=${number}${isLecture() ? "&view=lecture" : ""}`;
 const goTo = (number) => (location.hash = hashOf(number));
+const goBy = (by) => (now.place.slide > 0 ? toSlide(by) : goTo(numberOf(now.place) + by));
 
 function html(place) {
   const number = numberOf(place);
@@ -45,7 +47,7 @@ function talkOf(screen, { stage, chosen, note }) {
   if (stage === "guess") return asked(screen.ask) + optionButtons(screen.options.map(({ text }) => text));
   if (stage === "task" || stage === "again") return reply + asked(screen.task ?? screen.playTask, note);
   if (stage === "moment") return reply + asked(screen.then.task, note);
-  if (stage === "playing") return reply;
+  if (stage === "playing") return (isLecture() ? asked(screen.ask) : "") + reply;
   const after = screen.after === undefined ? "" : `<p class="small">${screen.after}</p>`;
   const ledger = screen.ledger ? drawLedger(scene.figure.run) : "";
   const isOther = screen.options !== undefined && !screen.options[chosen]?.right;
@@ -93,10 +95,25 @@ async function guessed(index) {
     return figure.set({ isOpen: true, hidesDock: false });
   }
   figure.set({ isOpen: true });
+  if (isLecture()) return playOn();
   await figure.act(screen.play);
+  if (scene.figure === figure) played(figure);
+}
+
+// On a slide a play goes on by presses, bit by bit.
+async function playOn() {
+  const { figure } = scene;
+  const { play } = here();
+  const [thread, many] = play[shown.count];
+  await figure.step(thread);
   if (scene.figure !== figure) return;
+  if (many !== "out" || figure.run.isIdle(thread)) shown.count++;
+  if (shown.count === play.length) played(figure);
+}
+
+function played(figure) {
   figure.set({ hidesDock: false });
-  if (screen.then === undefined) return done();
+  if (here().then === undefined) return done();
   setScene({ stage: "moment" });
   markContents(figure);
 }
@@ -134,7 +151,7 @@ function done() {
 
 // The next key goes on, where no other button has the focus.
 function focusOn() {
-  if (document.activeElement.closest("button, a, input, [tabindex='0']") === null) part("#go-on").focus({ preventScroll: true });
+  if (!isLecture() && document.activeElement.closest("button, a, input, [tabindex='0']") === null) part("#go-on").focus({ preventScroll: true });
 }
 
 // A run that shows why, in place of the reader's own.
@@ -152,7 +169,8 @@ async function showMe() {
   const screen = here();
   const { stage } = now.scene;
   if (figure.isBusy) figure.isHurried = true;
-  else if (stage === "guess") guessed(-1);
+  else if (stage === "guess") return guessed(-1);
+  else if (stage === "playing" && isLecture()) return playOn();
   else if (stage === "moment") pressedMoment("{}", 1);
   else if (stage === "again") {
     shown.count = 0;
@@ -161,7 +179,7 @@ async function showMe() {
     const way = [...screen.help.slice(shown.count), ...figure.shown.map((thread) => [thread])];
     const next = way.find(([thread]) => !isOver(thread));
     shown.count++;
-    if (next !== undefined) figure.step(next[0]);
+    if (next !== undefined) return figure.step(next[0]);
   }
 }
 
@@ -169,13 +187,37 @@ function press(event) {
   const number = numberOf(now.place);
   const { stage } = now.scene;
   if (event.key === "ArrowLeft" && number > 1) return goTo(number - 1);
-  if (["ArrowRight", "PageDown"].includes(event.key) && number < LAST) {
-    if (stage === "done") goTo(number + 1);
-    else if (now.place.view === "lecture") showMe();
-    return;
-  }
+  if (["ArrowRight", "PageDown"].includes(event.key) && number < LAST) return stage === "done" && goTo(number + 1);
   if (stage === "guess" && numberOfKey(event) !== -1 && numberOfKey(event) < here().options.length) guessed(numberOfKey(event));
-  else pressThread(event);
+  else {
+    if (isLecture() && stage === "guess" && here().playTask !== undefined && threadOfKey(event) !== -1) guessed(-1);
+    pressThread(event);
+  }
+}
+
+async function goes(by) {
+  const number = numberOf(now.place) + by;
+  if (by > 0 && now.scene.stage !== "done" && here() !== null) await showMe();
+  else if (by > 0 || !takeBack()) {
+    if (now.place.slide > 0 || number < 1 || number > LAST) return false;
+    goTo(number);
+  }
+  return true;
+}
+
+// Takes back the last press of a task, or the answer to a question; false at the start.
+function takeBack() {
+  const { figure } = scene;
+  const { stage } = now.scene;
+  const { play, ask } = here() ?? {};
+  if (figure === null || (figure.past.length === 0 && (ask === undefined || stage === "guess"))) return false;
+  if (play !== undefined || figure.past.length === 0) openScene(now.place);
+  else {
+    shown.count = Math.max(0, shown.count - 1);
+    if (stage === "done") setScene({ stage: "task" });
+    figure.undo();
+  }
+  return true;
 }
 
 export const pathView = {
@@ -186,12 +228,13 @@ export const pathView = {
   begin,
   draw,
   press,
+  goes,
   deeds: {
     answer: ({ dataset }) => guessed(Number(dataset.option)),
     show: showMe,
     why: showWhy,
-    on: () => goTo(numberOf(now.place) + 1),
-    back: () => goTo(numberOf(now.place) - 1),
+    on: () => goBy(1),
+    back: () => goBy(-1),
     afresh: startAfresh,
   },
 };
