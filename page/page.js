@@ -6969,10 +6969,8 @@ class LiveRun extends ShownRun {
   endOfBit(count) {
     this.moveTo(count);
     const { thread, deed, changes } = this.trace.event(count + 1);
-    const isBegin = deed === "begin";
-    const begun = isBegin ? count + 1 : count;
-    const { steps } = this.chunk(this.trace, begun, isBegin ? changes.pc : this.state.threads[thread].pc);
-    return begun + steps;
+    const [begun, row] = deed === "begin" ? [count + 1, changes.pc] : [count, this.state.threads[thread].pc];
+    return begun + this.chunk(this.trace, begun, row).steps;
   }
 
   stepsUntil(thread, isThere) {
@@ -7029,7 +7027,6 @@ class Figure {
   active = 0; // the thread that runs to a line of the code
   past = []; // what stood there before each deed
   isBusy = false; // steps are being shown
-  isActing = false; // and more of them will be
   isHurried = false;
   isEnded = false;
   isOpen = true; // the reader may step
@@ -7126,8 +7123,7 @@ class Figure {
   }
 
   show(from, total = this.run.trace.total) {
-    this.playing = this.showSteps(from, total);
-    return this.playing;
+    return (this.playing = this.showSteps(from, total));
   }
 
   async showSteps(from, total) {
@@ -7145,7 +7141,7 @@ class Figure {
       if (count < total) await sleep(BIT);
     }
     this.isBusy = false;
-    tellBusy(this.isActing);
+    tellBusy(false);
   }
 
   async replay(from = 0) {
@@ -7155,17 +7151,9 @@ class Figure {
     await this.show(from);
   }
 
-  async act(deeds) {
-    const { onStep } = this;
-    Object.assign(this, { onStep: null, isActing: true });
-    for (const [thread, many = 1] of deeds) {
-      for (let bit = 0; many === "out" ? bit === 0 || !this.run.isIdle(thread) : bit < many; bit++) {
-        if (this.isEnded) return;
-        await this.step(thread);
-        await sleep(wantsStill() ? 0 : BETWEEN);
-      }
-    }
-    Object.assign(this, { onStep, isActing: false });
+  async rest() {
+    tellBusy(true);
+    await sleep(wantsStill() ? 0 : BETWEEN);
     tellBusy(false);
   }
 
@@ -9363,7 +9351,7 @@ function openLink({ text, event, lacks, view = null }) {
 }
 
 function slideOf(hash) {
-  const [, number = "1"] = /^#lecture(?:=(.*))?$/.exec(hash) ?? [null, "0"];
+  const [, number = "1"] = /^#lecture(?:=(.*))?$/.exec(hash) ?? [null, `${1 + LECTURE.findIndex(([, , address]) => address === hash)}`];
   if (number === "0" || LECTURE[Number(number) - 1] !== undefined) return Number(number);
   throw new AddressFault(`the lecture has the slides 1 to ${LECTURE.length}, and no "${number.slice(0, 60)}"`);
 }
@@ -10152,18 +10140,14 @@ const { isLecture, now } = $page_now;
 const { goByHand } = $page_play;
 const { scene } = $story_scene;
 const queue = { last: Promise.resolve(), waiting: 0 };
-
-function hurry() {
-  if (scene.figure?.isBusy) scene.figure.isHurried = true;
-}
+const hurry = () => scene.figure?.isBusy && (scene.figure.isHurried = true);
 
 function inTurn(deed) {
   queue.waiting++;
   hurry();
   queue.last = queue.last.then(async () => {
-    queue.waiting--;
     const done = deed();
-    if (queue.waiting > 0) hurry();
+    if (--queue.waiting > 0) hurry();
     await done;
     await scene.figure?.playing;
     await new Promise((next) => setTimeout(next));
@@ -10174,7 +10158,7 @@ const pressInScene = (event) => (isLecture() ? inTurn(() => scene.view?.press?.(
 
 function toSlide(by) {
   const number = now.place.slide + by;
-  if (now.place.slide === 0 || number < 1 || number > LECTURE.length) return false;
+  if (now.place.slide === 0 || LECTURE[number - 1] === undefined) return false;
   const isThere = new Promise((done) => window.addEventListener("popstate", () => setTimeout(done), { once: true }));
   location.hash = slideAddress(number);
   return isThere;
@@ -10182,16 +10166,13 @@ function toSlide(by) {
 
 function goesOnStage(by) {
   const count = now.run.count + by;
-  if (count < 0 || count > now.run.trace.total) return false;
-  goByHand(count);
-  return true;
+  const isThere = count >= 0 && count <= now.run.trace.total;
+  if (isThere) goByHand(count);
+  return isThere;
 }
 
 const goOnSlide = (by) =>
-  inTurn(async () => {
-    const isGone = now.place.screen === "stage" ? goesOnStage(by) : await scene.view?.goes?.(by);
-    return isGone || toSlide(by);
-  });
+  inTurn(async () => (now.place.screen === "stage" ? goesOnStage(by) : await scene.view?.goes?.(by)) || toSlide(by));
 return { pressInScene, toSlide, goOnSlide };
 })();
 
@@ -10209,8 +10190,7 @@ const numberOf = ({ id }) => Math.max(1, Math.min(LAST, Number(id) || 1));
 const screenOf = (place) => SCREENS[numberOf(place) - 1] ?? null;
 const here = () => screenOf(now.place);
 const shown = { count: 0 }; // how many deeds of the way were shown
-const hashOf = (number) => `#story=${number}${isLecture() ? "&view=lecture" : ""}`;
-const goTo = (number) => (location.hash = hashOf(number));
+const goTo = (number) => (location.hash = `#story=${number}`);
 const goBy = (by) => (now.place.slide > 0 ? toSlide(by) : goTo(numberOf(now.place) + by));
 
 function html(place) {
@@ -10292,24 +10272,20 @@ async function guessed(index) {
     return figure.set({ isOpen: true, hidesDock: false });
   }
   figure.set({ isOpen: true });
-  if (isLecture()) return playOn();
-  await figure.act(screen.play);
-  if (scene.figure === figure) played(figure);
+  return playOn();
 }
 
 async function playOn() {
   const { figure } = scene;
-  const { play } = here();
+  const { play, then } = here();
   const [thread, many] = play[shown.count];
   await figure.step(thread);
+  if (!isLecture()) await figure.rest();
   if (scene.figure !== figure) return;
   if (many !== "out" || figure.run.isIdle(thread)) shown.count++;
-  if (shown.count === play.length) played(figure);
-}
-
-function played(figure) {
+  if (shown.count < play.length) return isLecture() || playOn();
   figure.set({ hidesDock: false });
-  if (here().then === undefined) return done();
+  if (then === undefined) return done();
   setScene({ stage: "moment" });
   markContents(figure);
 }
@@ -10390,12 +10366,8 @@ function press(event) {
 }
 
 async function goes(by) {
-  const number = numberOf(now.place) + by;
-  if (by > 0 && now.scene.stage !== "done" && here() !== null) await showMe();
-  else if (by > 0 || !takeBack()) {
-    if (now.place.slide > 0 || number < 1 || number > LAST) return false;
-    goTo(number);
-  }
+  if (by < 0 || now.scene.stage === "done" || here() === null) return by < 0 && takeBack();
+  await showMe();
   return true;
 }
 
@@ -10593,7 +10565,7 @@ const { assignmentOfLink, checkAll, copiesText, countOf, csvOf, markOf } = $stor
 const { part } = $story_scene;
 const MOST_BYTES = 2_000_000; // of a file
 const MOST_NOTES = 3; // that the table has of a student; the CSV has all
-const given = { files: [], tooLong: [], result: null, sort: 0, turn: 0 };
+const given = { files: [], tooLong: [], result: null, turn: 0 };
 const MARKS = { solved: '<b class="yes">✓</b>', wrong: '<b class="no" title="handed in, and wrong">✗</b>', none: "–" };
 const piece = (name) => part(`#in-${name}`);
 
@@ -10661,11 +10633,6 @@ function beginHandIns() {
   check();
 }
 
-function takeLink(link) {
-  piece("link").value = link;
-  check();
-}
-
 function notesOf({ notes }) {
   const more = notes.length > MOST_NOTES ? ` … and ${notes.length - MOST_NOTES} more` : "";
   return `${escaped(notes.slice(0, MOST_NOTES).join("; "))}${more}`;
@@ -10677,14 +10644,6 @@ function drawRow(row, columns) {
     <td class="same">${escaped(copiesText(row))}</td><td class="notes">${notesOf(row)}</td></tr>`;
 }
 
-function sorted(rows, columns) {
-  const ofMark = { wrong: 0, none: 1, solved: 2 };
-  const values = (row) => [row.name, row.number, ...columns.map((column) => ofMark[markOf(row, column)]), countOf(row, columns),
-    -Math.max(0, ...row.copies.filter(({ isTold }) => isTold).map(({ count, of }) => count + count / of)), -row.notes.length];
-  const compared = (one, other) => (typeof one === "number" ? one - other : one.localeCompare(other, undefined, { numeric: true }));
-  return [...rows].sort((one, other) => compared(values(one)[given.sort], values(other)[given.sort]));
-}
-
 function drawResult({ rows, columns, empty, common }) {
   const full = rows.filter((row) => countOf(row, columns) === columns.length).length;
   const odd = [["Without a hand-in", empty], ["Too long", given.tooLong], ["Same schedules: left out, as many have them", common]];
@@ -10692,10 +10651,9 @@ function drawResult({ rows, columns, empty, common }) {
   const merged = rows.reduce((sum, { files }) => sum + files.length - 1, 0);
   const files = `${counted(given.files.length + given.tooLong.length, "file")}: <b>${counted(rows.length, "student")}</b>`;
   piece("told").innerHTML = `${files}, ${merged} merged, ${empty.length} without a hand-in. ${full} with all ${columns.length} tasks. ${wrong.join(" ")}`;
-  const head = (name, at) => tag("th", { scope: "col", ...(at === given.sort ? { "aria-sort": "ascending" } : {}) },
-    tag("button", { "data-do": "sort", "data-at": at }, escaped(name)));
+  const head = (name, at) => tag("th", { scope: "col" }, tag("button", { "data-do": "sort", "data-at": at }, escaped(name)));
   const heads = ["Student", "Number", ...columns.map(({ title }) => title), "Solved", "Same schedules", "Notes"].map(head);
-  const body = sorted(rows, columns).map((row) => drawRow(row, columns)).join("");
+  const body = rows.map((row) => drawRow(row, columns)).join("");
   piece("table").innerHTML = `<table class="class"><thead><tr>${heads.join("")}</tr></thead><tbody>${body}</tbody></table>`;
   piece("save").hidden = false;
 }
@@ -10715,13 +10673,14 @@ function clear() {
 const handInDeeds = {
   csv: () => saveText("hand-ins.csv", csvOf(given.result), "text/csv"),
   clear,
-  sort({ dataset }) {
-    given.sort = Number(dataset.at);
-    drawResult(given.result);
-    piece("table").querySelector(`[data-at="${dataset.at}"]`).focus();
+  sort({ dataset: { at } }) {
+    const body = piece("table").querySelector("tbody");
+    const sign = at > given.result.columns.length + 2 ? -1 : 1; // of what is told most comes first
+    const compared = (one, other) => sign * one.cells[at].innerText.localeCompare(other.cells[at].innerText, undefined, { numeric: true });
+    body.append(...[...body.rows].sort(compared));
   },
 };
-return { handInsHtml, beginHandIns, takeLink, handInDeeds };
+return { handInsHtml, beginHandIns, handInDeeds };
 })();
 
 // story/teach_view.js
@@ -10735,7 +10694,7 @@ const { seedOf } = $run_address;
 const { linkTo } = $page_visit;
 const { QUESTIONS } = $story_ask;
 const { addressOfTasks, allLevels, bookCourse } = $story_assignment;
-const { beginHandIns, handInDeeds, handInsHtml, takeLink } = $story_handins_view;
+const { beginHandIns, handInDeeds, handInsHtml } = $story_handins_view;
 const { startAfresh } = $story_kept;
 const { copyText, head, part } = $story_scene;
 const PANELS = { slides: "Lecture", embed: "Embed", homework: "Homework", handins: "Hand-ins", own: "Your own lessons" };
@@ -10828,7 +10787,7 @@ function fill() {
   piece("count").textContent = count === 0 ? "Nothing is ticked yet." : `${count} task${count === 1 ? "" : "s"}`;
   piece("link").textContent = linkTo(address);
   piece("open").href = address;
-  if (count > 0) takeLink(linkTo(address));
+  if (count > 0) Object.assign(part("#in-link"), { value: linkTo(address) }).oninput?.(); // and the hand-ins are of this assignment
   const item = (seed, at) => `<li><code>${seed}</code> <a href="#seed=${seed}" target="_blank">look</a>
     <button class="quiet small" data-do="drop" data-at="${at}" aria-label="leave out ${seed}">✕</button></li>`;
   piece("seeds").innerHTML = work.seeds.map(item).join("");

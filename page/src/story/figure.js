@@ -20,7 +20,6 @@ export class Figure {
   active = 0; // the thread that runs to a line of the code
   past = []; // what stood there before each deed
   isBusy = false; // steps are being shown
-  isActing = false; // and more of them will be
   isHurried = false;
   isEnded = false;
   isOpen = true; // the reader may step
@@ -121,8 +120,7 @@ export class Figure {
 
   // Shows the steps from a moment to another; another press meanwhile shows the end at once.
   show(from, total = this.run.trace.total) {
-    this.playing = this.showSteps(from, total);
-    return this.playing;
+    return (this.playing = this.showSteps(from, total));
   }
 
   async showSteps(from, total) {
@@ -140,7 +138,7 @@ export class Figure {
       if (count < total) await sleep(BIT);
     }
     this.isBusy = false;
-    tellBusy(this.isActing);
+    tellBusy(false);
   }
 
   async replay(from = 0) {
@@ -150,18 +148,10 @@ export class Figure {
     await this.show(from);
   }
 
-  // Plays what a list of deeds makes: [thread] is its next bit, [thread, n] are n bits, [thread, "out"] is all of its call.
-  async act(deeds) {
-    const { onStep } = this;
-    Object.assign(this, { onStep: null, isActing: true });
-    for (const [thread, many = 1] of deeds) {
-      for (let bit = 0; many === "out" ? bit === 0 || !this.run.isIdle(thread) : bit < many; bit++) {
-        if (this.isEnded) return;
-        await this.step(thread);
-        await sleep(wantsStill() ? 0 : BETWEEN);
-      }
-    }
-    Object.assign(this, { onStep, isActing: false });
+  // Between two presses that the page makes.
+  async rest() {
+    tellBusy(true);
+    await sleep(wantsStill() ? 0 : BETWEEN);
     tellBusy(false);
   }
 

@@ -8,7 +8,7 @@ import { part } from "./scene.js";
 
 const MOST_BYTES = 2_000_000; // of a file
 const MOST_NOTES = 3; // that the table has of a student; the CSV has all
-const given = { files: [], tooLong: [], result: null, sort: 0, turn: 0 };
+const given = { files: [], tooLong: [], result: null, turn: 0 };
 const MARKS = { solved: '<b class="yes">✓</b>', wrong: '<b class="no" title="handed in, and wrong">✗</b>', none: "–" };
 const piece = (name) => part(`#in-${name}`);
 
@@ -76,12 +76,6 @@ export function beginHandIns() {
   check();
 }
 
-// The link that was just put together is that of the hand-ins too.
-export function takeLink(link) {
-  piece("link").value = link;
-  check();
-}
-
 function notesOf({ notes }) {
   const more = notes.length > MOST_NOTES ? ` … and ${notes.length - MOST_NOTES} more` : "";
   return `${escaped(notes.slice(0, MOST_NOTES).join("; "))}${more}`;
@@ -93,15 +87,6 @@ function drawRow(row, columns) {
     <td class="same">${escaped(copiesText(row))}</td><td class="notes">${notesOf(row)}</td></tr>`;
 }
 
-// By what the rows are put in order under each head: what is to be looked at comes first, and names where that is equal.
-function sorted(rows, columns) {
-  const ofMark = { wrong: 0, none: 1, solved: 2 };
-  const values = (row) => [row.name, row.number, ...columns.map((column) => ofMark[markOf(row, column)]), countOf(row, columns),
-    -Math.max(0, ...row.copies.filter(({ isTold }) => isTold).map(({ count, of }) => count + count / of)), -row.notes.length];
-  const compared = (one, other) => (typeof one === "number" ? one - other : one.localeCompare(other, undefined, { numeric: true }));
-  return [...rows].sort((one, other) => compared(values(one)[given.sort], values(other)[given.sort]));
-}
-
 function drawResult({ rows, columns, empty, common }) {
   const full = rows.filter((row) => countOf(row, columns) === columns.length).length;
   const odd = [["Without a hand-in", empty], ["Too long", given.tooLong], ["Same schedules: left out, as many have them", common]];
@@ -109,10 +94,9 @@ function drawResult({ rows, columns, empty, common }) {
   const merged = rows.reduce((sum, { files }) => sum + files.length - 1, 0);
   const files = `${counted(given.files.length + given.tooLong.length, "file")}: <b>${counted(rows.length, "student")}</b>`;
   piece("told").innerHTML = `${files}, ${merged} merged, ${empty.length} without a hand-in. ${full} with all ${columns.length} tasks. ${wrong.join(" ")}`;
-  const head = (name, at) => tag("th", { scope: "col", ...(at === given.sort ? { "aria-sort": "ascending" } : {}) },
-    tag("button", { "data-do": "sort", "data-at": at }, escaped(name)));
+  const head = (name, at) => tag("th", { scope: "col" }, tag("button", { "data-do": "sort", "data-at": at }, escaped(name)));
   const heads = ["Student", "Number", ...columns.map(({ title }) => title), "Solved", "Same schedules", "Notes"].map(head);
-  const body = sorted(rows, columns).map((row) => drawRow(row, columns)).join("");
+  const body = rows.map((row) => drawRow(row, columns)).join("");
   piece("table").innerHTML = `<table class="class"><thead><tr>${heads.join("")}</tr></thead><tbody>${body}</tbody></table>`;
   piece("save").hidden = false;
 }
@@ -132,9 +116,10 @@ function clear() {
 export const handInDeeds = {
   csv: () => saveText("hand-ins.csv", csvOf(given.result), "text/csv"),
   clear,
-  sort({ dataset }) {
-    given.sort = Number(dataset.at);
-    drawResult(given.result);
-    piece("table").querySelector(`[data-at="${dataset.at}"]`).focus();
+  sort({ dataset: { at } }) {
+    const body = piece("table").querySelector("tbody");
+    const sign = at > given.result.columns.length + 2 ? -1 : 1; // of what is told most comes first
+    const compared = (one, other) => sign * one.cells[at].innerText.localeCompare(other.cells[at].innerText, undefined, { numeric: true });
+    body.append(...[...body.rows].sort(compared));
   },
 };

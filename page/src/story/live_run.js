@@ -132,10 +132,8 @@ export class LiveRun extends ShownRun {
   endOfBit(count) {
     this.moveTo(count);
     const { thread, deed, changes } = this.trace.event(count + 1);
-    const isBegin = deed === "begin";
-    const begun = isBegin ? count + 1 : count;
-    const { steps } = this.chunk(this.trace, begun, isBegin ? changes.pc : this.state.threads[thread].pc);
-    return begun + steps;
+    const [begun, row] = deed === "begin" ? [count + 1, changes.pc] : [count, this.state.threads[thread].pc];
+    return begun + this.chunk(this.trace, begun, row).steps;
   }
 
   // How many steps lead a thread to where this is so, end its call, or lead to a lock for which it waits.

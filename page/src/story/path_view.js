@@ -12,8 +12,7 @@ const numberOf = ({ id }) => Math.max(1, Math.min(LAST, Number(id) || 1));
 const screenOf = (place) => SCREENS[numberOf(place) - 1] ?? null;
 const here = () => screenOf(now.place);
 const shown = { count: 0 }; // how many deeds of the way were shown
-const hashOf = (number) => `#story=${number}${isLecture() ? "&view=lecture" : ""}`;
-const goTo = (number) => (location.hash = hashOf(number));
+const goTo = (number) => (location.hash = `#story=${number}`);
 const goBy = (by) => (now.place.slide > 0 ? toSlide(by) : goTo(numberOf(now.place) + by));
 
 function html(place) {
@@ -95,25 +94,21 @@ async function guessed(index) {
     return figure.set({ isOpen: true, hidesDock: false });
   }
   figure.set({ isOpen: true });
-  if (isLecture()) return playOn();
-  await figure.act(screen.play);
-  if (scene.figure === figure) played(figure);
+  return playOn();
 }
 
-// On a slide a play goes on by presses, bit by bit.
+// The play of a screen, bit by bit: [thread] is one, [thread, "out"] are all of its call. On a slide each waits for a press.
 async function playOn() {
   const { figure } = scene;
-  const { play } = here();
+  const { play, then } = here();
   const [thread, many] = play[shown.count];
   await figure.step(thread);
+  if (!isLecture()) await figure.rest();
   if (scene.figure !== figure) return;
   if (many !== "out" || figure.run.isIdle(thread)) shown.count++;
-  if (shown.count === play.length) played(figure);
-}
-
-function played(figure) {
+  if (shown.count < play.length) return isLecture() || playOn();
   figure.set({ hidesDock: false });
-  if (here().then === undefined) return done();
+  if (then === undefined) return done();
   setScene({ stage: "moment" });
   markContents(figure);
 }
@@ -196,12 +191,8 @@ function press(event) {
 }
 
 async function goes(by) {
-  const number = numberOf(now.place) + by;
-  if (by > 0 && now.scene.stage !== "done" && here() !== null) await showMe();
-  else if (by > 0 || !takeBack()) {
-    if (now.place.slide > 0 || number < 1 || number > LAST) return false;
-    goTo(number);
-  }
+  if (by < 0 || now.scene.stage === "done" || here() === null) return by < 0 && takeBack();
+  await showMe();
   return true;
 }
 

@@ -5,19 +5,15 @@ import { goByHand } from "../page/play.js";
 import { scene } from "./scene.js";
 
 const queue = { last: Promise.resolve(), waiting: 0 };
-
-function hurry() {
-  if (scene.figure?.isBusy) scene.figure.isHurried = true;
-}
+const hurry = () => scene.figure?.isBusy && (scene.figure.isHurried = true);
 
 // What a key does comes after what the keys before it do, whose steps are shown at once then.
 function inTurn(deed) {
   queue.waiting++;
   hurry();
   queue.last = queue.last.then(async () => {
-    queue.waiting--;
     const done = deed();
-    if (queue.waiting > 0) hurry();
+    if (--queue.waiting > 0) hurry();
     await done;
     await scene.figure?.playing;
     await new Promise((next) => setTimeout(next));
@@ -26,10 +22,10 @@ function inTurn(deed) {
 
 export const pressInScene = (event) => (isLecture() ? inTurn(() => scene.view?.press?.(event)) : scene.view?.press?.(event));
 
-// The next slide, or the one before, once it is there; false where there is none.
+// The slide after this one or before it, once it is there; false where there is none.
 export function toSlide(by) {
   const number = now.place.slide + by;
-  if (now.place.slide === 0 || number < 1 || number > LECTURE.length) return false;
+  if (now.place.slide === 0 || LECTURE[number - 1] === undefined) return false;
   const isThere = new Promise((done) => window.addEventListener("popstate", () => setTimeout(done), { once: true }));
   location.hash = slideAddress(number);
   return isThere;
@@ -37,13 +33,10 @@ export function toSlide(by) {
 
 function goesOnStage(by) {
   const count = now.run.count + by;
-  if (count < 0 || count > now.run.trace.total) return false;
-  goByHand(count);
-  return true;
+  const isThere = count >= 0 && count <= now.run.trace.total;
+  if (isThere) goByHand(count);
+  return isThere;
 }
 
 export const goOnSlide = (by) =>
-  inTurn(async () => {
-    const isGone = now.place.screen === "stage" ? goesOnStage(by) : await scene.view?.goes?.(by);
-    return isGone || toSlide(by);
-  });
+  inTurn(async () => (now.place.screen === "stage" ? goesOnStage(by) : await scene.view?.goes?.(by)) || toSlide(by));

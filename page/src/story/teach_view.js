@@ -8,7 +8,7 @@ import { seedOf } from "../run/address.js";
 import { linkTo } from "../page/visit.js";
 import { QUESTIONS } from "./ask.js";
 import { addressOfTasks, allLevels, bookCourse } from "./assignment.js";
-import { beginHandIns, handInDeeds, handInsHtml, takeLink } from "./handins_view.js";
+import { beginHandIns, handInDeeds, handInsHtml } from "./handins_view.js";
 import { startAfresh } from "./kept.js";
 import { copyText, head, part } from "./scene.js";
 
@@ -103,7 +103,7 @@ function fill() {
   piece("count").textContent = count === 0 ? "Nothing is ticked yet." : `${count} task${count === 1 ? "" : "s"}`;
   piece("link").textContent = linkTo(address);
   piece("open").href = address;
-  if (count > 0) takeLink(linkTo(address));
+  if (count > 0) Object.assign(part("#in-link"), { value: linkTo(address) }).oninput?.(); // and the hand-ins are of this assignment
   const item = (seed, at) => `<li><code>${seed}</code> <a href="#seed=${seed}" target="_blank">look</a>
     <button class="quiet small" data-do="drop" data-at="${at}" aria-label="leave out ${seed}">✕</button></li>`;
   piece("seeds").innerHTML = work.seeds.map(item).join("");

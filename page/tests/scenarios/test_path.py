@@ -203,8 +203,9 @@ def test_a_slide_by_a_presenters_keys(visitor):
     for _ in range(8):
         visitor.press("PageDown")
         visitor.idle()
-    visitor.wait("return location.hash.startsWith('#story=3&view=lecture')")
+    visitor.wait("return location.hash.startsWith('#lecture=2')")
     visitor.press("Escape")
+    visitor.wait("return location.hash === '#teachers'")
     assert visitor.is_seen("#top")
 
 
