@@ -175,7 +175,7 @@ def test_a_slide_takes_every_key_and_stops_where_it_is_decided(visitor):
     visitor.open("#lecture=5")
     visitor.press("PageDown")
     visitor.revealed()
-    assert "has not met it" in visitor.text(".tale") and "No." in visitor.text(".why")
+    assert "pred is not in the list any more" in visitor.text(".tale") and "No." in visitor.text(".why")
     visitor.press("PageDown")
     visitor.wait("return document.querySelector('.tale').innerText.includes('answers true')")
 
