@@ -42,7 +42,7 @@ export class Figure {
     this.run = spec.run ?? new LiveRun(spec);
     this.shown = spec.shown ?? this.run.state.threads.map((_, thread) => thread);
     this.chosen = spec.chosen ?? {}; // of an idle thread, the call that stands in its fields
-    const isRoomy = (spec.isPath || spec.free) && spec.again !== false && !isNarrow();
+    const isRoomy = !isSceneSlide() && (spec.isPath || spec.free) && spec.again !== false && !isNarrow();
     this.most = { width: 0, height: isRoomy ? 270 + 18 * this.shown.length : 0 }; // room for a node that may come
     frameOf(this);
     box.addEventListener("click", (event) => pressed(this, event));

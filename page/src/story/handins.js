@@ -40,7 +40,8 @@ export async function checkAll(files, assignment, tellProgress = (_at, _of) => {
     if (index % 3 === 2) await new Promise((done) => setTimeout(done));
   }
   const rows = [...students.values()].sort((one, other) => one.name.localeCompare(other.name));
-  const columns = assignment?.tasks ?? columnsOf(rows, courses);
+  const ids = [...new Set(rows.flatMap(({ solved, wrong }) => [...solved.keys(), ...wrong]))].sort();
+  const columns = assignment?.tasks ?? ids.map((id) => ({ id, title: titleOf(id, courses) }));
   const common = noteCopies(rows);
   for (const row of rows) row.notes.unshift(...notesOnNames(row, rows));
   return { rows, columns, empty, common: common.map((task) => titleOf(task, courses)) };
@@ -92,12 +93,6 @@ function titleOf(task, courses) {
   return LISTS[list] === undefined ? task : `Judged: ${LISTS[list].name}, ${/event=(\d+)/.exec(name)?.[1] ?? "?"} events`;
 }
 
-function columnsOf(rows, courses) {
-  const ids = new Set(rows.flatMap(({ solved, wrong }) => [...solved.keys(), ...wrong]));
-  return [...ids].sort().map((id) => ({ id, title: titleOf(id, courses) }));
-}
-
-// What a row has of a task: solved, wrong, or nothing.
 export const markOf = ({ solved, wrong }, { id }) => (solved.has(id) ? "solved" : wrong.has(id) ? "wrong" : "none");
 export const countOf = ({ solved }, columns) => columns.filter(({ id }) => solved.has(id)).length;
 
@@ -105,11 +100,10 @@ function notesOnNames(row, rows) {
   const { name, number, files } = row;
   const same = rows.filter((other) => number !== "" && other.number === number).map((other) => other.name);
   const twins = rows.filter((other) => other.name.toLowerCase() === name.toLowerCase() && [number, other.number].includes(""));
-  return [
-    ...(files.length > 1 ? [`merged from ${files.join(", ")}`] : []),
-    ...(same.length > 1 ? [`two names for one number: ${same.join(", ")}`] : []),
-    ...(twins.length > 1 ? [`${twins.length} rows with this name, since a number is missing: ${twins.flatMap((one) => one.files).join(", ")}`] : []),
-  ];
+  const twinFiles = twins.flatMap((one) => one.files).join(", ");
+  const notes = [[files, `merged from ${files.join(", ")}`], [same, `two names for one number: ${same.join(", ")}`],
+    [twins, `${twins.length} rows with this name, since a number is missing: ${twinFiles}`]];
+  return notes.filter(([some]) => some.length > 1).map(([, note]) => note);
 }
 
 // Of each row with whom it shares schedules, to the byte: { count, of, isTold, rows }. Schedules that many have are no sign, and named; one

@@ -143,7 +143,8 @@ def test_the_lecture_goes_on_by_one_key(visitor):
     seen = slides[:1]
     for at in range(120):
         assert visitor.script("""return document.documentElement.scrollHeight <= innerHeight + 1
-            && [...document.querySelectorAll('.lines')].every((it) => it.scrollHeight <= it.clientHeight + 1)"""), visitor.hash
+            && [...document.querySelectorAll('.lines')].every((it) => it.scrollHeight <= it.clientHeight + 1
+            && it.getBoundingClientRect().bottom <= it.closest('.fig').getBoundingClientRect().bottom)"""), visitor.hash
         assert visitor.text("#leave").startswith(f"{len(seen)} of {len(slides)}")
         visitor.press("Space" if at % 2 else "PageDown")
         visitor.script("return new Promise((done) => setTimeout(done, 300))")
