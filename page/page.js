@@ -31,6 +31,7 @@ var listsets = (() => {
     BOOK_NAME: () => BOOK_NAME,
     BREAK_LEVELS: () => BREAK_LEVELS,
     CALL_WORDS: () => CALL_WORDS,
+    CHECK_WORDS: () => CHECK_WORDS,
     CLASSICS: () => CLASSICS,
     CLAUSES: () => CLAUSES,
     CODE: () => CODE,
@@ -58,6 +59,7 @@ var listsets = (() => {
     LARGE_MEMORY: () => LARGE_MEMORY,
     LAST: () => LAST2,
     LEAST_GAP: () => LEAST_GAP,
+    LECTURE: () => LECTURE,
     LEVELS: () => LEVELS,
     LINK_WIDTH: () => LINK_WIDTH,
     LISTS: () => LISTS,
@@ -119,6 +121,7 @@ var listsets = (() => {
     askLong: () => askLong,
     askNow: () => askNow,
     askView: () => askView,
+    assignmentOfLink: () => assignmentOfLink,
     assignmentView: () => assignmentView,
     barHtml: () => barHtml,
     beginHandIns: () => beginHandIns,
@@ -147,8 +150,10 @@ var listsets = (() => {
     conditionsOf: () => conditionsOf,
     contentsIn: () => contentsIn,
     copied: () => copied,
+    copiesText: () => copiesText,
     copyLink: () => copyLink,
     copyText: () => copyText,
+    countOf: () => countOf,
     counted: () => counted,
     courseAddress: () => courseAddress,
     courseOfAddress: () => courseOfAddress,
@@ -201,6 +206,7 @@ var listsets = (() => {
     glide: () => glide,
     goBack: () => goBack,
     goByHand: () => goByHand,
+    goOnSlide: () => goOnSlide,
     goTo: () => goTo,
     handInDeeds: () => handInDeeds,
     handInText: () => handInText,
@@ -218,6 +224,7 @@ var listsets = (() => {
     isExample: () => isExample,
     isFailed: () => isFailed,
     isJudging: () => isJudging,
+    isLecture: () => isLecture,
     isLock: () => isLock,
     isNamed: () => isNamed,
     isNarrow: () => isNarrow,
@@ -226,6 +233,7 @@ var listsets = (() => {
     isPointing: () => isPointing,
     isReached: () => isReached,
     isScene: () => isScene,
+    isSceneSlide: () => isSceneSlide,
     isSeed: () => isSeed,
     isTaskDone: () => isTaskDone,
     isText: () => isText,
@@ -341,7 +349,6 @@ var listsets = (() => {
     runOfText: () => runOfText,
     runWithOpening: () => runWithOpening,
     said: () => said,
-    sameText: () => sameText,
     savePicture: () => savePicture,
     saveText: () => saveText,
     scaleOf: () => scaleOf,
@@ -382,6 +389,7 @@ var listsets = (() => {
     showScrub: () => showScrub,
     showStrip: () => showStrip,
     signOf: () => signOf,
+    slideAddress: () => slideAddress,
     startAfresh: () => startAfresh,
     startOfLacking: () => startOfLacking,
     stateAtFirst: () => stateAtFirst,
@@ -406,6 +414,7 @@ var listsets = (() => {
     tellFault: () => tellFault,
     tellLine: () => tellLine,
     tellTrouble: () => tellTrouble,
+    textOfBytes: () => textOfBytes,
     textsIn: () => textsIn,
     textsOf: () => textsOf,
     threadOfKey: () => threadOfKey,
@@ -413,6 +422,7 @@ var listsets = (() => {
     titleIn: () => titleIn,
     titleOfAssignment: () => titleOfAssignment,
     titleOfScene: () => titleOfScene,
+    toSlide: () => toSlide,
     toggleKeys: () => toggleKeys,
     toggleLecture: () => toggleLecture,
     togglePlay: () => togglePlay,
@@ -887,7 +897,7 @@ var listsets = (() => {
     "  say That add has ended. Undo to where it is about to exchange the link of pred.",
     "",
     "lesson ceiling-in-anothers-step",
-    "title A ceiling in another thread's step",
+    "title ceiling(6) answers 9, and 7 is in the set",
     "list lock-free",
     "threads 2",
     "quota 4",
@@ -3173,6 +3183,32 @@ end
 `.slice(1)
   };
 
+  // src/data/lecture.js
+  var LECTURE = [
+    [4, "Lose a number", "#story=2&view=lecture", "No lock. Let the class call out A or B until a number is lost."],
+    [3, "One lock", "#story=3&view=lecture", "A has the lock and is stopped. How far does B get? Let the class guess."],
+    [5, "FineList: hand over hand", "#story=4&view=lecture", "A has locked 3 and 7. How far does B get now? Then B follows A, node by node."],
+    [5, "A walk without locks", "#story=5&view=lecture", "Both lock what they change, and 5 gets lost all the same. Let the class find the order."],
+    [5, "Why a second walk", "#ask=stale-pred&view=lecture", "May A write? Then the same on a list without this check: 5 is lost."],
+    [5, "LazyList: a mark", "#story=7&view=lecture", "B has marked 5, and its node is still in the chain. What does A answer?"],
+    [4, "In another thread’s step", "#ask=read-in-anothers-step&view=lecture", "A will answer false. When is that right? In a step of B."],
+    [
+      3,
+      "Who waits?",
+      "#sides=coarse.lazy&quota=4&calls=0.add.5,1.contains.5&turns=0.0.0.0.1.1.1&view=lecture",
+      "A is stopped after four turns. LazyList answers B all the same; in CoarseList B tries the lock."
+    ],
+    [4, "LockFreeList: compare-and-set", "#story=9&view=lecture", "Two removes of 5, no lock. Who comes first? Let the class decide, by A and B."],
+    [4, "Helping", "#ask=snip&view=lecture", "A has marked 5 and stops. Does B have to wait?"],
+    [
+      3,
+      "Everybody judges",
+      "#seed=lock-free.2.3.1.5&judge&view=lecture",
+      "Three calls in 17 events. All open this slide, by its short link on the board, and say what each call answers."
+    ]
+  ];
+  var slideAddress = (number) => `#lecture=${number}`;
+
   // src/run/trace.js
   var HEADER_LINES = 4;
   var NODE_REGISTERS = ["pred", "curr", "succ", "node"];
@@ -3494,8 +3530,9 @@ end
         throw new AddressFault(`the address has a part "${name}", which is none`);
       if (name in parts)
         throw new AddressFault(`the address has "${name}" twice`);
-      if (!ADDRESS_PARTS[name].test(value))
-        throw new AddressFault(`"${value.slice(0, 60)}" is no ${name} of an address`);
+      const bad = ADDRESS_PARTS[name].test(value) ? void 0 : value.split(",").find((one) => !ADDRESS_PARTS[name].test(one)) ?? value;
+      if (bad !== void 0)
+        throw new AddressFault(`"${bad.slice(0, 60)}" is no ${name} of an address`);
       parts[name] = value;
     }
     return parts;
@@ -3972,7 +4009,9 @@ end
       return { bar: 9, below: 1, mostRows: 1 };
     if (threads > 6)
       return { bar: 13, below: 4, mostRows: 1 };
-    return { bar: BAR, below: BELOW, mostRows: threads > 3 ? 2 : 3 };
+    if (threads > 2)
+      return { bar: 15, below: 3, mostRows: 2 };
+    return { bar: BAR, below: BELOW, mostRows: 3 };
   }
   function layLabels(threads, calls, itemOf3, room) {
     const places = /* @__PURE__ */ new Map();
@@ -4198,7 +4237,7 @@ end
   function nameOfContents({ lacks }) {
     if (lacks === null)
       return label({ class: "name", x: 6, y: 17 }, "set");
-    const lines = ["set as", "told"].map((words, line) => label({ class: "name", x: 2, y: 10 + 12 * line }, words));
+    const lines = ["by the", "answers"].map((words, line) => label({ class: "name", x: 0, y: 10 + 12 * line, style: "font-size:11px" }, words));
     return tag("g", {}, title(`${BY_POINTS}; the list may have other keys`), ...lines);
   }
   var BY_POINTS = "the set by the linearization points of the calls";
@@ -4211,7 +4250,7 @@ end
     const what = trace.lacks === null ? "the set" : BY_POINTS;
     const words = `${what} after event ${scale.count}: {${now2.keys.slice(0, 40).join(", ")}}`;
     const frame = { width: scale.width, height: 50, viewBox: `0 0 ${scale.width} 50`, role: "img", "aria-label": words };
-    return tag("svg", frame, nameOfContents(trace), ...parts, drawCursor(scale, 24), number, drawWindow(scale, trace.total, x));
+    return tag("svg", frame, nameOfContents(trace), drawCursor(scale, 24), ...parts, number, drawWindow(scale, trace.total, x));
   }
   function drawOrder(trace, count, hides = false) {
     const reached = trace.order.filter((call) => isReached(call, count));
@@ -4331,7 +4370,7 @@ end
     if (before === null)
       return;
     const same = [...box.querySelectorAll("button, select, input, a, [tabindex]")].find((part2) => keyOf(part2) === key);
-    (same ?? box.querySelector("button, a") ?? box).focus();
+    (same ?? box.querySelector("button:not([data-undo], [data-again]), a") ?? box).focus();
   }
   var setAble = (id, isAble) => byId(id).setAttribute("aria-disabled", String(!isAble));
   function setHidden(part2, isHidden, other) {
@@ -4590,7 +4629,7 @@ end
   var NO_TASK_YET = { kind: "own", id: "", work: "", begun: "" };
   var SCENE_AT_FIRST = { stage: "", chosen: null, note: "", text: "", hints: 0, at: 0, branches: [], wrong: [] };
   var stateAtFirst = () => ({
-    place: { activity: "watch", screen: "stage", id: "", given: {}, view: null },
+    place: { activity: "watch", screen: "stage", id: "", given: {}, view: null, slide: 0 },
     scene: SCENE_AT_FIRST,
     run: { text: "", trace: null, state: null, count: 0, lacks: null, source: "", isRun: false, faultLine: null },
     task: (
@@ -4607,7 +4646,7 @@ end
   var MAKES = {
     place: (state, { activity, screen, id = "", given: given2 = {} }) => ({ ...state, place: { ...state.place, activity, screen, id, given: given2 }, scene: SCENE_AT_FIRST }),
     scene: (state, { type, ...given2 }) => ({ ...state, scene: { ...state.scene, ...given2 } }),
-    view: (state, { view }) => ({ ...state, place: { ...state.place, view } }),
+    view: (state, { view, slide = 0 }) => ({ ...state, place: { ...state.place, view, slide } }),
     task: (state, { task, lacks = null }) => onStage({ ...state, task: { ...NO_TASK_YET, ...task }, run: { ...state.run, lacks }, exercise: null }),
     run: (state, { type, ...given2 }) => ({ ...state, run: { ...state.run, ...given2 } }),
     // A trace is there: the exercise was about the one before.
@@ -4630,7 +4669,7 @@ end
   }
   function entryOf({ place, task, exercise }) {
     const ofRun = place.screen === "stage" ? [task.kind, task.id, exercise !== null] : [place.id, JSON.stringify(place.given)];
-    return [place.activity, place.screen, place.view, ...ofRun].join("\n");
+    return [place.activity, place.screen, place.view, place.slide, ...ofRun].join("\n");
   }
 
   // src/page/now.js
@@ -4652,6 +4691,8 @@ end
     for (const deed of listeners[what])
       deed(...given2);
   }
+  var isLecture = () => now.place.view === "lecture";
+  var isSceneSlide = () => isLecture() && now.place.screen === "scene";
   var isJudging = () => now.exercise !== null;
   var hiddenOutcomes = () => isJudging() ? LEVELS[now.exercise.level].hidden : [];
   var exampleShown = () => exampleIn(now);
@@ -4837,7 +4878,7 @@ end
   }
   var placed = { key: "" };
   var services = { hasEngine: true };
-  var setView = (view) => change("view", { view });
+  var setView = (view, slide = 0) => change("view", { view, slide });
 
   // src/page/play.js
   var SPEEDS = { slow: 1600, medium: 700, fast: 200 };
@@ -4887,7 +4928,9 @@ end
       count += step;
     goByHand(count);
   }
-  var keysOf = { scene: (event) => event };
+  var keysOf = { scene: (event) => event, slide: (by) => by };
+  var WAYS = { PageDown: 1, ArrowRight: 1, ArrowDown: 1, " ": 1, PageUp: -1, ArrowLeft: -1, ArrowUp: -1 };
+  var isPress = ({ key, target }) => key === " " && target.matches(":is(button, a, summary):focus-visible");
   function pressKey(event) {
     if (/^(TEXTAREA|INPUT|SELECT)$/.test(event.target.tagName) && event.target.id !== "slider")
       return;
@@ -4895,11 +4938,16 @@ end
       return;
     if (event.key === "Escape" && now.place.view !== null)
       return toggleLecture();
+    if (isLecture() && event.key in WAYS && !isPress(event)) {
+      event.preventDefault();
+      if (document.activeElement.matches("button"))
+        document.activeElement.blur();
+      return keysOf.slide(WAYS[event.key]);
+    }
     if (now.place.screen === "scene")
       return keysOf.scene(event);
     const { total } = now.run.trace;
-    const far = now.place.view === "lecture" ? 1 : 10;
-    const steps = { ArrowRight: 1, ArrowLeft: -1, PageDown: far, PageUp: -far, Home: -total, End: total };
+    const steps = { ArrowRight: 1, ArrowLeft: -1, PageDown: 10, PageUp: -10, Home: -total, End: total };
     if (event.key in steps) {
       event.preventDefault();
       if (event.shiftKey && event.key.startsWith("Arrow"))
@@ -4917,6 +4965,8 @@ end
     byId("keys").setAttribute("aria-expanded", String(!byId("key-help").hidden));
   }
   function toggleLecture() {
+    if (now.place.slide > 0)
+      return void (location.hash = "#teachers");
     const isLeft = document.activeElement === byId("leave");
     setView(now.place.view === null ? "lecture" : null);
     show();
@@ -4956,7 +5006,7 @@ end
       },
       start: [["remove", 3], ["remove", 3]],
       shortest: [14, 2],
-      missing: [{ row: 9, part: "no mark" }]
+      missing: [{ row: 9, part: "unmarked" }]
     },
     mark: {
       story: "Removing a node is one compare-and-set here. Fast. Too fast?",
@@ -4972,7 +5022,7 @@ end
       },
       start: [["add", 5], ["remove", 3]],
       shortest: [15, 2],
-      missing: [{ row: 9, part: "CAS curr.next: succ, no mark → mark" }]
+      missing: [{ row: 9, part: "CAS curr.next: succ unmarked → marked" }]
     },
     "new-slot": {
       story: "Each key that is added needs a node of its own. Does it get one?",
@@ -5064,7 +5114,7 @@ end
       },
       start: [["add", 5], ["remove", 3]],
       shortest: [17, 2],
-      missing: [{ row: 7, part: "no mark" }]
+      missing: [{ row: 7, part: "unmarked" }]
     },
     "same-node": {
       story: "The second walk looks for pred. It meets something that looks like it.",
@@ -5288,6 +5338,8 @@ end
   };
   function addressIn(state, given2) {
     const { place, task, run, exercise } = state;
+    if (place.slide > 0)
+      return slideAddress(place.slide);
     const view = place.view === null ? "" : `&view=${place.view}`;
     if (place.screen === "scene")
       return (ADDRESSES[place.activity] ?? plainAddress)(place, state.scene, given2) + view;
@@ -6069,9 +6121,14 @@ onmessage = ({ data: { module, name, given } }) => {
 
   // src/course/hand_in.js
   var HAND_IN_TITLE = "listset-lessons 2";
-  function handInText(course, student, solutions, otherLines) {
+  function handInText(course, student, solutions, otherLines, assignment = null) {
     const lines = solutions.map(({ name, schedule }) => `${name} ${addressOf(schedule, eventsAsked(schedule))}`);
-    return [HAND_IN_TITLE, `course ${course}`, `student ${student}`, ...lines, ...otherLines, "end", ""].join("\n");
+    const title2 = assignment === null ? [] : [`assignment ${assignment}`];
+    return [HAND_IN_TITLE, `course ${course}`, ...title2, `student ${student}`, ...lines, ...otherLines, "end", ""].join("\n");
+  }
+  function textOfBytes(bytes) {
+    const coding = { 65279: "utf-16be", 65534: "utf-16le" }[bytes[0] << 8 | bytes[1]] ?? "utf-8";
+    return new TextDecoder(coding).decode(bytes);
   }
   function unmailed(text) {
     const isCoded = /=3D/i.test(text);
@@ -6111,8 +6168,8 @@ onmessage = ({ data: { module, name, given } }) => {
     }
     return found;
   }
-  var isBegin = (line) => /^(student|course|judge|break) /.test(line) || /^[a-z][a-z0-9-]* +(\S*#|<?https?:)/.test(line);
-  var lacksWords = (line) => /^judge /.test(line) ? line.split(" ").length < 4 : !/^(student|course) /.test(line) && !line.includes("#");
+  var isBegin = (line) => /^(student|course|assignment|judge|break) /.test(line) || /^[a-z][a-z0-9-]* +(\S*#|<?https?:)/.test(line);
+  var lacksWords = (line) => /^judge /.test(line) ? line.split(" ").length < 4 : !/^(student|course|assignment) /.test(line) && !line.includes("#");
   var isPiece = (line) => !line.includes(" ") || /^\S*[.,=&]\S* /.test(line);
   function readHandIn({ lines, isEnded, number }) {
     const parts = [];
@@ -6132,8 +6189,8 @@ onmessage = ({ data: { module, name, given } }) => {
     const valueOf = (word) => parts.find(({ line }) => line.startsWith(`${word} `))?.line.slice(word.length + 1) ?? null;
     if (!isEnded)
       faults.push({ line: number, fault: 'the text is cut: the line "end" is missing' });
-    const solutions = parts.filter(({ line }) => !/^(student|course) /.test(line));
-    return { course: valueOf("course"), student: valueOf("student"), solutions, faults };
+    const solutions = parts.filter(({ line }) => !/^(student|course|assignment) /.test(line));
+    return { course: valueOf("course"), assignment: valueOf("assignment"), student: valueOf("student"), solutions, faults };
   }
   function readSchedule(link) {
     try {
@@ -6366,7 +6423,7 @@ end
   function onFile(input, take2) {
     input.onchange = async () => {
       const [file] = input.files;
-      await take2(await file.text(), file.name);
+      await take2(textOfBytes(new Uint8Array(await file.arrayBuffer())), file.name);
       input.value = "";
     };
   }
@@ -6766,7 +6823,7 @@ end
     const { shown: shown4, more } = nodesAside(state, chain, important);
     const rooms = roomsUnder(state, items, shown4, shape);
     const lanesUnder = (labels2, row) => Math.max(0, ...labels2.filter((own) => own.row === row).map((own) => own.lane + 1));
-    const below = TOP + NODE_HEIGHT + 18 * lanesUnder(pointerLabels(pointers, places, rooms), TOP) + 62;
+    const below = TOP + NODE_HEIGHT + 18 * lanesUnder(pointerLabels(pointers, places, rooms), TOP) + 54;
     const right = placeAside(state, chain, shown4, places, below);
     const labels = pointerLabels(pointers, places, rooms);
     const bottom = shown4.length > 0 ? below : TOP;
@@ -6945,7 +7002,7 @@ end
   }
 
   // src/story/code.js
-  var WORDS2 = /\b(while|if|else|return|start again|loop|until|unlock|lock|find|validate|CAS|mark|new)\b/g;
+  var WORDS2 = /\b(while|if|else|return|start again|loop|until|unlock|lock|find|validate|CAS|new)\b/g;
   function linesShown({ list, operations, plain, hides = [], instead = {} }) {
     const isShown3 = ({ of, rows = [0] }) => (of === void 0 || of.some((name) => operations.includes(name))) && !rows.every((row) => hides.includes(row));
     const lines = BOOK_CODE[list].filter(isShown3).map((line) => ({ ...line, text: instead[line.rows?.[0]] ?? line.text }));
@@ -7006,9 +7063,9 @@ end
       { of: ["add"], text: "add, if curr.key ≠ key:" },
       { of: ["add"], text: "    node = new Node(key, next = curr)", rows: [5, 6] },
       { of: ["add"], text: "    pred.next = node", rows: [7] },
-      { of: ["remove"], text: "remove, if curr.key = key:" },
+      { of: ["remove"], text: "remove, if curr.key == key:" },
       { of: ["remove"], text: "    pred.next = curr.next", rows: [8, 9] },
-      { of: ["contains"], text: "contains: true if curr.key = key" },
+      { of: ["contains"], text: "contains: return curr.key == key" },
       { text: "unlock the list; return", rows: [10] }
     ],
     fine: [
@@ -7021,9 +7078,9 @@ end
       { of: ["add"], text: "add, if curr.key ≠ key:" },
       { of: ["add"], text: "    node = new Node(key, next = curr)", rows: [7, 8] },
       { of: ["add"], text: "    pred.next = node", rows: [9] },
-      { of: ["remove"], text: "remove, if curr.key = key:" },
+      { of: ["remove"], text: "remove, if curr.key == key:" },
       { of: ["remove"], text: "    pred.next = curr.next", rows: [10, 11] },
-      { of: ["contains"], text: "contains: true if curr.key = key" },
+      { of: ["contains"], text: "contains: return curr.key == key" },
       { text: "unlock curr; unlock pred; return", rows: [12, 13] }
     ],
     optimistic: [
@@ -7033,13 +7090,13 @@ end
       { text: "lock pred; lock curr", rows: [4, 5] },
       { text: "validate: walk from the head again", rows: [6] },
       { text: "    until pred is met, else not valid", rows: [7] },
-      { text: "    pred.next = curr? else not valid", rows: [8] },
+      { text: "    pred.next == curr, else not valid", rows: [8] },
       { of: ["add"], text: "add, if curr.key ≠ key:" },
       { of: ["add"], text: "    node = new Node(key, next = curr)", rows: [9, 10] },
       { of: ["add"], text: "    pred.next = node", rows: [11] },
-      { of: ["remove"], text: "remove, if curr.key = key:" },
+      { of: ["remove"], text: "remove, if curr.key == key:" },
       { of: ["remove"], text: "    pred.next = curr.next", rows: [12, 13] },
-      { of: ["contains"], text: "contains: true if curr.key = key" },
+      { of: ["contains"], text: "contains: return curr.key == key" },
       { text: "unlock pred; unlock curr", rows: [14, 15] },
       { text: "if not valid: start again; return", isPlain: true }
     ],
@@ -7053,7 +7110,7 @@ end
       { of: ["add"], text: "add, if curr.key ≠ key:" },
       { of: ["add"], text: "    node = new Node(key, next = curr)", rows: [8, 9] },
       { of: ["add"], text: "    pred.next = node", rows: [10] },
-      { of: ["remove"], text: "remove, if curr.key = key:" },
+      { of: ["remove"], text: "remove, if curr.key == key:" },
       { of: ["remove"], text: "    mark curr", rows: [11] },
       { of: ["remove"], text: "    pred.next = curr.next", rows: [12] },
       { of: CHANGES2, text: "unlock curr; unlock pred", rows: [13, 14] },
@@ -7063,17 +7120,18 @@ end
     "lock-free": [
       { of: CHANGES2, text: "find: pred = head; curr = pred.next", rows: [1] },
       { of: CHANGES2, text: "    succ, marked = curr.next", rows: [2] },
-      { of: CHANGES2, text: "    marked? CAS pred.next: curr → succ", rows: [3] },
+      { of: CHANGES2, text: "    if marked: CAS pred.next: curr → succ", rows: [3] },
+      { of: CHANGES2, text: "        else start again", isPlain: true },
       { of: CHANGES2, text: "    if curr.key < key: go one node on", rows: [4] },
       { of: ["add"], text: "add, if curr.key ≠ key:" },
       { of: ["add"], text: "    node = new Node(key, next = curr)", rows: [5, 6] },
-      { of: ["add"], text: "    CAS pred.next: curr, no mark → node", rows: [7] },
+      { of: ["add"], text: "    CAS pred.next: curr unmarked → node", rows: [7] },
       { of: ["add"], text: "    else start again", isPlain: true },
-      { of: ["remove"], text: "remove, if curr.key = key:" },
+      { of: ["remove"], text: "remove, if curr.key == key:" },
       { of: ["remove"], text: "    succ = curr.next", rows: [8] },
-      { of: ["remove"], text: "    CAS curr.next: succ, no mark → mark", rows: [9] },
+      { of: ["remove"], text: "    CAS curr.next: succ unmarked → marked", rows: [9] },
       { of: ["remove"], text: "    else start again", isPlain: true },
-      { of: ["remove"], text: "    CAS pred.next: curr → succ, once", rows: [10] },
+      { of: ["remove"], text: "    CAS pred.next: curr → succ", rows: [10] },
       ...READS
     ]
   };
@@ -7151,14 +7209,15 @@ end
     answer: () => "answer",
     lock: () => "take the lock",
     unlock: () => "let go, and answer",
+    restart: () => "let go, and start again",
     first: () => "lock the head",
     next: () => "lock the next node",
-    letgo: () => "let go of the one behind",
+    letgo: () => "let go of pred",
     locks: () => "lock pred and curr",
-    again: () => "look once more",
+    again: () => "look again",
     check: () => "look at the marks",
     mark: ({ key }) => `mark ${key}: removed`,
-    tidy: ({ key }) => `take ${key} out of the chain`,
+    tidy: ({ key }) => `take ${key} out`,
     look: () => "look at the mark",
     snip: () => "take the marked node out",
     swing: ({ key }) => `try to hang ${key} in`,
@@ -7217,7 +7276,7 @@ end
   function keyTold(event, owner, key, phase, held2) {
     if (phase === "again") {
       if (held2.pc === 14 && held2.reply === "none")
-        return `is past the place of its pred, and has not met it: ${bold("pred is not in the list any more.")} It lets go and starts again.`;
+        return `is past the place of its pred: ${bold("pred is not in the list any more.")} It starts again.`;
       return held2.node === held2.pred ? "meets its pred: it is still in the list." : "walks on: this is not its pred.";
     }
     if (owner === "tail")
@@ -7303,22 +7362,22 @@ end
       return spec.free ? chooser(figure, thread, own) : restOf(run, thread, own.at(-1));
     const call = isIdle ? { operation: next[0], key: next[1] } : own.at(-1);
     const plan = run.nextOf(thread, next);
-    const words = spec.words?.[plan.phase] ?? phaseText(plan.phase, call);
+    const waits = plan.waitsFor !== null;
+    const words = waits ? `waits for ${letterOf(plan.waitsFor)}` : spec.words?.[plan.phase] ?? phaseText(plan.phase, call);
     const key = letterOf(thread).toLowerCase();
-    const given2 = { class: "step", "data-step": thread, "aria-keyshortcuts": key, ...figure.isOpen ? {} : { disabled: "" } };
-    const button = tag("button", given2, words, `<kbd aria-hidden="true">${key}</kbd>`);
-    const waits = plan.waits && plan.steps === 1 ? '<span class="waits">has to wait</span>' : "";
-    return threadRow2(thread, `<code>${callText(call)}</code> ${button} ${waits}`);
+    const given2 = { class: "step", "data-step": thread, "aria-keyshortcuts": key, ...waits ? { "aria-disabled": "true" } : {} };
+    const button = tag("button", { ...given2, ...figure.isOpen ? {} : { disabled: "" } }, words, `<kbd aria-hidden="true">${key}</kbd>`);
+    return threadRow2(thread, button, callText(call));
   }
-  function threadRow2(thread, inside) {
+  function threadRow2(thread, inside, call = "") {
     const given2 = { class: `thread ${colourOf(thread)}`, "data-thread": thread, role: "group", "aria-label": `thread ${letterOf(thread)}` };
-    return tag("div", given2, chipOf(thread), " ", inside);
+    return tag("div", given2, tag("span", { class: "own" }, chipOf(thread), call === "" ? "" : ` <code>${call}</code>`), " ", inside);
   }
   function restOf(run, thread, last) {
     if (last === void 0)
       return threadRow2(thread, "");
     const reply = last.ended !== null && run.count >= last.ended ? `<b class="reply ${last.reply}">${answerText(last.reply)}</b>` : "";
-    return threadRow2(thread, `<code>${callText(last)}</code> <span class="does">${reply}</span>`);
+    return threadRow2(thread, `<span class="does">${reply}</span>`, callText(last));
   }
   function chooser(figure, thread, own) {
     const last = own.at(-1);
@@ -7328,7 +7387,7 @@ end
     const letter = letterOf(thread);
     const field = { type: "number", min: 0, max: 999, value: key, "data-key": thread, "aria-label": `number of ${letter}’s call` };
     const fields = tag("select", { "data-call": thread, "aria-label": `call of ${letter}` }, ...options) + tag("input", field);
-    const reply = last === void 0 ? "" : `<small>${callText(last)}: <b class="reply ${last.reply}">${answerText(last.reply)}</b></small>`;
+    const reply = last === void 0 ? "" : `<small>${callText(last)}:<br><b class="reply ${last.reply}">${answerText(last.reply)}</b></small>`;
     return threadRow2(thread, `<span class="choose">${fields}<button data-begin="${thread}">begin</button></span> ${reply}`);
   }
   function showStrip(figure) {
@@ -7338,8 +7397,9 @@ end
     const scale = scaleOf(run.trace, run.count, wide - room, figure.hides);
     Object.assign(scale, { edge: scale.edge + room, width: wide });
     figure.scale = scale;
-    setHtml(figure.part("strip"), tag("div", { class: "calls" }, drawCalls(run.trace, scale)) + drawContents(run.trace, scale));
+    setHtml(figure.part("strip"), tag("div", { class: "calls" }, drawCalls(run.trace, scale)) + drawContents(run.trace, scale) + LEGEND);
   }
+  var LEGEND = '<p class="small legend">● changes the set · ○ here its answer is right first</p>';
   var MOST_CALLS = 400;
   function scrollToLane(figure) {
     const { run, scale } = figure;
@@ -7427,9 +7487,10 @@ end
   var MOST_HEIGHT = 0.4;
   var NARROW2 = "(max-width: 760px)";
   var isNarrow = () => matchMedia(NARROW2).matches;
-  var codeBox = ({ codeTitle, codeNote = "" }) => `<details class="codebox" ${isNarrow() ? "" : "open"}><summary><b>${codeTitle}</b></summary>
+  var CAS = "CAS x: a → b makes x point to b, if it still points to a. succ is the node after curr.";
+  var codeBox = ({ list, codeTitle, codeNote = "" }) => `<details class="codebox" ${isNarrow() ? "" : "open"}><summary><b>${codeTitle}</b></summary>
     <p class="small code-note" ${codeNote === "" ? "hidden" : ""}>${codeNote}</p><span class="runs"></span><div class="lines"></div>
-    <p class="small hint">A letter stands at its thread’s next line. Press the line to step, another one to run there.</p></details>`;
+    <p class="small hint">${list === "lock-free" ? CAS : "A letter stands at its thread’s next line. Press the line to step, another one to run there."}</p></details>`;
   function frameOf({ box, spec }) {
     box.innerHTML = `<div class="stage"><div class="list" tabindex="0" role="group" aria-label="the list"></div>
     <p class="tale" aria-live="polite"></p><div class="strip"></div><div class="scrub"></div><div class="dock"></div></div>
@@ -7462,6 +7523,8 @@ end
     figure.scroll = requestAnimationFrame(() => {
       if (figure.isEnded)
         return;
+      if (isSceneSlide())
+        fitCode(figure.part("lines"));
       scrollToTouched(figure);
       scrollToLit(figure, moved);
       if (figure.spec.strip)
@@ -7489,7 +7552,7 @@ end
     const shape = shapeFor(room);
     const list = arranged(state, event, shape);
     most.height = Math.max(most.height, list.height);
-    most.width = Math.max(most.width, list.width, (spec.roomFor ?? 0) * shape.share);
+    most.width = Math.max(most.width, list.width, (isSceneSlide() ? 0 : spec.roomFor ?? 0) * shape.share);
     const draw6 = () => {
       box.innerHTML = drawList(state, event, list, most.height, id);
       const svg = box.firstElementChild;
@@ -7506,10 +7569,11 @@ end
     };
     glide(box, draw6, isNear);
   }
-  function fitList({ spec, most: { width } }, svg, room, own) {
+  function fitList({ spec, tall: left, most: { width } }, svg, room, own) {
     const [, top, , high] = svg.getAttribute("viewBox").split(" ").map(Number);
-    const tall = Math.max(innerHeight * (spec.high ?? MOST_HEIGHT), spec.least ?? 180);
-    const scale = Math.max(0.5, Math.min(MOST_SCALE, (room - 4) / width, tall / high));
+    const tall = isSceneSlide() ? left : Math.max(innerHeight * (spec.high ?? MOST_HEIGHT), spec.least ?? 180);
+    const [least, most] = isSceneSlide() ? [0.1, Infinity] : [0.5, MOST_SCALE];
+    const scale = Math.max(least, Math.min(most, (room - 4) / width, tall / high));
     svg.setAttribute("viewBox", `${(own - width) / 2} ${top} ${width} ${high}`);
     svg.setAttribute("width", width * scale);
     svg.setAttribute("height", high * scale);
@@ -7545,7 +7609,7 @@ end
   }
   function operationsOf({ spec, run, isGuess }) {
     const planned = Object.values(spec.calls ?? {}).flat().map(([operation]) => operation);
-    const begun = run.trace.calls.map(({ operation }) => operation);
+    const begun = isSceneSlide() && spec.operations !== void 0 ? [] : run.trace.calls.map(({ operation }) => operation);
     const hidden = isGuess ? spec.hidden?.operations ?? [] : [];
     return [.../* @__PURE__ */ new Set([...spec.operations ?? [], ...planned, ...begun])].filter((name) => !hidden.includes(name));
   }
@@ -7564,8 +7628,16 @@ end
     const hides = (figure.isGuess ? spec.hidden?.hides : void 0) ?? spec.hides;
     setHtml(box, drawOwnCode({ list, plain, fresh, struck, hides, instead, operations: operationsOf(figure), next, made: made2, canStep, active }));
     const toggles = figure.shown.filter(isAble).map((thread) => toggleOf(thread, active));
-    setHtml(figure.part("runs"), canStep && toggles.length > 1 ? toggles.join("") : "");
+    setHtml(figure.part("runs"), canStep && spec.free && toggles.length > 1 ? `who runs: ${toggles.join("")}` : "");
   }
+  function fitCode(box) {
+    for (let size = Math.round(innerHeight / 26); box !== null && size > SMALLEST_CODE; size--) {
+      box.style.fontSize = `${size}px`;
+      if (box.scrollHeight <= box.clientHeight && box.scrollWidth <= box.clientWidth)
+        return;
+    }
+  }
+  var SMALLEST_CODE = 10;
   var toggleOf = (thread, active) => `<button class="who ${colourOf(thread)}" data-active="${thread}" aria-pressed="${thread === active}"
   title="${letterOf(thread)} runs to another line that is pressed">${letterOf(thread)}</button>`;
   function scrollToLit(figure, moved) {
@@ -7647,36 +7719,48 @@ end
       this.count = Math.max(0, Math.min(this.trace.total, count));
       this.state.moveTo(this.count);
     }
-    // What a thread would do next, up to where something else begins: the number of its steps, its phase, and whether it waits.
+    // What a thread would do next, up to where something else begins: the number of its steps, its phase, and for whom it waits. That
+    // it waits it knows once it has tried.
     nextOf(thread, call = null) {
       const isBegin2 = this.isIdle(thread);
       const lines = isBegin2 ? [...this.lines, `begin ${thread} ${call.join(" ")}`] : this.lines;
       const trace = this.traceOf([...lines, `go ${thread} ${MOST_STEPS}`]);
       const begun = this.trace.total + lines.length - this.lines.length;
       const row = isBegin2 ? trace.event(begun).changes.pc : this.state.threads[thread].pc;
-      return { ...this.chunk(trace, begun, row), thread, row, isBegin: isBegin2 };
+      const next = this.chunk(trace, begun, row);
+      const tried = this.trace.events().findLast((event) => event.thread === thread);
+      const waitsFor = next.waits && next.steps === 1 && tried?.word === next.last.word && tried.saw === next.last.saw ? Number(tried.saw.slice(1)) : null;
+      return { ...next, thread, row, isBegin: isBegin2, waitsFor };
     }
     chunk(trace, begun, row) {
-      const { list, plain } = this.spec;
+      const { list, plain, joined: joined2 = [] } = this.spec;
       const phase = phaseAt(list, row, plain);
-      const joined2 = this.spec.free && !plain ? [] : joinedRows(list, plain);
+      const rows = this.spec.free && !plain ? [] : [...joinedRows(list, plain), ...joined2];
+      let last;
       let steps = 0;
       let before = row;
       for (let number = begun + 1; number <= trace.total; number++) {
-        const event = trace.event(number);
+        last = trace.event(number);
         steps++;
-        if (event.answer !== void 0)
+        if (last.answer !== void 0)
           break;
-        const after = event.changes.pc;
-        const ofLock = isFailed(event) && isLock(event.word);
+        const after = last.changes.pc;
+        const ofLock = isFailed(last) && isLock(last.word);
         const waits = ofLock && after === before;
-        if (waits || isFailed(event) && !ofLock)
-          return { steps, phase, waits };
+        if (waits || isFailed(last) && !ofLock)
+          return { steps, phase, waits, last };
         before = after;
-        if (phaseAt(list, after, plain) !== phase && !joined2.includes(after))
+        if (phaseAt(list, after, plain) !== phase && !rows.includes(after))
           break;
       }
-      return { steps, phase, waits: false };
+      return { steps, phase: phase === "unlock" && last?.answer === void 0 ? "restart" : phase, waits: false, last };
+    }
+    // The moment at which the bit ends that is made after this one.
+    endOfBit(count) {
+      this.moveTo(count);
+      const { thread, deed, changes } = this.trace.event(count + 1);
+      const [begun, row] = deed === "begin" ? [count + 1, changes.pc] : [count, this.state.threads[thread].pc];
+      return begun + this.chunk(this.trace, begun, row).steps;
     }
     // How many steps lead a thread to where this is so, end its call, or lead to a lock for which it waits.
     stepsUntil(thread, isThere) {
@@ -7722,8 +7806,6 @@ end
     // what stood there before each deed
     isBusy = false;
     // steps are being shown
-    isActing = false;
-    // and more of them will be
     isHurried = false;
     isEnded = false;
     isOpen = true;
@@ -7737,6 +7819,7 @@ end
     // of the history, what comes later
     wide = 0;
     // of the list, in pixels
+    tall = 0;
     stripWide = 0;
     scroll = 0;
     told = null;
@@ -7749,12 +7832,14 @@ end
       this.run = spec.run ?? new LiveRun(spec);
       this.shown = spec.shown ?? this.run.state.threads.map((_, thread) => thread);
       this.chosen = spec.chosen ?? {};
-      this.most = { width: 0, height: spec.tall && !isNarrow() ? 262 : 0 };
+      const isRoomy = !isSceneSlide() && (spec.isPath || spec.free) && spec.again !== false && !isNarrow();
+      this.most = { width: 0, height: isRoomy ? 270 + 18 * this.shown.length : 0 };
       frameOf(this);
       box.addEventListener("click", (event) => pressed(this, event));
       box.addEventListener("input", ({ target }) => target.closest(".choose") !== null && chooseCall(this, target.closest("[data-thread]")));
       this.stretch = new ResizeObserver(() => {
-        if (this.part("list").clientWidth !== this.wide)
+        const { clientWidth, clientHeight } = this.part("list");
+        if (clientWidth !== this.wide || isSceneSlide() && clientHeight !== this.tall)
           requestAnimationFrame(() => this.isEnded || this.fit());
       });
       this.stretch.observe(this.part("list"));
@@ -7762,6 +7847,7 @@ end
     }
     fit() {
       [this.wide, this.stripWide] = ["list", "strip"].map((name) => this.part(name).clientWidth);
+      this.tall = this.part("list").clientHeight;
       this.draw();
     }
     end() {
@@ -7820,9 +7906,11 @@ end
       if (!this.isEnded)
         this.onStep?.(this);
     }
-    // Shows the steps from a moment to the end of the run; another press meanwhile shows the end at once.
-    async show(from) {
-      const { total } = this.run.trace;
+    // Shows the steps from a moment to another; another press meanwhile shows the end at once.
+    show(from, total = this.run.trace.total) {
+      return this.playing = this.showSteps(from, total);
+    }
+    async showSteps(from, total) {
       this.isBusy = true;
       this.isHurried = false;
       tellBusy(true);
@@ -7840,7 +7928,7 @@ end
           await sleep(BIT);
       }
       this.isBusy = false;
-      tellBusy(this.isActing);
+      tellBusy(false);
     }
     async replay(from = 0) {
       if (this.isBusy)
@@ -7849,19 +7937,10 @@ end
       this.draw();
       await this.show(from);
     }
-    // Plays what a list of deeds makes: [thread] is its next bit, [thread, n] are n bits, [thread, "out"] is all of its call.
-    async act(deeds) {
-      const { onStep } = this;
-      Object.assign(this, { onStep: null, isActing: true });
-      for (const [thread, many = 1] of deeds) {
-        for (let bit = 0; many === "out" ? bit === 0 || !this.run.isIdle(thread) : bit < many; bit++) {
-          if (this.isEnded)
-            return;
-          await this.step(thread);
-          await sleep(wantsStill2() ? 0 : BETWEEN2);
-        }
-      }
-      Object.assign(this, { onStep, isActing: false });
+    // Between two presses that the page makes.
+    async rest() {
+      tellBusy(true);
+      await sleep(wantsStill2() ? 0 : BETWEEN2);
       tellBusy(false);
     }
     undo() {
@@ -7920,20 +7999,17 @@ end
   }
   function talk(html9) {
     const box = part("#talk");
-    if (!setHtml(box, html9) || scene.isNew || hiddenBelow() <= 0)
+    const last = () => box.lastElementChild;
+    if (!setHtml(box, html9) || scene.isNew || last() === null || underBar(last()) <= 0)
       return;
-    const last = box.lastElementChild;
-    const isTall = last.getBoundingClientRect().height > innerHeight / 2;
-    last.scrollIntoView({ block: isTall ? "start" : "end" });
+    const isTall = last().getBoundingClientRect().height > innerHeight / 2;
+    last().scrollIntoView({ block: isTall ? "start" : "end" });
   }
-  function hiddenBelow() {
-    const [last, bar] = [part("#talk")?.lastElementChild, part(".foot")];
-    return last == null || bar === null ? 0 : last.getBoundingClientRect().bottom - bar.getBoundingClientRect().top;
-  }
+  var underBar = (box) => box.getBoundingClientRect().bottom - (part(".foot")?.getBoundingClientRect().top ?? Infinity);
   function fitFigure({ spec }) {
     const list = scene.figure.part("list").firstElementChild;
-    const over = hiddenBelow();
-    if (over <= 0 || list === null || isNarrow())
+    const over = underBar(part("#talk") ?? list);
+    if (over <= 0 || list === null || isNarrow() || isLecture())
       return;
     Object.assign(spec, { high: (Number(list.getAttribute("height")) - over - 8) / innerHeight, least: 110 });
     scene.figure.draw();
@@ -7973,9 +8049,9 @@ end
       box.querySelector("h1")?.focus({ preventScroll: true });
     scene.isFirst = false;
   }
-  function openScene({ activity, id = "", given: given2 = {}, view = null }) {
+  function openScene({ activity, id = "", given: given2 = {}, view = null, slide = 0 }) {
     scene.key = "";
-    change("view", { view });
+    change("view", { view, slide });
     dispatch("place", { activity, screen: "scene", id, given: given2 });
   }
   function listenToScene() {
@@ -7985,7 +8061,6 @@ end
         scene.view?.deeds?.[target.dataset.do]?.(target);
     });
   }
-  var pressInScene = (event) => scene.view?.press?.(event);
   var head = (kicker, title2, more = "", kind = "") => `<div class="head">${kicker === "" ? "" : `<p class="kicker">${kicker}</p>`}<h1 class="${kind}" tabindex="-1">${title2}</h1>${more}</div>`;
   var FIGURE_AND_TALK = '<div id="figure"></div><div id="talk" class="talk" aria-live="polite"></div>';
   var hintAndOn = ({ href, words }) => `<button id="hint" class="primary" data-do="hint"></button>${tag("a", { id: "go-on", class: "button quiet", href, "data-words": words }, "Skip →")}`;
@@ -8155,7 +8230,7 @@ end
     <p class="small">New to this? <a href="#story=1">Why not just one lock?</a> Twenty minutes, from nothing.</p>`;
     const verb = done2.length === 0 ? "Begin" : "Go on";
     const next = (task) => tag("a", { class: "button primary", href: task.href }, `${verb}: ${escaped(task.title)} →`);
-    const bar = first === void 0 ? foot("All done.", '<button class="primary" data-do="hand">Hand in ↑</button>') : foot("", next(first));
+    const bar = first === void 0 ? foot(tasks.length === 0 ? "No task." : "All done.", '<button class="primary" data-do="hand">Hand in ↑</button>') : foot("", next(first));
     const items = tasks.map((task) => itemOf(task, lines[task.id] !== void 0));
     const title2 = head("Assignment", escaped(titleOfAssignment(place)), lead2, "title");
     return `${title2}${tag("ol", { class: "tasks" }, ...items)}${HAND(keptStory(), done2.length)}${bar}`;
@@ -8170,7 +8245,7 @@ end
     const [student, number] = ["student", "number"].map((name) => part(`#hand-${name}`).value.trim());
     keepStory({ student, number });
     const { done: done2, lines } = doneOf(now.place);
-    return handInText(BOOK_NAME, `${student || "?"}${number === "" ? "" : ` (${number})`}`, [], done2.map(({ id }) => lines[id]));
+    return handInText(BOOK_NAME, `${student || "?"}${number === "" ? "" : ` (${number})`}`, [], done2.map(({ id }) => lines[id]), titleOfAssignment(now.place));
   }
   var fill = () => part("#hand-text").textContent = textNow();
   function isNamed2() {
@@ -8180,7 +8255,18 @@ end
     part("#hand-student").focus();
     return false;
   }
-  var fileName = () => `${part("#hand-student").value.trim().toLowerCase().replace(/\W+/g, "-") || "hand-in"}.txt`;
+  function fileName() {
+    const { student, number } = keptStory();
+    const letters = { ä: "ae", ö: "oe", ü: "ue", ß: "ss" };
+    const words = [student, number, titleOfAssignment(now.place)].join(" ").toLowerCase().replace(/[äöüß]/g, (letter) => letters[letter]);
+    return `${words.normalize("NFD").replace(/\p{M}/gu, "").replace(/[^\p{L}\p{N}]+/gu, "-")}.txt`;
+  }
+  function save() {
+    if (!isNamed2())
+      return;
+    saveText(fileName(), textNow());
+    part("#scene-told").textContent = `Saved: ${fileName()}. Hand in this file.`;
+  }
   var assignmentView = {
     kind: "assignment",
     title: (place) => `${titleOfAssignment(place)} · Why not just one lock?`,
@@ -8188,7 +8274,7 @@ end
     begin,
     deeds: {
       copy: () => isNamed2() && copyText(textNow(), "The text is copied: paste it where you hand in."),
-      save: () => isNamed2() && saveText(fileName(), textNow()),
+      save,
       afresh: startAfresh,
       hand: () => {
         part("#hand").scrollIntoView({ behavior: "smooth" });
@@ -8339,6 +8425,7 @@ end
   function showPlace() {
     document.title = titleIn(now, titleOfScene);
     showHome();
+    byId("leave").textContent = now.place.slide > 0 ? `${now.place.slide} of ${LECTURE.length} ✕` : "✕";
     if (now.place.screen !== "stage")
       return;
     const links = taskOfWatch();
@@ -8448,9 +8535,8 @@ end
   function html2(place) {
     const preset = ([name, href]) => tag("a", { class: "button", href }, escaped(name));
     const choice = (name, at) => tag("label", {}, ["left ", "right "][at], tag("select", { id: `sides-${name}` }, listOptions(listsOf(place)[at])));
-    const lead2 = `<p class="lead">The same calls on two lists. A turn of a thread executes its next step in both; a call that has ended waits for
-    the other list. Who has to wait, and who is done? <a class="beside" href="tables.html#progress">Progress of each list: blocking, lock-free, wait-free</a></p>`;
-    return `<section class="screen">${head("", "Two lists, one program", lead2)}
+    const lead2 = `<p class="lead">A turn of a thread executes its next step in both; a call that has ended waits for the other list. <a class="beside" href="tables.html#progress">Progress of each list: blocking, lock-free, wait-free</a></p>`;
+    return `<section class="screen">${head("", "The same calls on two lists: who waits, and who is done?", lead2)}
     <div id="sides-presets" class="line">${PRESETS.map(preset).join(" ")}</div>
     <details id="sides-own"><summary>Your own program</summary><div class="line small">${SIDES.map(choice).join("")}
       <label>initial keys <input id="sides-opening" spellcheck="false" placeholder="no keys" size="8"></label>
@@ -8475,6 +8561,8 @@ end
     sidesPart("slider").oninput = () => turnTo(Number(sidesPart("slider").value));
     Object.assign(shown, { sides: null, quota: Number(quota), figures: [] });
     beginSides(turns.split(".").filter((thread) => thread !== "").map(Number));
+    if (now.place.slide > 0)
+      shown.at = 0;
   }
   function beginSides(turns = []) {
     try {
@@ -8565,6 +8653,12 @@ end
     } else if (threadOfKey(event) in sides.program)
       turnOf(threadOfKey(event));
   }
+  function goes(by) {
+    const isThere = shown.at + by >= 0 && shown.at + by <= shown.sides.turns.length;
+    if (isThere)
+      turnTo(shown.at + by);
+    return isThere;
+  }
   var compareView = {
     kind: "compare",
     title: (place) => `${listsOf(place).map((kind) => LISTS[kind].name).join(" beside ")} · Why not just one lock?`,
@@ -8573,6 +8667,7 @@ end
     draw,
     end,
     press,
+    goes,
     deeds: {
       begin: () => beginSides(),
       copy: () => copyText(linkTo(addressOfSides()), "The link is copied."),
@@ -8913,6 +9008,9 @@ end
     }
     drawVerdict() {
       const { verdict, tries } = this;
+      const isAsked = homeworkOf(now.place, now.task) !== null && verdict?.isRight !== true;
+      for (const name of ["end", "levels"])
+        judgePart(name).style.visibility = isAsked ? "hidden" : "";
       const kind = { true: "right", false: "wrong" }[verdict?.isRight] ?? "";
       judgePart("verdict").className = kind;
       judgePart("verdict").textContent = verdict?.says ?? "";
@@ -8945,7 +9043,7 @@ end
     if (trace.total > MOST_JUDGED)
       return tell(`A run of at most ${MOST_JUDGED} events can be judged; this one has ${trace.total}.`);
     tell("");
-    judging.begin(judgePart("level").value);
+    judging.begin(homeworkOf(now.place, now.task) === null ? judgePart("level").value : "replies");
     byId("next").focus();
   }
   function listenToJudging() {
@@ -8985,7 +9083,7 @@ end
         { text: "Only A", right: true, say: "" },
         { text: "Only B", say: "B gets the lock only when A is done. What does it find then?" }
       ],
-      why: "<b>Only A.</b> Who has the lock comes first. B tries in vain, which is a step too and changes nothing. When it gets the lock it walks, finds 5, and answers false.",
+      why: "<b>Only A.</b> Who has the lock comes first. B’s try fails and changes nothing. When B gets the lock it walks, finds 5, and answers false. Its ring stands where that was right first: when A’s 5 came in.",
       lacks: "lock",
       without: { lines: ["begin 0 add 5", "go 0 to 5", "begin 1 add 5", "go 1 out", "go 0 out"] },
       broken: "Both are told true, and 5 came in once."
@@ -9005,7 +9103,7 @@ end
       ],
       why: "<b>Not even the head.</b> First A has to let go of it. Then B goes hand over hand: it lets go of the head only when it holds 5.",
       lacks: "hand-over-hand",
-      without: { opening: [3, 9], lines: ["begin 0 add 5", "go 0 7", "begin 1 remove 3", "go 1 8", "go 0 7"] },
+      without: { question: "A adds 5, and lets go of 3 too early. B removes 3.", opening: [3, 9], lines: ["begin 0 add 5", "go 0 7", "begin 1 remove 3", "go 1 8", "go 0 7"] },
       broken: "5 is lost: its pred was taken out behind A’s back."
     },
     {
@@ -9013,6 +9111,7 @@ end
       list: "optimistic",
       title: "One gap for two",
       opening: [],
+      hides: [6, 7, 8],
       lines: ["begin 0 add 5", "begin 1 add 7", "go 0 2", "go 1 2", "go 1 out", "go 0 2"],
       rest: ["go 0 out"],
       question: "Both had walked to the gap between head and tail. B was first with its 7. Now A has its locks. What does A do?",
@@ -9028,6 +9127,7 @@ end
       list: "optimistic",
       title: "A pred that is gone",
       opening: [3],
+      hides: [6, 7],
       lines: ["begin 0 add 5", "go 0 4", "begin 1 remove 3", "go 1 out", "go 0 2"],
       rest: ["go 0 out"],
       question: "A’s pred is 3. Meanwhile B has removed 3, whose node still points to the end. A has its locks. May A write?",
@@ -9045,20 +9145,21 @@ end
       title: "There, and removed",
       opening: [5],
       lines: ["begin 1 remove 5", "go 1 to 12", "begin 0 contains 5", "go 0 2"],
-      rest: ["go 0 out", "go 1 out"],
+      rest: ["go 0 out"],
       question: "B has marked 5, and has not taken it out yet. A’s walk stops at that node. What does contains(5) answer?",
       options: [
         { text: "true", say: "The node is in the chain. But the mark says that it is removed." },
         { text: "false", right: true, say: "" },
         { text: "Nothing, before B is done", say: "A takes no lock, so nobody can hold it up." }
       ],
-      why: "<b>false.</b> It is the mark that removes 5 from the set. That its node is still in the chain does not matter. A reads one word, and takes no lock for it."
+      why: "<b>false.</b> With the mark 5 has left the set; that its node is still in the chain does not matter. A takes no lock, and reads one word. (The book’s LazyList has the mark in a word of its own.)"
     },
     {
       name: "marked-pred",
       list: "lazy",
       title: "Warned by a mark",
       opening: [3],
+      hides: [6, 7],
       lines: ["begin 0 add 5", "go 0 4", "begin 1 remove 3", "go 1 out", "go 0 2"],
       rest: ["go 0 out"],
       question: "A’s pred, 3, has been removed by B. This list never walks twice. What warns A?",
@@ -9076,15 +9177,16 @@ end
       list: "lazy",
       title: "In another’s step",
       opening: [5],
+      isTimed: true,
       lines: ["begin 0 contains 5", "go 0 2", "begin 1 remove 5", "go 1 out", "begin 1 add 5", "go 1 out"],
       rest: ["go 0 1"],
-      question: "At each step of A 5 was in the set, and it is in now. A is about to answer false. When is that right?",
+      question: "A asks contains(5). Whenever A took a step, 5 was in the set, and it is in now. A is about to answer false. When is that right?",
       options: [
         { text: "Never: it is a bug", say: "It looks like one. But the call also runs while A stands still." },
         { text: "Between B’s remove and B’s add", right: true, say: "" },
         { text: "When A answers", say: "Then 5 is in the set, in a new node." }
       ],
-      why: "<b>Between B’s two calls.</b> There 5 was not in the set, and A’s call was under way. It takes effect there, in a step of B. Who looks for it among A’s own steps finds none, and calls a correct list wrong."
+      why: "<b>Between B’s two calls.</b> There 5 was not in the set, and A’s call was under way. It takes effect there, at a step of B. Who looks only among A’s own steps finds no such moment, and calls a correct list wrong."
     },
     {
       name: "two-removers",
@@ -9223,7 +9325,7 @@ end
       opening: [5, 7],
       lines: ["begin 0 ceiling 6", "go 0 2", "begin 1 remove 7", "go 1 out", "begin 1 remove 5", "go 1 out", "begin 1 add 7", "go 1 out"],
       rest: ["go 0 out"],
-      question: "At each step of A 7 was in the set. Its ceiling(6) is going to answer that there is none. Is that right?",
+      question: "Whenever A took a step, 7 was in the set. Its ceiling(6) is going to answer that there is none. Is that right?",
       options: [
         { text: "No", say: "Look at the time in which A stood still." },
         { text: "Yes", right: true, say: "" }
@@ -9268,7 +9370,7 @@ end
   // src/story/ask_branches.js
   var CHECK_WORDS = {
     lock: "the lock is ignored",
-    "hand-over-hand": "it lets go of one lock before it has the next",
+    "hand-over-hand": "it lets go of one node before it holds the next",
     "second-walk": "it does not walk again",
     "marks-in-validation": "it does not look at the marks",
     "mark-in-remove": "it marks a node that is marked already",
@@ -9280,8 +9382,9 @@ end
   var isEmbed = () => now.place.view === "embed";
   function takeBranch({ lines, opening, lacks = null, isFree: isFree2 = false }) {
     const item = itemOf2(now.place);
+    const { high = isEmbed() ? 0.34 : 0.23, least = isEmbed() ? 110 : 180 } = scene.figure?.spec ?? {};
     const calls = isFree2 ? {} : item.calls;
-    return takeFigure(new Figure(freshBox(), {
+    return takeFigure(new Figure(freshBox(item.isTimed), {
       list: item.list,
       lacks,
       lines,
@@ -9290,23 +9393,28 @@ end
       quota: item.quota ?? 4,
       opening: opening ?? item.opening,
       operations: operationsIn(item),
+      hidden: { hides: item.hides },
       strip: true,
       scrub: true,
       again: false,
       free: isFree2,
       short: true,
       roomFor: 552,
-      high: isEmbed() ? 0.34 : 0.23,
-      least: isEmbed() ? 110 : 180,
+      high,
+      least,
       code: !isEmbed(),
       codeTitle: LIST_WORDS[item.list],
       codeNote: lacks === null ? "" : `Here ${CHECK_WORDS[lacks]}.`,
       struck: BREAK_LEVELS[lacks]?.missing
     }));
   }
-  var operationsIn = ({ lines, rest }) => [...lines, ...rest].filter((line) => line.startsWith("begin")).map((line) => line.split(" ")[2]);
-  function freshBox() {
-    const box = Object.assign(document.createElement("div"), { id: "figure" });
+  function operationsIn({ lines, rest }) {
+    const isOver2 = (line, at) => isLecture() && lines.slice(at).includes(`go ${line.split(" ")[1]} out`);
+    const shown4 = [...lines.filter((line, at) => !isOver2(line, at)), ...rest];
+    return shown4.filter((line) => line.startsWith("begin")).map((line) => line.split(" ")[2]);
+  }
+  function freshBox(isTimed) {
+    const box = Object.assign(document.createElement("div"), { id: "figure", className: isTimed ? "timed" : "" });
     part("#figure").replaceWith(box);
     return box;
   }
@@ -9368,7 +9476,7 @@ end
       return openBranch(known3, true);
     const { lines = sameLines(item), opening } = item.without ?? {};
     setScene({ branches: [...branches, { name: "Without this check", lines, opening, lacks: item.lacks, isFixed: true }] });
-    openBranch(branches.length, true);
+    return openBranch(branches.length, true);
   }
   function sameLines({ list, opening, lines, rest, lacks }) {
     const whole = new LiveRun({ list, opening, lines: [...lines, ...rest] });
@@ -9399,7 +9507,10 @@ end
   function drawBranches({ branches, at }) {
     const box = part("#branches");
     box.hidden = branches.length === 1;
-    part("#what-if-mark").hidden = at === 0 || branches[at].isFixed === true;
+    const { isFixed = false } = branches[at];
+    const { question, without } = itemOf2(now.place);
+    part("#what-if-mark").hidden = at === 0 || isFixed;
+    part("#question").textContent = isFixed && without?.question || question;
     const button = ({ name }, index) => tag("button", { class: "small", "data-do": "branch", "data-branch": index, "aria-pressed": index === at }, index === 0 ? "" : "↳ ", name);
     box.innerHTML = branches.map(button).join("");
   }
@@ -9476,7 +9587,7 @@ end
     const cardOf = ({ name, list, title: title2, question }) => ({ href: `#ask=${name}`, list: LIST_WORDS[list], title: title2, says: question, state: asks[name] });
     const next = QUESTIONS.find((item) => !seen.includes(item)) ?? QUESTIONS[0];
     const score = `<b>${right}</b> of ${QUESTIONS.length} guessed right at the first try, ${seen.length} seen`;
-    const words = "Eleven runs. Each stops just before the step on which it turns. Say what comes; then it goes on, and you may change it.";
+    const words = "Eleven runs. Each stops just before the decisive step. Say what comes; then it goes on, and you may change it.";
     return `${head("", "Guess, then see", lead(words, seen.length === 0 ? "" : score), "title")}${cards(QUESTIONS.map(cardOf))}
     <h2>Seven more</h2><p class="prose">These lists have a fourth call, <b>ceiling</b>: the smallest number that is as big as the one
     that is asked for, or more. And each thread may add only so many numbers.</p>${cards(APPENDIX.map(cardOf))}
@@ -9841,21 +9952,29 @@ end
     const others = works.byName.size === 0 ? "" : `; your ${works.byName.size} other works stay under Open`;
     openTask(ownTask("from a link"), text, event, `${told2}${others}.`);
   }
-  async function openAddress(hash) {
+  function slideOf(hash) {
+    const [, number = "1"] = /^#lecture(?:=(.*))?$/.exec(hash) ?? [null, `${1 + LECTURE.findIndex(([, , address]) => address === hash)}`];
+    if (number === "0" || LECTURE[Number(number) - 1] !== void 0)
+      return Number(number);
+    throw new AddressFault(`the lecture has the slides 1 to ${LECTURE.length}, and no "${number.slice(0, 60)}"`);
+  }
+  async function openAddress(given2) {
     try {
+      const slide = slideOf(given2);
+      const hash = slide === 0 ? given2 : LECTURE[slide - 1][2];
       const place = sceneOfHash(hash);
       if (place !== null) {
-        openStory(place);
+        openStory({ ...place, slide });
         return true;
       }
       const wanted = readAddress(hash);
-      setView(wanted.view);
+      setView(wanted.view, slide);
       if (wanted.course !== null)
         await openCourse(wanted);
       else if (wanted.place !== null)
         openPlace(wanted.place, wanted);
       else if (wanted.sides !== null)
-        openStory({ activity: "compare", given: wanted.sides, view: wanted.view });
+        openStory({ activity: "compare", given: wanted.sides, view: wanted.view, slide });
       else if (wanted.example !== null || wanted.text !== null || wanted.seed !== null)
         openRun(wanted);
       else
@@ -9935,16 +10054,16 @@ end
     const kicker = `${isEmbed() ? "Guess, then see" : '<a href="#ask">Guess, then see</a>'} · ${which} · ${LIST_WORDS[item.list]}`;
     const out = `<a class="button quiet small" target="_blank" href="${location.pathname}#ask=${item.name}">open in a page ↗</a>`;
     const all = '<a class="button quiet" href="#ask">All questions</a>';
-    return `<section class="screen">${head(kicker, `<span id="what-if-mark" class="what-if" hidden>What if?</span>${item.question}`)}
+    return `<section class="screen">${head(kicker, `<span id="what-if-mark" class="what-if" hidden>What if?</span><span id="question">${item.question}</span>`)}
     <div id="branches" class="branches" hidden></div>${FIGURE_AND_TALK}</section>
     <footer class="foot">${isEmbed() ? "" : all}<span class="spread"></span>${isEmbed() ? out : ""}
     <button id="show-me" class="primary" data-do="show">${isNarrow() ? "Show me" : "I do not know: show me"}</button>
-    <a id="go-on" class="button quiet" href="#ask=${next.name}" ${isEmbed() ? "hidden" : ""}>Skip →</a></footer>`;
+    <a id="go-on" class="button quiet" href="${place.slide > 0 ? slideAddress(place.slide + 1) : `#ask=${next.name}`}" ${isEmbed() ? "hidden" : ""}>Skip →</a></footer>`;
   }
   function begin3(place) {
     const { lines, rest } = itemOf2(place);
     const whole = { name: "The example", lines: [...lines, ...rest] };
-    takeBranch({ lines, opening: void 0 }).set({ hidesDock: true, isOpen: false });
+    takeBranch({ lines, opening: void 0 }).set({ hidesDock: true, isOpen: false, isGuess: true });
     setScene({ stage: "guess", branches: [whole], at: 0 });
   }
   async function guessed(index) {
@@ -9958,12 +10077,33 @@ end
     setScene({ stage: "playing", chosen: index });
     const asked2 = figure.run.count;
     figure.run = new LiveRun({ ...figure.spec, lines: now.scene.branches[0].lines });
-    figure.isOpen = true;
-    await figure.show(asked2);
+    Object.assign(figure, { isOpen: true, isGuess: false });
+    const stop = isLecture() ? figure.run.endOfBit(asked2) : figure.run.trace.total;
+    await figure.show(asked2, stop);
     if (scene.figure !== figure)
       return;
     setScene({ branches: [{ ...now.scene.branches[0], from: asked2 }] });
     openBranch(0);
+    scene.figure.moveTo(stop);
+  }
+  async function goes2(by) {
+    const { figure } = scene;
+    const { stage, branches } = now.scene;
+    const { lacks } = here();
+    const { count, trace } = figure.run;
+    if (by < 0 && stage !== "guess")
+      openScene(now.place);
+    else if (by < 0)
+      return false;
+    else if (stage === "guess")
+      await guessed(-1);
+    else if (count < trace.total)
+      await figure.show(count);
+    else if (lacks !== void 0 && !branches.some(({ isFixed }) => isFixed))
+      await withoutCheck(here());
+    else
+      return false;
+    return true;
   }
   function talkOf({ stage, chosen, at, branches }) {
     const item = here();
@@ -9978,7 +10118,7 @@ end
       return `<p class="ask">This was the question. Go to any moment with the slider, and let the other thread go on.</p>
       <p class="line"><button data-do="home">← Back to the example</button></p>`;
     }
-    const without = item.lacks === void 0 ? "" : '<button data-do="without">And without this check?</button>';
+    const without = item.lacks === void 0 ? "" : `<button data-do="without">And if ${CHECK_WORDS[item.lacks]}?</button>`;
     return `<div class="reveal${item.options[chosen]?.right ? "" : " other"}"><div>${reply}<p class="why">${item.why}</p><p class="line more"><button data-do="if">What if …?</button> ${without}
     <button data-do="again" class="quiet">See it again</button></p></div></div>`;
   }
@@ -10017,6 +10157,7 @@ end
     begin: begin3,
     draw: draw2,
     press: press2,
+    goes: goes2,
     deeds: {
       answer: ({ dataset }) => guessed(Number(dataset.option)),
       show: () => guessed(-1),
@@ -10084,7 +10225,7 @@ end
   function taskHtml({ hints, note }) {
     const items = BREAK_LEVELS[nameNow()].hints.slice(0, hints).map((text) => `<li>${text}</li>`);
     const list = items.length === 0 ? "" : `<ol class="hints">${items.join("")}</ol>`;
-    const ask = nameNow() === NO_TASK ? NOBODY_KNOWS : "Let A and B step, until no order of their calls explains what they answer.";
+    const ask = nameNow() === NO_TASK ? NOBODY_KNOWS : "Let A and B step until the list lacks a number that was promised, or two answers contradict each other.";
     return `<p class="ask">${ask}</p>${note === "" ? "" : `<p class="again">${note}</p>`}${list}`;
   }
   var optionsOf = (name) => [BREAK_LEVELS[name].lacks, ...Object.keys(BREAK_LEVELS[name].others)].sort();
@@ -10094,9 +10235,9 @@ end
     const isDone2 = isNamed(name);
     const { lacks, shortest } = BREAK_LEVELS[name];
     const reply = wrong.length === 0 ? "" : whyWrong(name, wrong.at(-1));
-    const asked2 = `<p class="ask">Which check is missing?</p>${optionButtons(optionsOf(name), wrong)}<p role="status">${reply}</p>`;
+    const asked2 = `<p class="ask">What does this list do wrong?</p>${optionButtons(optionsOf(name), wrong)}<p role="status">${reply}</p>`;
     const { total } = run.trace;
-    const own = `${total} steps; ${total < shortest[0] ? "the shortest known before had" : "the shortest known has"} ${shortest[0]}.`;
+    const own = `${total} steps, of which one press makes several; ${total < shortest[0] ? "the shortest known before had" : "the shortest known has"} ${shortest[0]}.`;
     const named = `<p><b class="yes">✓ ${lacks}</b> It is struck out in the code. <span class="small">Yours has ${own}</span></p>
     <p class="line"><button data-do="replay">See your run again</button> <button data-do="afresh" class="quiet">Break it in another way</button></p>`;
     const ledger = isOddRun(run) ? drawLedger(run) : "";
@@ -10300,9 +10441,9 @@ end
   function solvedHtml() {
     const { lesson } = learning.panel;
     const teaches = lesson.teaches === "" ? "" : escaped(inLetters(lesson.teaches));
-    return `<div class="reveal"><div><p class="why"><b>Solved.</b> ${teaches}</p>
-    <p class="line"><button data-do="replay">See your run again</button>
-    <button data-do="afresh" class="quiet">Solve it in another way</button></p></div></div>`;
+    return `<div class="reveal"><div><p class="why"><b>Solved.</b> ${teaches}</p></div>
+    <p class="line"><button data-do="replay" class="small">See your run again</button>
+    <button data-do="afresh" class="quiet small">Solve it in another way</button></p></div>`;
   }
   function draw4(state) {
     if (state.stage === "" || shown2.verdict === null)
@@ -10350,8 +10491,8 @@ end
       id: "alone",
       nav: "One thread",
       question: "How does a thread put 5 into a sorted list?",
-      prose: "A set of numbers is kept as a chain of nodes, in order. To add 5, a thread walks along it with two fingers: <b>curr</b> is on the node that it looks at, <b>pred</b> on the one before. Where the next number is too big, it makes a node and hangs it in between.",
-      figure: { list: "coarse", lacks: "lock", plain: true, opening: [3, 7], calls: { 0: [["add", 5]] }, shown: [0], codeTitle: "The algorithm", tale: "Head and tail stand at the ends: smaller and bigger than every number.", roomFor: 694, tall: true, high: 0.26 },
+      prose: "A set of numbers is kept as a chain of nodes, in order. To add 5, thread A walks along it with two fingers: <b>curr</b> is on the node that it looks at, <b>pred</b> on the one before. In front of the first bigger number it hangs in a node of its own.",
+      figure: { list: "coarse", lacks: "lock", plain: true, opening: [3, 7], calls: { 0: [["add", 5]] }, shown: [0], codeTitle: "The algorithm", tale: "Head and tail stand at the ends: smaller and bigger than every number.", roomFor: 694, high: 0.32 },
       task: "Press the blue button until A has its answer.",
       help: [[0]],
       goal: (fig) => fig.run.trace.calls[0]?.reply ? { done: "" } : null,
@@ -10362,7 +10503,7 @@ end
       nav: "Lost",
       question: "Two threads take the same steps. Can a number get lost?",
       prose: "A adds 5, B adds 6. A computer may stop a thread between any two of its steps, and let another one run. Here, you decide.",
-      figure: { list: "coarse", lacks: "lock", plain: true, opening: [3, 7], calls: { 0: [["add", 5]], 1: [["add", 6]] }, codeTitle: "The same algorithm", tale: "Nobody has begun yet.", roomFor: 836, tall: true },
+      figure: { list: "coarse", lacks: "lock", plain: true, opening: [3, 7], calls: { 0: [["add", 5]], 1: [["add", 6]] }, codeTitle: "The same algorithm", tale: "Nobody has begun yet.", roomFor: 836 },
       task: "Press A and B in an order that loses a number.",
       help: [[0], [1], [1], [1], [0], [0]],
       goal: (fig) => {
@@ -10383,42 +10524,42 @@ end
       id: "one-lock",
       nav: "One lock",
       question: "One lock for the whole list: what does it cost?",
-      prose: "The cure is simple. A thread takes the lock before its first step, and gives it back after its last. A thread that finds it taken has to wait. Now no number can get lost.",
-      figure: { list: "coarse", opening: [3, 7, 9], calls: { 0: [["add", 5]], 1: [["contains", 9]] }, lines: ["begin 0 add 5", "go 0 5"], codeTitle: "One lock", fresh: [1, 10], roomFor: 836, tall: true, tale: "" },
-      ask: "A has the lock, and the computer stops A for a while. B only wants to know whether 9 is in the list. How far does B get?",
+      prose: "The cure is simple. A thread takes the lock before its first step, and gives it back after its last. No number can get lost now.",
+      figure: { list: "coarse", opening: [3, 7, 9], calls: { 0: [["add", 5]], 1: [["contains", 9]] }, lines: ["begin 0 add 5", "go 0 5"], codeTitle: "One lock", fresh: [1, 10], roomFor: 836, tale: "" },
+      ask: "A has the lock, and the computer stops A for a while. B only asks contains(9): is 9 in the list? How far does B get?",
       options: [
-        { text: "To its answer", say: "True, B changes nothing. But a thread that reads in the middle of a change may see half of it. So in this list, readers take the lock too." },
+        { text: "To its answer", say: "B changes nothing, yes. But a thread that reads in the middle of a change may see half of it. So in this list, readers take the lock too." },
         { text: "As far as A", say: "There is no “as far as”: the lock is not on a node, it is on the whole list." },
         { text: "Not one step", right: true, say: "" }
       ],
       play: [[1], [1]],
-      after: "Go on as you like: let A finish, then B.",
-      reveal: () => `${b("Not one step.")} One lock is always right. But while one thread works, all others wait: even those that only read, even at the other end of the list.`
+      reveal: () => `${b("Not one step.")} Who finds the lock taken waits. One lock is always right. But while one thread works, all others wait: even those that only read, even at the other end of the list.`
     },
     {
       id: "hand-over-hand",
       nav: "Hand over hand",
       question: "Can each node have a lock of its own?",
-      prose: "Now a thread locks only where it stands: pred and curr. Like hands on a rope, it lets go of one node only when it holds the next. Others may be elsewhere in the list.",
-      figure: { list: "fine", opening: [3, 7, 9], calls: { 0: [["add", 8]], 1: [["contains", 9]] }, lines: ["begin 0 add 8", "go 0 8"], codeTitle: "Hand over hand", fresh: [1, 3, 5], roomFor: 836, tall: true },
-      ask: "The same question. A has locked 3 and 7, and is stopped there. B wants to know whether 9 is in the list. How far does B get?",
+      prose: "Now each node has a lock, and a thread locks only where it stands: pred and curr. Like hands on a rope, it lets go of one node only when it holds the next.",
+      figure: { list: "fine", opening: [3, 7, 9], calls: { 0: [["add", 8]], 1: [["contains", 9]] }, lines: ["begin 0 add 8", "go 0 8"], codeTitle: "Hand over hand", fresh: [1, 3, 5], roomFor: 836 },
+      ask: "A adds 8. It has locked 3 and 7, and is stopped there. B asks contains(9). How far does B get?",
       options: [
         { text: "To its answer", say: "B has to lock each node on its way, and A holds two of them. On a rope, nobody overtakes." },
         { text: "As far as A", right: true, say: "" },
         { text: "Not one step", say: "The head is free: A let go of it when it held the next two. So B can get in." }
       ],
-      play: [[1], [1], [0], [1]],
-      after: "Go on as you like: B follows A, hand over hand.",
-      reveal: () => `${b("Up to A, and no further.")} When A moved on, B followed: both work in the list at the same time. But nobody overtakes: one slow thread near the front holds up everyone behind it. And each step of a walk takes one lock and gives one back.`
+      play: [[1], [1]],
+      after: "Go on as you like: let A move on, and B follows.",
+      reveal: () => `${b("Up to A, and no further.")} Nobody overtakes: one slow thread near the front holds up all behind it. And why two hands? With one, B could take 7 out while A steps from 7 to 9, and A would hang its node on one that is gone. <button class="small" data-do="why">Show me</button>`,
+      without: { list: "fine", lacks: "hand-over-hand", opening: [7, 9], lines: ["begin 0 add 8", "go 0 7", "begin 1 remove 7", "go 1 8", "go 0 7"], codeTitle: "With one hand", codeNote: "Here it lets go of one node before it holds the next.", struck: [{ row: 3, part: "pred still locked" }] }
     },
     {
       id: "no-look",
       nav: "Free walk",
       question: "Most steps only look. Can a walk do without locks?",
-      prose: "So let threads walk freely, and lock only at the end: pred and curr. Then check that pred still points to curr, and only then write. Nothing holds up a walk any more. Is it still right?",
-      figure: { list: "optimistic", lacks: "second-walk", opening: [3, 7], calls: { 0: [["add", 5]], 1: [["remove", 3]] }, codeTitle: "Walk, then lock", tale: "Nobody has begun yet.", hides: [6, 7], instead: { 8: "valid: pred.next is curr" }, words: { again: "see if pred points to curr" }, roomFor: 694, tall: true },
+      prose: "So let threads walk freely, and lock only at the end: pred and curr. Then check that pred still points to curr, and only then write. (To remove 3 is to let the node before it point past 3.) Is it still right?",
+      figure: { list: "optimistic", lacks: "second-walk", opening: [3, 7], calls: { 0: [["add", 5]], 1: [["remove", 3]] }, codeTitle: "Walk, then lock", tale: "Nobody has begun yet.", hides: [6, 7], instead: { 8: "valid: pred.next == curr" }, joined: [8, 11], words: { locks: "lock both, and check", make: "hang 5 in" }, roomFor: 694 },
       task: "A adds 5, B removes 3. Find an order in which 5 gets lost, although both lock what they change.",
-      help: [[0], [1], [1], [1], [1], [1], [1], [0], [0], [0], [0], [0]],
+      help: [[0], [1], [1], [1], [1], [0], [0], [0]],
       goal: (fig) => {
         if (fig.run.trace.calls.filter(({ reply }) => reply !== null).length < 2)
           return null;
@@ -10434,11 +10575,11 @@ end
       nav: "Look again",
       question: "What must A look at, once it has its locks?",
       prose: "The same moment again. B has taken 3 out; A has locked 3, its pred, and 7, its curr. Before A writes, it should notice.",
-      figure: { list: "optimistic", opening: [3, 7], calls: { 0: [["add", 5]] }, lines: ["begin 0 add 5", "go 0 4", "begin 1 remove 3", "go 1 out", "go 0 2"], shown: [0], codeTitle: "Walk, lock, look again", fresh: [6, 7], hidden: { hides: [6, 7] }, roomFor: 694, tall: true },
+      figure: { list: "optimistic", opening: [3, 7], calls: { 0: [["add", 5]] }, lines: ["begin 0 add 5", "go 0 4", "begin 1 remove 3", "go 1 out", "go 0 2"], shown: [0], codeTitle: "Walk, lock, look again", fresh: [6, 7], hidden: { hides: [6, 7] }, roomFor: 694 },
       ask: "Which check tells A that its pred is out of the list?",
       options: [
         { text: "Does pred still hold 3?", say: "It does: a node that is taken out keeps its number. A would go on, and 5 be lost." },
-        { text: "Does pred still point to curr?", say: "It does, and A has looked at that before, in vain: B changed the arrow <i>before</i> 3, not that of 3. A needs this check too, but it is not enough." },
+        { text: "Does pred still point to curr?", say: "It does: B changed the head’s arrow, not that of 3. So this check is not enough." },
         { text: "Does a new walk from the head meet pred?", right: true, say: "" }
       ],
       play: [[0]],
@@ -10450,37 +10591,36 @@ end
       nav: "A mark",
       question: "Could a node itself say that it is gone?",
       prose: "Walking twice, only to learn whether one node is still in? Give each node a <b>mark</b> instead. To remove 5, a thread first marks it, and then takes it out of the chain.",
-      figure: { list: "lazy", opening: [3, 5, 8], calls: { 0: [["contains", 5]] }, lines: ["begin 1 remove 5", "go 1 to 12"], shown: [0, 1], codeTitle: "Mark, then take out", fresh: [6, 7, 11, 22], hidden: { operations: ["contains"] }, roomFor: 694 },
-      ask: "B has marked 5, and is stopped before it takes the node out. A asks contains(5), and walks onto that node. What may A answer?",
+      figure: { list: "lazy", opening: [3, 5, 8], calls: { 0: [["contains", 5]] }, lines: ["begin 1 remove 5", "go 1 to 12"], told: "B has just marked 5.", shown: [0, 1], codeTitle: "Mark, then take out", fresh: [6, 7, 11, 22], hidden: { operations: ["contains"] }, roomFor: 694 },
+      ask: "B has marked 5, and is stopped before it takes the node out. A asks contains(5), and walks onto that node. What does A answer?",
       options: [
-        { text: "true", say: "True, the node is in the chain. But in this list the mark counts, not the chain." },
+        { text: "true", say: "The node is still in the chain, yes. But in this list the mark decides." },
         { text: "false", right: true, say: "" },
         { text: "It has to wait for B", say: "B holds two locks. But A takes none, so it has nothing to wait for." }
       ],
       play: [[0, "out"]],
-      after: "Let B finish, if you like: taking the node out does not change the set.",
-      reveal: () => `${b("false.")} With the mark, 5 has left the set; taking the node out is only tidying up. A looks at the mark alone, takes no lock, and waits for nobody. This list is called <i>lazy</i>.`
+      reveal: () => `${b("false.")} With the mark, 5 has left the set; taking the node out is only tidying up. A looks only at the node’s key and mark, takes no lock, and waits for nobody. Who adds or removes looks at the marks of pred and curr, and need not walk twice. This list is called <i>lazy</i>.`
     },
     {
       id: "when",
       nav: "When?",
       question: "At which moment has an answer to be right?",
       prose: "A asks contains(5), comes to the node of 5, and is stopped. B removes 5, and adds it again in a new node. Then A looks at the mark of its old node. Below the list, each call is a bar in time.",
-      figure: { list: "lazy", opening: [5], calls: { 0: [["contains", 5]] }, lines: ["begin 0 contains 5", "go 0 2", "begin 1 remove 5", "go 1 out", "begin 1 add 5", "go 1 out"], strip: true, code: false, dock: false, high: 0.27, hidesPoints: true, roomFor: 552 },
-      ask: "At each of A’s own steps 5 was in the set. A is going to answer false. Is that a bug?",
+      figure: { list: "lazy", opening: [5], calls: { 0: [["contains", 5]] }, lines: ["begin 0 contains 5", "go 0 2", "begin 1 remove 5", "go 1 out", "begin 1 add 5", "go 1 out"], strip: true, code: false, dock: false, high: 0.3, hidesPoints: true, roomFor: 552 },
+      ask: "Whenever A took a step, 5 was in the set. Now A is going to answer false. Is that a bug?",
       options: [
         { text: "Yes, it is a bug", say: "It looks like one. But look at the whole time of A’s call, also where A stood still." },
         { text: "No, false is right", right: true, say: "" }
       ],
       play: [[0]],
       then: { task: "When was false right? Press that time in the row “set”.", wrong: "At that moment 5 was in the set, and false would be wrong. Look for another one." },
-      reveal: () => `${b("There: between B’s remove and B’s add, 5 was not in the set.")} A’s call was under way, so it may count as made at that moment, in a step of <i>B</i>. An answer need not be true when it is given. It has to be true at one moment while its call runs. This is called <b>linearizable</b>, and all five lists keep to it.`
+      reveal: () => `${b("There: between B’s remove and B’s add, 5 was not in the set.")} A’s call was under way, so it may count as made there, at the step in which <i>B</i> marks 5. An answer need not be right when it is given. It has to be right at one moment while its call runs. This is called <b>linearizable</b>, and all five lists are.`
     },
     {
       id: "no-lock",
       nav: "No lock at all",
       question: "And with no lock at all?",
-      prose: "A processor can do this in one step: <b>change the arrow, but only if it is still what I saw.</b> It is called compare-and-set, CAS. If someone was faster, it changes nothing, and the thread looks again. A node’s mark is kept in its arrow now, so that one CAS sees both.",
+      prose: "A processor can do this in one step: <b>change the arrow, but only if it is still what I saw.</b> It is called compare-and-set, CAS. If someone was faster, it changes nothing, and the thread looks again. The mark is kept in the arrow now, so one CAS sees both.",
       figure: { list: "lock-free", opening: [3, 5, 8], calls: { 0: [["remove", 5]], 1: [["remove", 5]] }, lines: ["begin 0 remove 5", "go 0 to 9", "begin 1 remove 5", "go 1 to 9"], codeTitle: "Lock-free", fresh: [7, 9, 10, 3], roomFor: 694 },
       ask: "A and B both want to remove 5. Both have found it, without a mark. How many of them are told true?",
       options: [
@@ -10507,8 +10647,8 @@ end
 
   // src/story/path_parts.js
   var HERO = `<div class="hero"><p class="kicker">Concurrent lists, from nothing</p><p class="title">Why not just one lock?</p>
-  <p class="lead">Two threads share one list. In twenty minutes you break it, mend it, and meet the five list sets of Herlihy and Shavit.
-  You press, and the threads step. You need no book.</p></div>`;
+  <p class="lead">Two threads share one list. You press, and they step. <span class="roomy">In twenty minutes you break it, mend it, and meet
+  the five list sets of Herlihy and Shavit.</span> You need no book.</p></div>`;
   function dots(number, done2) {
     const names = [...SCREENS.map(({ nav }) => nav), "And now?"];
     const items = names.map((name, index) => {
@@ -10528,7 +10668,7 @@ end
     return `<p class="welcome">${words} <a href="#story=1">From the start</a></p>`;
   }
   var LAST2 = SCREENS.length + 1;
-  var WAYS = [
+  var WAYS2 = [
     ["#ask", "Guess, then see", "Runs that stop at the question. What comes next, and why?"],
     ["#code=lock-free", "Step by the code", "Any list, any calls: press a line, and its thread makes it."],
     ["#break", "Break it", "Lists that lack one check each. Find a run that shows it."],
@@ -10545,7 +10685,7 @@ end
   }
   function endHtml(done2) {
     const count = SCREENS.filter(({ id }) => done2[id]).length;
-    const ways = WAYS.map(([href, name, says]) => tag("a", { class: "way", href }, tag("b", {}, name), tag("span", {}, says)));
+    const ways = WAYS2.map(([href, name, says]) => tag("a", { class: "way", href }, tag("b", {}, name), tag("span", {}, says)));
     return `<section class="screen end"><h1 class="title" tabindex="-1">So, why not just one lock?</h1>
     <p class="lead">Because while one thread works, all others wait. Each list saves a part of that waiting, and pays for it with one more
     check. Leave the check out, and numbers get lost.</p>
@@ -10558,13 +10698,46 @@ end
     <button class="quiet" data-do="afresh">Start afresh</button><a class="button primary" href="#ask">Guess, then see →</a></footer>`;
   }
 
+  // src/story/slide.js
+  var queue = { last: Promise.resolve(), waiting: 0 };
+  var hurry = () => scene.figure?.isBusy && (scene.figure.isHurried = true);
+  function inTurn(deed) {
+    queue.waiting++;
+    hurry();
+    queue.last = queue.last.then(async () => {
+      const done2 = deed();
+      if (--queue.waiting > 0)
+        hurry();
+      await done2;
+      await scene.figure?.playing;
+      await new Promise((next) => setTimeout(next));
+    });
+  }
+  var pressInScene = (event) => isLecture() ? inTurn(() => scene.view?.press?.(event)) : scene.view?.press?.(event);
+  function toSlide(by) {
+    const number = now.place.slide + by;
+    if (now.place.slide === 0 || LECTURE[number - 1] === void 0)
+      return false;
+    const isThere = new Promise((done2) => window.addEventListener("popstate", () => setTimeout(done2), { once: true }));
+    location.hash = slideAddress(number);
+    return isThere;
+  }
+  function goesOnStage(by) {
+    const count = now.run.count + by;
+    const isThere = count >= 0 && count <= now.run.trace.total;
+    if (isThere)
+      goByHand(count);
+    return isThere;
+  }
+  var goOnSlide = (by) => inTurn(async () => (now.place.screen === "stage" ? goesOnStage(by) : await scene.view?.goes?.(by)) || toSlide(by));
+
   // src/story/path_view.js
   var numberOf = ({ id }) => Math.max(1, Math.min(LAST2, Number(id) || 1));
   var screenOf = (place) => SCREENS[numberOf(place) - 1] ?? null;
   var here2 = () => screenOf(now.place);
   var shown3 = { count: 0 };
-  var hashOf = (number) => `#story=${number}${now.place.view === "lecture" ? "&view=lecture" : ""}`;
-  var goTo2 = (number) => location.hash = hashOf(number);
+  var goTo2 = (number) => location.hash = `#story=${number}`;
+  var goBy = (by) => now.place.slide > 0 ? toSlide(by) : goTo2(numberOf(now.place) + by);
   function html7(place) {
     const number = numberOf(place);
     const { done: done2 } = keptStory();
@@ -10588,7 +10761,7 @@ end
     const isGuess = screen.ask !== void 0;
     setScene({ stage: isGuess ? "guess" : "task" });
     if (isGuess)
-      figure.set({ hidesDock: true, isOpen: false, isGuess: true });
+      figure.set({ hidesDock: true, isOpen: false, isGuess: true, told: screen.figure.told ?? null });
   }
   var asked = (text, note = "") => `<p class="ask">${text}</p>${note === "" ? "" : `<p class="again">${note}</p>`}`;
   function talkOf2(screen, { stage, chosen, note }) {
@@ -10600,7 +10773,7 @@ end
     if (stage === "moment")
       return reply + asked(screen.then.task, note);
     if (stage === "playing")
-      return reply;
+      return (isLecture() ? asked(screen.ask) : "") + reply;
     const after = screen.after === void 0 ? "" : `<p class="small">${screen.after}</p>`;
     const ledger = screen.ledger ? drawLedger(scene.figure.run) : "";
     const isOther = screen.options !== void 0 && !screen.options[chosen]?.right;
@@ -10614,7 +10787,7 @@ end
       talk(talkOf2(screen, state));
     drawBar2(state.stage, numberOf(now.place));
   }
-  var SHOW = { guess: "I do not know: show me", again: "Start over", moment: "Show me", task: "Show me the next step", playing: "Show me" };
+  var SHOW = { guess: "I do not know: show me", again: "Start over", moment: "Show me", task: "Show a step", playing: "Show me" };
   function drawBar2(stage, number) {
     const [show2, on2] = [part("#show-me"), part("#go-on")];
     const isDone2 = stage === "done";
@@ -10622,15 +10795,17 @@ end
       on2.focus({ preventScroll: true });
     show2.hidden = isDone2;
     show2.className = "primary";
-    show2.textContent = isNarrow() && stage !== "again" ? "Show me" : SHOW[stage];
+    show2.textContent = isNarrow() && stage === "guess" ? "Show me" : SHOW[stage];
     drawOn(isDone2, number === SCREENS.length ? "And now? →" : "Continue →");
   }
   function looked3() {
     const screen = here2();
     const { stage } = now.scene;
-    if (stage === "done" || stage === "playing")
+    if (stage === "playing")
       return;
     const met = stage === "again" ? null : screen.goal?.(scene.figure) ?? null;
+    if (stage === "done" && (met !== null || screen.goal === void 0))
+      return focusOn();
     if (met?.again !== void 0)
       setScene({ stage: "again", note: met.again });
     else if (met !== null)
@@ -10650,11 +10825,23 @@ end
       return figure.set({ isOpen: true, hidesDock: false });
     }
     figure.set({ isOpen: true });
-    await figure.act(screen.play);
+    return playOn2();
+  }
+  async function playOn2() {
+    const { figure } = scene;
+    const { play: play2, then } = here2();
+    const [thread, many] = play2[shown3.count];
+    await figure.step(thread);
+    if (!isLecture())
+      await figure.rest();
     if (scene.figure !== figure)
       return;
+    if (many !== "out" || figure.run.isIdle(thread))
+      shown3.count++;
+    if (shown3.count < play2.length)
+      return isLecture() || playOn2();
     figure.set({ hidesDock: false });
-    if (screen.then === void 0)
+    if (then === void 0)
       return done();
     setScene({ stage: "moment" });
     markContents(figure);
@@ -10688,9 +10875,18 @@ end
       figure.set({ isLost: true });
     keepStory({ done: { ...keptStory().done, [here2().id]: true } });
     setScene({ stage: "done" });
-    const on2 = part("#go-on");
-    if (document.activeElement === document.body)
-      on2.focus({ preventScroll: true });
+    focusOn();
+  }
+  function focusOn() {
+    if (!isLecture() && document.activeElement.closest("button, a, input, [tabindex='0']") === null)
+      part("#go-on").focus({ preventScroll: true });
+  }
+  async function showWhy() {
+    const { figure, without } = here2();
+    const own = takeFigure(new Figure(part("#figure"), { ...figure, ...without, calls: {}, dock: false, isPath: true }));
+    await own.replay();
+    if (scene.figure === own)
+      own.set({ isLost: true });
   }
   var isOver = (thread) => scene.figure.run.isIdle(thread) && scene.figure.left(thread).length === 0;
   async function showMe() {
@@ -10700,7 +10896,9 @@ end
     if (figure.isBusy)
       figure.isHurried = true;
     else if (stage === "guess")
-      guessed2(-1);
+      return guessed2(-1);
+    else if (stage === "playing" && isLecture())
+      return playOn2();
     else if (stage === "moment")
       pressedMoment("{}", 1);
     else if (stage === "again") {
@@ -10711,7 +10909,7 @@ end
       const next = way.find(([thread]) => !isOver(thread));
       shown3.count++;
       if (next !== void 0)
-        figure.step(next[0]);
+        return figure.step(next[0]);
     }
   }
   function press3(event) {
@@ -10719,17 +10917,37 @@ end
     const { stage } = now.scene;
     if (event.key === "ArrowLeft" && number > 1)
       return goTo2(number - 1);
-    if (["ArrowRight", "PageDown"].includes(event.key) && number < LAST2) {
-      if (stage === "done")
-        goTo2(number + 1);
-      else if (now.place.view === "lecture")
-        showMe();
-      return;
-    }
+    if (["ArrowRight", "PageDown"].includes(event.key) && number < LAST2)
+      return stage === "done" && goTo2(number + 1);
     if (stage === "guess" && numberOfKey(event) !== -1 && numberOfKey(event) < here2().options.length)
       guessed2(numberOfKey(event));
-    else
+    else {
+      if (isLecture() && stage === "guess" && here2().playTask !== void 0 && threadOfKey(event) !== -1)
+        guessed2(-1);
       pressThread(event);
+    }
+  }
+  async function goes3(by) {
+    if (by < 0 || now.scene.stage === "done" || here2() === null)
+      return by < 0 && takeBack();
+    await showMe();
+    return true;
+  }
+  function takeBack() {
+    const { figure } = scene;
+    const { stage } = now.scene;
+    const { play: play2, ask } = here2() ?? {};
+    if (figure === null || figure.past.length === 0 && (ask === void 0 || stage === "guess"))
+      return false;
+    if (play2 !== void 0 || figure.past.length === 0)
+      openScene(now.place);
+    else {
+      shown3.count = Math.max(0, shown3.count - 1);
+      if (stage === "done")
+        setScene({ stage: "task" });
+      figure.undo();
+    }
+    return true;
   }
   var pathView = {
     kind: "path",
@@ -10739,111 +10957,171 @@ end
     begin: begin7,
     draw: draw5,
     press: press3,
+    goes: goes3,
     deeds: {
       answer: ({ dataset }) => guessed2(Number(dataset.option)),
       show: showMe,
-      on: () => goTo2(numberOf(now.place) + 1),
-      back: () => goTo2(numberOf(now.place) - 1),
+      why: showWhy,
+      on: () => goBy(1),
+      back: () => goBy(-1),
       afresh: startAfresh
     }
   };
 
   // src/story/handins.js
+  var MANY = 10;
+  var stripped = (name) => name.replace(/^.*\//, "").replace(/\.[A-Za-z]+$/, "");
   function studentOf(text, file) {
     const [, name, number] = /^(.*?)\s*(?:[([#]\s*((?=\D*\d)\w[\w-]{0,20})\s*[)\]]?)?\s*$/.exec(text ?? "") ?? [];
-    return { name: name || file.replace(/^.*\//, "").replace(/\.[A-Za-z]+$/, ""), number: number ?? "" };
+    return { name: name || stripped(file), number: number ?? "" };
   }
-  async function checkAll(files, tasks, tellProgress = (_at, _of) => {
+  function assignmentOfLink(link) {
+    const { assignment: title2, ...given2 } = Object.fromEntries(new URLSearchParams(link.replaceAll("&amp;", "&").replace(/^[^#]*#?/, "")));
+    const { tasks, unknown } = tasksOf(given2);
+    if (title2 === void 0)
+      return { fault: "This is no link of an assignment: “#assignment=” is missing." };
+    if (unknown.length > 0)
+      return { fault: `This link names tasks that there are not: ${unknown.join(", ")}.` };
+    return tasks.length === 0 ? { fault: "The assignment of this link has no task." } : { title: title2, tasks };
+  }
+  async function checkAll(files, assignment, tellProgress = (_at, _of) => {
   }) {
     const found = files.flatMap(({ name, text }) => textsIn(text).map((one) => ({ ...one, file: name })));
-    const empty = files.filter(({ name }) => !found.some(({ file }) => file === name)).map(({ name }) => name);
+    const without = files.filter(({ name }) => !found.some(({ file }) => file === name));
+    const empty = without.map(({ name, text }) => text.startsWith("PK") ? `${name} (unpack it first)` : name);
     const courses = [bookCourse(), ...found.filter(({ kind }) => kind === "course").map(({ text }) => triedCourse(askNow, text))];
-    const students = /* @__PURE__ */ new Map();
     const handed = found.filter(({ kind }) => kind === "hand-in");
+    const students = /* @__PURE__ */ new Map();
     for (const [index, text] of handed.entries()) {
-      const read = readHandIn(text);
-      const who = studentOf(read.student, text.file);
-      const key = `${who.number} ${who.name.toLowerCase()}`;
-      const own = students.get(key) ?? { ...who, files: [], solved: /* @__PURE__ */ new Map(), wrong: /* @__PURE__ */ new Set(), notes: [] };
-      students.set(key, own);
-      if (!own.files.includes(text.file))
-        own.files.push(text.file);
-      own.notes.push(...read.faults.map(({ line, fault }) => `line ${line}: ${fault}`));
-      const lessons = (courses.find(({ name }) => name === read.course) ?? courses[0]).lessons;
-      for (const { line } of read.solutions)
-        judgePart2(own, lessons, line, tasks ?? []);
+      takeText(students, text, courses, assignment);
       tellProgress(index + 1, handed.length);
       if (index % 3 === 2)
         await new Promise((done2) => setTimeout(done2));
     }
     const rows = [...students.values()].sort((one, other) => one.name.localeCompare(other.name));
-    noteSame(rows);
-    noteNumbers(rows);
-    const all = [...new Set(rows.flatMap(({ solved }) => [...solved.keys()]))].sort();
-    const columns = tasks === null ? all.map((id) => ({ id, title: id })) : tasks.map(({ id, title: title2 }) => ({ id, title: title2 }));
-    return { rows, columns, empty };
+    const ids = [...new Set(rows.flatMap(({ solved, wrong }) => [...solved.keys(), ...wrong]))].sort();
+    const columns = assignment?.tasks ?? ids.map((id) => ({ id, title: titleOf(id, courses) }));
+    const common = noteCopies(rows);
+    for (const row of rows)
+      row.notes.unshift(...notesOnNames(row, rows));
+    return { rows, columns, empty, common: common.map((task) => titleOf(task, courses)) };
   }
-  function judgePart2(own, lessons, line, tasks) {
+  function takeText(students, text, courses, assignment) {
+    const read = readHandIn(text);
+    const who = studentOf(read.student, text.file);
+    const key = who.number === "" ? `${text.file}
+${text.number}` : `${who.number} ${who.name.toLowerCase()}`;
+    const own = students.get(key) ?? { ...who, files: [], solved: /* @__PURE__ */ new Map(), wrong: /* @__PURE__ */ new Set(), notes: [], faults: 0, copies: [] };
+    students.set(key, own);
+    if (!own.files.includes(text.file))
+      own.files.push(text.file);
+    if (assignment !== null && ![null, assignment.title].includes(read.assignment))
+      own.notes.push(`handed in for “${read.assignment}”`);
+    own.notes.push(...read.faults.map(({ line, fault }) => `line ${line}: ${fault}`));
+    const course = read.course === null ? courses[0] : courses.find(({ name }) => name === read.course);
+    if (course === void 0)
+      own.notes.push(`the course “${read.course}” is not among the files`);
+    own.faults += read.faults.length + (course === void 0 ? 1 : 0);
+    const odd = { others: /* @__PURE__ */ new Set(), answers: /* @__PURE__ */ new Set() };
+    for (const { line } of read.solutions)
+      judgePart2(own, course?.lessons ?? [], line, assignment?.tasks ?? null, odd);
+    const [others, answers] = [odd.others, odd.answers].map((some) => [...some].map((task) => titleOf(task, courses)));
+    if (others.length > 0)
+      own.notes.push(`${counted(others.length, "solution")} of tasks not asked: ${others.join("; ")}`);
+    if (answers.length > 0)
+      own.notes.push(`the very answer of the lesson: ${answers.join("; ")}`);
+  }
+  function judgePart2(own, lessons, line, tasks, odd) {
     const verdict = judgedPart(askNow, lessons, line);
-    const task = line.startsWith("judge ") ? taskOfJudged(line, tasks)?.id ?? verdict.task : verdict.task;
+    const task = (line.startsWith("judge ") ? taskOfJudged(line, tasks ?? [])?.id : void 0) ?? verdict.task;
+    if (tasks !== null && task !== null && !tasks.some(({ id }) => id === task))
+      return void odd.others.add(task);
+    const title2 = task === null ? line.slice(0, 40) : tasks?.find(({ id }) => id === task)?.title ?? titleOf(task, [{ lessons }]);
     const isOwn = verdict.schedule !== void 0 && !verdict.isVeryAnswer;
     if (verdict.isSolved)
       own.solved.set(task, isOwn ? verdict.schedule : null);
     else {
-      own.wrong.add(task);
-      own.notes.push(`${task ?? line.slice(0, 40)}: ${verdict.says}`);
+      if (task === null)
+        own.faults++;
+      else
+        own.wrong.add(task);
+      own.notes.push(`${title2}: ${inLetters(verdict.says)}`);
     }
     if (verdict.isVeryAnswer)
-      own.notes.push(`${task}: the very answer of the lesson`);
+      odd.answers.add(task);
     if (verdict.ofExample)
-      own.notes.push(`${task}: the very run of an example`);
+      own.notes.push(`${title2}: the very run of the example ${verdict.ofExample}`);
+  }
+  function titleOf(task, courses) {
+    const [kind, name] = task.split(" ");
+    if (kind === "break")
+      return tasksOf({ break: String(numberOfLevel(name)) }).tasks[0]?.title ?? task;
+    if (kind !== "judge")
+      return courses.flatMap(({ lessons }) => lessons).find((lesson) => lesson.name === task)?.title ?? task;
+    const [, list] = /list=([a-z-]+)/.exec(name) ?? [];
+    return LISTS[list] === void 0 ? task : `Judged: ${LISTS[list].name}, ${/event=(\d+)/.exec(name)?.[1] ?? "?"} events`;
   }
   var markOf = ({ solved, wrong }, { id }) => solved.has(id) ? "solved" : wrong.has(id) ? "wrong" : "none";
-  function noteNumbers(rows) {
-    for (const row of rows) {
-      const names = rows.filter(({ number }) => number !== "" && number === row.number).map(({ name }) => name);
-      if (names.length > 1)
-        row.notes.unshift(`two names for one number: ${names.join(", ")}`);
-    }
+  var countOf = ({ solved }, columns) => columns.filter(({ id }) => solved.has(id)).length;
+  function notesOnNames(row, rows) {
+    const { name, number, files } = row;
+    const same = rows.filter((other) => number !== "" && other.number === number).map((other) => other.name);
+    const twins = rows.filter((other) => other.name.toLowerCase() === name.toLowerCase() && [number, other.number].includes(""));
+    const twinFiles = twins.flatMap((one) => one.files).join(", ");
+    const notes = [
+      [files, `merged from ${files.join(", ")}`],
+      [same, `two names for one number: ${same.join(", ")}`],
+      [twins, `${twins.length} rows with this name, since a number is missing: ${twinFiles}`]
+    ];
+    return notes.filter(([some]) => some.length > 1).map(([, note]) => note);
   }
-  function noteSame(rows) {
+  function noteCopies(rows) {
     const byText = /* @__PURE__ */ new Map();
-    const note = (row, { name }, task) => row.same.set(name, [...row.same.get(name) ?? [], task]);
+    const own = new Map(rows.map((row) => [row, [...row.solved].filter(([, schedule]) => schedule !== null).map((entry) => entry.join("\n"))]));
+    for (const row of rows)
+      for (const key of own.get(row))
+        byText.set(key, [...byText.get(key) ?? [], row]);
+    const most = Math.max(4, rows.length / MANY);
+    const isRare = (key) => byText.get(key).length <= most;
     for (const row of rows) {
-      row.same = /* @__PURE__ */ new Map();
-      for (const [task, schedule] of row.solved) {
-        const key = `${task}
-${schedule}`;
-        const others = schedule === null ? [] : byText.get(key) ?? [];
-        byText.set(key, [...others, row]);
-        for (const other of others)
-          note(row, other, task), note(other, row, task);
+      const keys = own.get(row);
+      const rare = keys.filter(isRare);
+      for (const other of new Set(rare.flatMap((key) => byText.get(key)).filter((one) => one !== row))) {
+        const shared = keys.filter((key) => own.get(other).includes(key));
+        const isTold = shared.filter(isRare).length >= Math.min(2, rare.length);
+        const group = row.copies.find((one) => one.count === shared.length && one.isTold === isTold);
+        if (group === void 0)
+          row.copies.push({ count: shared.length, of: keys.length, isTold, rows: [other] });
+        else
+          group.rows.push(other);
       }
+      row.copies.sort((one, other) => Number(other.isTold) - Number(one.isTold) || other.count - one.count);
     }
+    return [...new Set([...byText.keys()].filter((key) => !isRare(key)).map((key) => key.split("\n")[0]))];
   }
-  function sameText(row) {
-    const others = [...row.same].map(([name, tasks]) => `${name} (${tasks.length})`);
-    return others.length > 3 ? `${others.slice(0, 2).join(", ")} and ${others.length - 2} more` : others.join(", ");
+  function copiesText({ copies }, all = false) {
+    const nameOf = ({ name, number }) => number === "" ? name : `${name} (${number})`;
+    const groups = copies.filter(({ isTold }) => all || isTold);
+    return groups.map(({ count, of, rows }) => `${count} of ${of} with ${rows.map(nameOf).join(", ")}`).join("; ");
   }
   function csvOf({ rows, columns }) {
     const cell = (value) => {
       const text = String(value).replace(/^[=+\-@\t\r]/, "'$&");
       return /[",\n;]/.test(text) ? `"${text.replaceAll('"', '""')}"` : text;
     };
-    const head2 = ["student", "number", ...columns.map(({ title: title2 }) => title2), "solved", "of", "same schedules as", "notes", "files"];
+    const head2 = ["student", "number", ...columns.map(({ title: title2 }) => title2), "solved", "of", "same schedules", "notes", "files"];
     const line = (row) => {
       const marks = columns.map((column) => ({ solved: 1, wrong: 0, none: "" })[markOf(row, column)]);
-      const solved = marks.filter((mark) => mark === 1).length;
-      return [row.name, row.number, ...marks, solved, columns.length, sameText(row), row.notes.join(" | "), row.files.join(" ")];
+      return [row.name, row.number, ...marks, countOf(row, columns), columns.length, copiesText(row, true), row.notes.join(" | "), row.files.join(" ")];
     };
-    return `${[head2, ...rows.map(line)].map((cells) => cells.map(cell).join(",")).join("\r\n")}\r
+    return `\uFEFF${[head2, ...rows.map(line)].map((cells) => cells.map(cell).join(",")).join("\r\n")}\r
 `;
   }
 
   // src/story/handins_view.js
   var MOST_BYTES = 2e6;
-  var MOST_NOTES = 2;
-  var given = { files: [], tooLong: [], result: null };
+  var MOST_NOTES = 3;
+  var given = { files: [], tooLong: [], result: null, turn: 0 };
   var MARKS = { solved: '<b class="yes">✓</b>', wrong: '<b class="no" title="handed in, and wrong">✗</b>', none: "–" };
   var piece = (name) => part(`#in-${name}`);
   var handInsHtml = () => `<section class="panel" id="handins"><h2>What they handed in</h2>
@@ -10856,22 +11134,23 @@ ${schedule}`;
   <progress id="in-progress" hidden aria-label="files checked"></progress><p id="in-told" role="status"></p>
   <div id="in-table" class="scroll" tabindex="0" role="group" aria-label="what was handed in"></div>
   <p class="line" id="in-save" hidden><button class="primary" data-do="csv">Save as CSV</button><button class="quiet" data-do="clear">Clear</button></p></section>`;
-  function tasksGiven() {
-    const link = piece("link").value.trim();
-    const parts = Object.fromEntries(new URLSearchParams(link.slice(link.indexOf("#") + 1)));
-    return "assignment" in parts ? tasksOf(parts).tasks : null;
-  }
   async function check() {
-    if (given.files.length === 0)
+    const turn = ++given.turn;
+    if (given.files.length + given.tooLong.length === 0)
       return;
+    const link = piece("link").value.trim();
+    const assignment = link === "" ? null : assignmentOfLink(link);
+    if (assignment?.fault !== void 0)
+      return showNothing(assignment.fault);
     Object.assign(piece("progress"), { hidden: false, max: 1, value: 0 });
     piece("told").textContent = `${given.files.length} files …`;
-    const tell2 = (value, max) => piece("progress") !== null && Object.assign(piece("progress"), { value, max });
-    given.result = await checkAll(given.files, tasksGiven(), tell2);
-    if (piece("progress") === null)
+    const isNow = () => turn === given.turn && piece("progress") !== null;
+    const result = await checkAll(given.files, assignment, (value, max) => isNow() && Object.assign(piece("progress"), { value, max }));
+    if (!isNow())
       return;
     piece("progress").hidden = true;
-    drawResult(given.result);
+    given.result = result;
+    drawResult(result);
   }
   async function filesOf(entry) {
     if (entry.isFile)
@@ -10888,7 +11167,7 @@ ${schedule}`;
   async function take(found) {
     for (const { name, file } of found) {
       if (file.size < MOST_BYTES)
-        given.files.push({ name, text: await file.text() });
+        given.files.push({ name, text: textOfBytes(new Uint8Array(await file.arrayBuffer())) });
       else
         given.tooLong.push(name);
     }
@@ -10897,7 +11176,7 @@ ${schedule}`;
   function beginHandIns() {
     const drop = piece("drop");
     piece("files").onchange = ({ target }) => take([...target.files].map((file) => ({ name: file.name, file })));
-    piece("link").onchange = check;
+    piece("link").oninput = check;
     drop.ondragover = (event) => {
       event.preventDefault();
       drop.classList.add("over");
@@ -10911,75 +11190,67 @@ ${schedule}`;
     };
     check();
   }
-  function notesOf(row) {
-    const same = sameText(row);
-    const notes = [...same === "" ? [] : [`same schedules as ${same}`], ...row.notes];
+  function notesOf({ notes }) {
     const more = notes.length > MOST_NOTES ? ` … and ${notes.length - MOST_NOTES} more` : "";
     return `${escaped(notes.slice(0, MOST_NOTES).join("; "))}${more}`;
   }
   function drawRow(row, columns) {
-    const marks = columns.map((column) => markOf(row, column));
-    const cells = marks.map((mark) => `<td class="mark">${MARKS[mark]}</td>`).join("");
-    const count = marks.filter((mark) => mark === "solved").length;
-    return `<tr><th scope="row">${escaped(row.name)}</th><td>${escaped(row.number)}</td>${cells}
-    <td class="mark"><b>${count}</b></td><td class="notes">${notesOf(row)}</td></tr>`;
+    const cells = columns.map((column) => `<td class="mark">${MARKS[markOf(row, column)]}</td>`).join("");
+    return `<tr><th scope="row">${escaped(row.name)}</th><td>${escaped(row.number)}</td>${cells}<td class="mark"><b>${countOf(row, columns)}</b></td>
+    <td class="same">${escaped(copiesText(row))}</td><td class="notes">${notesOf(row)}</td></tr>`;
   }
-  function drawResult({ rows, columns, empty }) {
-    const full = rows.filter(({ solved }) => columns.every(({ id }) => solved.has(id))).length;
-    const odd = [["Without a hand-in", empty], ["Too long", given.tooLong]].filter(([, names]) => names.length > 0);
-    const wrong = odd.map(([what, names]) => tag("span", { class: "odd" }, `${what}: ${escaped(names.join(", "))}.`)).join(" ");
+  function drawResult({ rows, columns, empty, common }) {
+    const full = rows.filter((row) => countOf(row, columns) === columns.length).length;
+    const odd = [["Without a hand-in", empty], ["Too long", given.tooLong], ["Same schedules: left out, as many have them", common]];
+    const wrong = odd.filter(([, names]) => names.length > 0).map(([what, names]) => tag("span", { class: "odd" }, `${what}: ${escaped(names.join(", "))}.`));
     const merged = rows.reduce((sum, { files: files2 }) => sum + files2.length - 1, 0);
     const files = `${counted(given.files.length + given.tooLong.length, "file")}: <b>${counted(rows.length, "student")}</b>`;
-    piece("told").innerHTML = `${files}, ${merged} merged, ${empty.length} without a hand-in. ${full} with all ${columns.length} tasks. ${wrong}`;
-    const heads = ["Student", "Number", ...columns.map(({ title: title2 }) => title2), "Solved", "Notes"].map((name) => `<th scope="col">${escaped(name)}</th>`);
+    piece("told").innerHTML = `${files}, ${merged} merged, ${empty.length} without a hand-in. ${full} with all ${columns.length} tasks. ${wrong.join(" ")}`;
+    const head2 = (name, at) => tag("th", { scope: "col" }, tag("button", { "data-do": "sort", "data-at": at }, escaped(name)));
+    const heads = ["Student", "Number", ...columns.map(({ title: title2 }) => title2), "Solved", "Same schedules", "Notes"].map(head2);
     const body = rows.map((row) => drawRow(row, columns)).join("");
     piece("table").innerHTML = `<table class="class"><thead><tr>${heads.join("")}</tr></thead><tbody>${body}</tbody></table>`;
     piece("save").hidden = false;
   }
+  function showNothing(told2) {
+    piece("table").innerHTML = "";
+    piece("told").textContent = told2;
+    piece("save").hidden = piece("progress").hidden = true;
+  }
   function clear() {
-    Object.assign(given, { files: [], tooLong: [], result: null });
-    for (const name of ["table", "told"])
-      piece(name).innerHTML = "";
-    piece("save").hidden = true;
+    Object.assign(given, { files: [], tooLong: [], result: null, turn: given.turn + 1 });
+    showNothing("");
     piece("files").value = "";
   }
-  var handInDeeds = { csv: () => saveText("hand-ins.csv", `\uFEFF${csvOf(given.result)}`, "text/csv"), clear };
+  var handInDeeds = {
+    csv: () => saveText("hand-ins.csv", csvOf(given.result), "text/csv"),
+    clear,
+    sort({ dataset: { at } }) {
+      const body = piece("table").querySelector("tbody");
+      const sign = at > given.result.columns.length + 2 ? -1 : 1;
+      const compared = (one, other) => sign * one.cells[at].innerText.localeCompare(other.cells[at].innerText, void 0, { numeric: true });
+      body.append(...[...body.rows].sort(compared));
+    }
+  };
 
   // src/story/teach_view.js
-  var LECTURE = [
-    [4, "Lose a number", "#story=2&view=lecture", "No lock. Let the class call out A or B until a number is lost."],
-    [4, "One lock", "#story=3&view=lecture", "A has the lock and is stopped. How far does B get? Let the class guess, then press 1, 2 or 3."],
-    [5, "FineList: hand over hand", "#story=4&view=lecture", "A has locked 3 and 7. How far does B get now? Then let B follow A, node by node."],
-    [5, "A walk without locks", "#story=5&view=lecture", "Both lock what they change, and 5 gets lost all the same. Let the class find the order."],
-    [6, "Why a second walk", "#ask=stale-pred&view=lecture", "May A write? After the answer, press “And without this check?”: 5 is lost."],
-    [5, "LazyList: a mark", "#story=7&view=lecture", "B has marked 5, and its node is still in the chain. What may A answer?"],
-    [5, "In another thread’s step", "#ask=read-in-anothers-step&view=lecture", "A will answer false. When is that right? In a step of B."],
-    [
-      3,
-      "Who waits?",
-      "#sides=coarse.lazy&quota=4&calls=0.add.5,1.contains.5&turns=0.0.0.0&view=lecture",
-      "Press B three times: LazyList has answered, CoarseList tries its lock."
-    ],
-    [5, "LockFreeList: compare-and-set", "#story=9&view=lecture", "Two removes of 5, no lock. Who comes first? Let the class decide, then step A and B."],
-    [3, "Everybody judges", "#seed=lazy.2.5.2.17&judge", "Write the link on the board. All get the same run, without its answers."]
-  ];
   var PANELS = { slides: "Lecture", embed: "Embed", homework: "Homework", handins: "Hand-ins", own: "Your own lessons" };
   function lectureHtml() {
-    const slide = ([minutes, title2, href, says]) => tag(
+    const slide = ([minutes, title2, _, says], at) => tag(
       "li",
       {},
       tag("span", { class: "minutes" }, `${minutes}′`),
-      `<div><b>${title2}</b><p class="small">${says}</p></div>`,
-      tag("a", { class: "button", href, target: "_blank" }, "Open slide ↗"),
-      tag("button", { class: "quiet", "data-do": "link", "data-link": href }, "Copy link")
+      `<div><b>${at + 1}. ${title2}</b><p class="small">${says}</p></div>`,
+      tag("a", { class: "button", href: slideAddress(at + 1) }, "Open slide"),
+      tag("button", { class: "quiet", "data-do": "link", "data-link": slideAddress(at + 1) }, "Copy link")
     );
     const sum = LECTURE.reduce((total, [minutes]) => total + minutes, 0);
     return `<section class="panel" id="slides"><h2>A lecture of ${sum} minutes</h2>
-    <p class="prose">Each link opens one slide, as large as the screen. A presenter’s keys and the arrows step; A and B let a thread go on; Escape
-    leads back. Ask the class first, then step.</p><ol class="plan">${LECTURE.map(slide).join("")}</ol></section>`;
+    <p class="prose">Each slide is as large as the screen. A presenter’s keys, the arrows and Space go on and back, through all of them; A and B
+    let a thread step; Escape leads back here. Ask the class first, then step.</p><ol class="plan">${LECTURE.map(slide).join("")}</ol></section>`;
   }
-  var titleOf = (name) => QUESTIONS.find((item) => item.name === name).title;
-  var snippetOf = (name) => `<iframe src="${linkTo(`#ask=${name}&view=embed`)}" width="800" height="420" style="border:0" loading="lazy" title="${titleOf(name)}"></iframe>`;
+  var titleOf2 = (name) => QUESTIONS.find((item) => item.name === name).title;
+  var snippetOf = (name) => `<iframe src="${linkTo(`#ask=${name}&view=embed`)}" width="800" height="420" style="border:0" loading="lazy" title="${titleOf2(name)}"></iframe>`;
   function embedHtml() {
     const option = ({ name, title: title2, list }) => tag("option", { value: name }, `${title2} (${LISTS[list].name})`);
     return `<section class="panel" id="embed"><h2>A question in your own page</h2>
@@ -11044,6 +11315,8 @@ goal
     piece2("count").textContent = count === 0 ? "Nothing is ticked yet." : `${count} task${count === 1 ? "" : "s"}`;
     piece2("link").textContent = linkTo(address);
     piece2("open").href = address;
+    if (count > 0)
+      Object.assign(part("#in-link"), { value: linkTo(address) }).oninput?.();
     const item = (seed, at) => `<li><code>${seed}</code> <a href="#seed=${seed}" target="_blank">look</a>
     <button class="quiet small" data-do="drop" data-at="${at}" aria-label="leave out ${seed}">✕</button></li>`;
     piece2("seeds").innerHTML = work.seeds.map(item).join("");
@@ -11126,7 +11399,7 @@ goal
   function listen() {
     for (const begin9 of LISTEN)
       begin9();
-    keysOf.scene = pressInScene;
+    Object.assign(keysOf, { scene: pressInScene, slide: goOnSlide });
     document.addEventListener("click", stopUnable, true);
     document.addEventListener("keydown", pressKey);
     window.addEventListener("resize", show);

@@ -449,7 +449,7 @@ export const BOOK = [
   "  say That add has ended. Undo to where it is about to exchange the link of pred.",
   "",
   "lesson ceiling-in-anothers-step",
-  "title A ceiling in another thread's step",
+  "title ceiling(6) answers 9, and 7 is in the set",
   "list lock-free",
   "threads 2",
   "quota 4",

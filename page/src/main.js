@@ -21,7 +21,8 @@ import { breakView } from "./story/break_view.js";
 import { codeView } from "./story/code_view.js";
 import { learnView } from "./story/learn_view.js";
 import { pathView } from "./story/path_view.js";
-import { isScene, leaveScene, listenToScene, pressInScene, renderScene, VIEWS } from "./story/scene.js";
+import { isScene, leaveScene, listenToScene, renderScene, VIEWS } from "./story/scene.js";
+import { goOnSlide, pressInScene } from "./story/slide.js";
 import { teachView } from "./story/teach_view.js";
 
 const EMPTY_TRACE = "listset-trace 1\nlist lazy\nthreads 2\nquota 4\nend\n";
@@ -35,7 +36,7 @@ const LISTEN = [listenToBar, listenToBench, listenToWork, listenToFiles, listenT
 
 function listen() {
   for (const begin of LISTEN) begin();
-  keysOf.scene = pressInScene;
+  Object.assign(keysOf, { scene: pressInScene, slide: goOnSlide });
   document.addEventListener("click", stopUnable, true);
   document.addEventListener("keydown", pressKey);
   window.addEventListener("resize", show);

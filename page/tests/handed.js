@@ -89,56 +89,74 @@ function checkTeacher(course, folder) {
   const answers = course.lessons.map(({ name, solution }) => ({ name, schedule: solution }));
   const text = (student, solutions, orders = []) => handInText(NAME, student, solutions, orders);
   const all = said(folder, text("Ada", answers, [ORDER, BROKEN]));
-  const very = "12 by the very schedule of the lesson's answer, which may be its shortest";
-  const line = `Ada: 12 of 12 solved; 1 order judged right; 1 list broken; ${very}`;
-  check(`all: ${all.lines}`, same(all, { status: 0, lines: [line], fault: "" }));
+  const very = `Ada: the very answer of the lesson: ${course.lessons.map(({ title }) => title).join("; ")}`;
+  check(`all: ${all.lines}`, same(all, { status: 0, lines: ["Ada: 14 of 14 solved", very], fault: "" }));
   const whole = said(folder, text("Ada", answers, [BROKEN.replace(",b0.add.5,g0.8", "")]));
-  const [first] = whole.lines;
-  check(`explained: ${first}`, whole.status === 1 && first.endsWith(": break new-slot: Not broken yet: some order explains this run."));
+  check(`explained: ${whole.lines[1]}`, whole.status === 1 && whole.lines[1].endsWith("Not broken yet: some order explains this run."));
   const two = `${text("Ada", answers)}\n${quoted(text("Bo", answers.slice(1)))}`;
   const group = said(folder, two, text("Cy", [], ["judge snip points none"]));
-  check(`a class: ${group.lines.join("; ")}`, group.status === 1 && group.lines.includes("Bo: one-lock: not handed in"));
-  check(
-    "how many have all",
-    group.lines.at(-1) === "1 of 3 students have solved all" && group.lines.includes("Cy: 0 of 12 solved"),
-  );
-  const claim = group.lines.find((line) => line.startsWith("Cy: ") && line.includes("judge snip points"));
+  check(`a class: ${group.lines.join("; ")}`, group.status === 1 && group.lines.includes("Bo: 11 of 13 solved; open: judge snip points; The one lock"));
+  check("how many have all", group.lines.at(-1) === "0 of 3 students have solved all");
+  const claim = group.lines.find((line) => line.startsWith("Cy: judge snip points"));
   check(`a claim that is wrong: ${claim}`, claim?.includes("There is one: this is a run"));
-  const twice = said(folder, text("Ada", answers.slice(0, 6)), text("Ada", answers.slice(6)));
-  check(`two texts of one student: ${twice.lines}`, twice.status === 0 && twice.lines.length === 1);
+  const twice = said(folder, text("Ada (7)", answers.slice(0, 6)), text("ada (7)", answers.slice(6)));
+  check(`two texts of one student: ${twice.lines}`, twice.status === 0 && /merged from .*0.txt, .*1.txt$/.test(twice.lines[1]));
+  const named = said(folder, text("Max", answers.slice(0, 6)), text("Max", answers.slice(6)));
+  check(`two of one name: ${named.lines}`, named.status === 1 && named.lines.filter((line) => line.startsWith("Max: 2 rows with this name")).length === 2);
 }
 
-// What is not a student's own: schedules that two have, to the byte, and that of an example; and a course that is not there.
+// The tasks of an assignment alone, a folder, UTF-16, the table; and a link that is none.
+function checkAssignment(course, folder) {
+  const link = "https://lists.example/page/#assignment=Week+3&learn=one-lock";
+  const [answer, other] = course.lessons.map(({ name, solution }) => ({ name, schedule: solution }));
+  const inner = fs.mkdtempSync(path.join(folder, "class-"));
+  const text = handInText(NAME, "Jörg (1)", [answer, other], [], "Week 2");
+  fs.writeFileSync(path.join(inner, "utf-16.txt"), Buffer.from(`\ufeff${text}`, "utf16le"));
+  const table = path.join(folder, "table.csv");
+  const { status, lines } = told("--assignment", link, "--csv", table, inner);
+  const due = ["Jörg (1): 1 of 1 solved", "Jörg (1): handed in for “Week 2”", "Jörg (1): 1 solution of tasks not asked: Hand over hand"];
+  check(`an assignment: ${lines}`, status === 0 && due.every((line) => lines.includes(line)));
+  const csv = fs.readFileSync(table, "utf8").split("\r\n");
+  check(`its table: ${csv}`, csv[1].startsWith("Jörg,1,1,1,1,") && csv[0].includes("The one lock"));
+  for (const wrong of ["http://example.org/foo", "#assignment=x&learn=one-lok", "#assignment=x"]) {
+    const { status, lines, fault } = told("--assignment", wrong, inner);
+    check(`the link ${wrong}: ${fault}`, status === 2 && lines.length === 0 && /^lessons: .* link .*\n$/.test(fault));
+  }
+}
+
+// What is not a student's own: schedules that two have, to the byte, but not what many have; and that of an example.
 function checkOwn(ask, course, folder) {
   const text = (student, solutions, lines = []) => handInText(NAME, student, solutions, lines);
   const own = ({ name, solution }, from, to) => ({ name, schedule: solution.replace(from, to) });
   const [waits, marked] = ["one-lock", "marked-in-chain"].map((name) => course.lessons.find((lesson) => lesson.name === name));
   const first = [own(waits, "go 0 1\n", "go 0 2\n"), own(marked, "go 0 3\n", "go 0 1\ngo 0 2\n")];
-  const second = [first[0], own(marked, "go 0 3\n", "go 0 2\ngo 0 1\n")];
-  const group = said(folder, text("Ada", first, [BROKEN_OWN]), text("Dee", second, [BROKEN_OWN]), text("Bo", [own(marked, "", "")])).lines;
-  const same = group.filter((line) => line.startsWith("the same schedules: "));
-  check(`the same schedules: ${same}`, same.join() === "the same schedules: Ada, Dee (one-lock, break mark-in-remove)");
+  const many = ["Bo", "Cy", "Di", "Ed", "Flo"].map((name) => text(name, [], [BROKEN_OWN]));
+  const group = said(folder, text("Ada", first, [BROKEN_OWN]), text("Dee", first, [BROKEN_OWN]), ...many).lines;
+  const copies = group.filter((line) => line.includes("same schedules: "));
+  const due = ["Ada: same schedules: 3 of 3 with Dee", "Dee: same schedules: 3 of 3 with Ada"];
+  check(`the same schedules: ${copies}`, same(copies.slice(0, 2), due) && copies.length === 3 && copies[2].includes("left out"));
   const example = ask("listset_example", "stale-pred").text;
   const trace = new (inPage("Trace"))(ask("listset_lacking", "second-walk", example, "trace").text, inPage("versionOf")(example));
   const shown = inPage("scheduleOfTrace")(trace);
   const line = `break second-walk ${inPage("addressOf")(shown, trace.total)}`;
   const [named] = said(folder, text("Eve", [], [line])).lines.slice(-1);
-  check(`that of an example: ${named}`, named.endsWith("1 list broken; of these 1 by the very schedule of an example: stale-pred"));
-  const other = said(folder, text("Eve", [], [BROKEN_OWN])).lines.at(-1);
-  check(`but not one's own: ${other}`, other.endsWith("1 list broken"));
-  const nowhere = said(folder, "listset-lessons 2\ncourse Another\nstudent Eve\nend\n").lines.at(-1);
-  check(`a course that is not there: ${nowhere}`, nowhere === "Eve: not counted: name the course on the command line");
+  check(`that of an example: ${named}`, named.endsWith("the very run of the example stale-pred"));
+  const other = said(folder, text("Eve", [], [BROKEN_OWN])).lines;
+  check(`but not one's own: ${other}`, same(other, ["Eve: 1 of 1 solved"]));
+  const nowhere = said(folder, "listset-lessons 2\ncourse Another\nstudent Eve\nend\n");
+  check(`a course that is not there: ${nowhere.lines}`, nowhere.status === 1 && nowhere.lines.includes("Eve: the course “Another” is not among the files"));
 }
 
 function checkBadTexts(folder) {
   const text = `listset-lessons 2
-student \u001b[2JEve
+student \u001bEve (2)
 one-lock
 two-at-once #list=fine&threads=2&quota=4&opening=3.6.9&s=b0.remove.9,g0.12,b1.add.3,g1.6&event=20
 two-at-once #list=fine&threads=2&quota=4&opening=3.6.9&s=b0.remove.9,g0.99
 lost-pred #example=stale-pred&event=30
 changed-link #list=optimistic&threads=2&quota=4&s=
 marked-in-chain #list=lazy&threads=2&quota=4&opening=5&s=b0.add &event=3
+over-removed-nodes #list=lazy&threads=2&quota=4&s=b0.add.5,g0.x
 no-lesson #list=lazy&threads=2&quota=4&s=
 judge snip points 0-true
 judge nosuch points 0-true
@@ -147,29 +165,24 @@ judge snip replies 0-foo,2-true,1-true
 This is no line of a solution.
 `;
   const { status, lines } = said(folder, text);
-  const file = path.join(folder, "0.txt");
   const due = [
-    `line 14: "This is no line of a solution." is no line of a solution`,
+    `line 15: "This is no line of a solution." is no line of a solution`,
     'line 1: the text is cut: the line "end" is missing',
-    "line 3: one-lock: the address of a schedule is missing, from # on",
-    "line 4: two-at-once: missing: Thread 1 has an add that answers true.",
-    "line 5: two-at-once: Line 9 of the schedule is refused: the thread makes a step while it has no call pending.",
-    "line 6: lost-pred: the address is not that of a schedule",
-    "line 7: changed-link: The list, the number of threads, the quota and the opening keys are to be those of the lesson.",
-    "line 8: marked-in-chain: there is more behind the address",
-    'line 9: there is no lesson "no-lesson"',
-    "line 10: judge snip points: Still missing: the point of remove(5) of A, the point of add(7) of B.",
-    'line 11: judge nosuch points: there is no example "nosuch"',
-    "line 12: judge snip deep: a level is due, one of points, replies, claim",
-    "line 13: judge snip replies: This order is not judged: listset: line 8: Line.",
-  ].map((line) => `?[2JEve: ${file}, ${line}`);
-  for (const line of due) check(`told: ${line}; ${lines.slice(0, 15).join("; ")}`, lines.includes(line));
-  check("nothing is solved", status === 1 && lines.at(-1) === "?[2JEve: 0 of 12 solved");
-  const other = said(folder, "listset-lessons 2\ncourse Another\nstudent Ada\nend\n");
-  check(
-    `another course: ${other.lines}`,
-    other.status === 1 && other.lines.some((line) => line.endsWith('the course "Another" is not among the files')),
-  );
+    "The one lock: the address of a schedule is missing, from # on",
+    "Two at once: missing: B has an add that answers true.",
+    "Two at once: Line 9 of the schedule is refused: the thread makes a step while it has no call pending.",
+    "The lost predecessor: the address is not that of a schedule",
+    "The changed link: The list, the number of threads, the quota and the opening keys are to be those of the lesson.",
+    "Marked, and still in the chain: there is more behind the address",
+    'Over removed nodes: "g0.x" is no s of an address',
+    'there is no lesson "no-lesson"',
+    "judge snip points: Still missing: the point of remove(5) of A, the point of add(7) of B.",
+    'judge nosuch points: there is no example "nosuch"',
+    "judge snip deep: a level is due, one of points, replies, claim",
+    "judge snip replies: This order is not judged: listset: line 8: Line.",
+  ];
+  for (const line of due) check(`told: ${line}; ${lines.slice(0, 16).join("; ")}`, lines.some((one) => one.startsWith("?Eve (2): ") && one.endsWith(line)));
+  check(`nothing is solved: ${lines[0]}`, status === 1 && lines[0].startsWith("?Eve (2): 0 of "));
 }
 
 function checkCourses(folder) {
@@ -210,14 +223,14 @@ goal
 
 // Words that are wrong, and files that are none, are told; the others are judged all the same.
 function checkWords(folder) {
-  for (const words of [[], ["--help"], ["-x", BOOK], ["--link"], [path.join(folder, "no-such-file")], [folder]]) {
+  for (const words of [[], ["--help"], ["-x", BOOK], ["--link"], [path.join(folder, "no-such-file")]]) {
     const { status, lines, fault } = told(...words);
     check(`the words ${words}: ${fault}`, status === 2 && lines.length === 0 && /^lessons: .+\n$/.test(fault));
   }
   const mixed = said(folder, "listset-schedule 1\n", "listset-lessons 2\nstudent Ada\nend\n");
   check(
     `a bad file among others: ${mixed.fault}`,
-    mixed.status === 2 && mixed.fault.includes("0.txt: no line is") && mixed.lines.length > 5,
+    mixed.status === 2 && mixed.fault.includes("0.txt: no line is") && mixed.lines.length > 0,
   );
   check("an empty file", said(folder, "").status === 2);
 }
@@ -228,6 +241,7 @@ async function main() {
   const folder = fs.mkdtempSync(path.join(os.tmpdir(), "lessons-"));
   checkMail(course);
   checkTeacher(course, folder);
+  checkAssignment(course, folder);
   checkOwn((...asked) => engine.ask(...asked), course, folder);
   checkBadTexts(folder);
   checkCourses(folder);

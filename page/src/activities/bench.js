@@ -1,4 +1,5 @@
 // The bench: the run at the event that is shown, the bar that moves it, its question above it, and below it what is unfolded.
+import { LECTURE } from "../data/lecture.js";
 import { LISTS } from "../../made/rows.js";
 import { anotherSeed, partsOfSeed, scheduleOfSeed, seedOf } from "../run/address.js";
 import { escaped, listOptions } from "../run/markup.js";
@@ -168,6 +169,7 @@ function aimGoOn() {
 export function showPlace() {
   document.title = titleIn(now, titleOfScene);
   showHome();
+  byId("leave").textContent = now.place.slide > 0 ? `${now.place.slide} of ${LECTURE.length} ✕` : "✕";
   if (now.place.screen !== "stage") return;
   const links = taskOfWatch();
   for (const name of ["before", "next"]) {

@@ -26,9 +26,8 @@ const listsOf = ({ given }) => (given.sides ?? "coarse.lazy").split(".");
 function html(place) {
   const preset = ([name, href]) => tag("a", { class: "button", href }, escaped(name));
   const choice = (name, at) => tag("label", {}, ["left ", "right "][at], tag("select", { id: `sides-${name}` }, listOptions(listsOf(place)[at])));
-  const lead = `<p class="lead">The same calls on two lists. A turn of a thread executes its next step in both; a call that has ended waits for
-    the other list. Who has to wait, and who is done? <a class="beside" href="tables.html#progress">Progress of each list: blocking, lock-free, wait-free</a></p>`;
-  return `<section class="screen">${head("", "Two lists, one program", lead)}
+  const lead = `<p class="lead">A turn of a thread executes its next step in both; a call that has ended waits for the other list. <a class="beside" href="tables.html#progress">Progress of each list: blocking, lock-free, wait-free</a></p>`;
+  return `<section class="screen">${head("", "The same calls on two lists: who waits, and who is done?", lead)}
     <div id="sides-presets" class="line">${PRESETS.map(preset).join(" ")}</div>
     <details id="sides-own"><summary>Your own program</summary><div class="line small">${SIDES.map(choice).join("")}
       <label>initial keys <input id="sides-opening" spellcheck="false" placeholder="no keys" size="8"></label>
@@ -54,6 +53,7 @@ function begin({ given }) {
   sidesPart("slider").oninput = () => turnTo(Number(sidesPart("slider").value));
   Object.assign(shown, { sides: null, quota: Number(quota), figures: [] });
   beginSides(turns.split(".").filter((thread) => thread !== "").map(Number));
+  if (now.place.slide > 0) shown.at = 0; // a slide goes through its turns
 }
 
 function beginSides(turns = []) {
@@ -145,6 +145,12 @@ function press(event) {
   } else if (threadOfKey(event) in sides.program) turnOf(threadOfKey(event));
 }
 
+function goes(by) {
+  const isThere = shown.at + by >= 0 && shown.at + by <= shown.sides.turns.length;
+  if (isThere) turnTo(shown.at + by);
+  return isThere;
+}
+
 export const compareView = {
   kind: "compare",
   title: (place) => `${listsOf(place).map((kind) => LISTS[kind].name).join(" beside ")} · Why not just one lock?`,
@@ -153,6 +159,7 @@ export const compareView = {
   draw,
   end,
   press,
+  goes,
   deeds: {
     begin: () => beginSides(),
     copy: () => copyText(linkTo(addressOfSides()), "The link is copied."),

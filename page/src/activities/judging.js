@@ -8,6 +8,7 @@ import { addressOf } from "../run/address.js";
 import { askList } from "../run/broken.js";
 import { exerciseOf, LEVELS, MOST_JUDGED, OwnAnswer, repliesOf, verdictOn, wordOfAnswer } from "../run/judged.js";
 import { callText, chipOf, escaped } from "../run/markup.js";
+import { homeworkOf } from "../story/assignment.js";
 
 export const JUDGED = "listset-judged"; // in the browser's storage: of each run and level the order that was right
 const HALF_STEPS = { ArrowLeft: -0.5, ArrowDown: -0.5, ArrowRight: 0.5, ArrowUp: 0.5 };
@@ -136,6 +137,8 @@ class Judging {
 
   drawVerdict() {
     const { verdict, tries } = this;
+    const isAsked = homeworkOf(now.place, now.task) !== null && verdict?.isRight !== true; // what shows its answer is not there yet
+    for (const name of ["end", "levels"]) judgePart(name).style.visibility = isAsked ? "hidden" : "";
     const kind = { true: "right", false: "wrong" }[verdict?.isRight] ?? "";
     judgePart("verdict").className = kind;
     judgePart("verdict").textContent = verdict?.says ?? "";
@@ -167,7 +170,7 @@ export function beginJudging() {
   if (trace.calls.length === 0) return tell("There is no call to judge yet.");
   if (trace.total > MOST_JUDGED) return tell(`A run of at most ${MOST_JUDGED} events can be judged; this one has ${trace.total}.`);
   tell("");
-  judging.begin(judgePart("level").value);
+  judging.begin(homeworkOf(now.place, now.task) === null ? judgePart("level").value : "replies");
   byId("next").focus(); // the arrows step; on the level they would change it
 }
 

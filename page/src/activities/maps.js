@@ -37,7 +37,7 @@ function askHtml() {
   const cardOf = ({ name, list, title, question }) => ({ href: `#ask=${name}`, list: LIST_WORDS[list], title, says: question, state: asks[name] });
   const next = QUESTIONS.find((item) => !seen.includes(item)) ?? QUESTIONS[0];
   const score = `<b>${right}</b> of ${QUESTIONS.length} guessed right at the first try, ${seen.length} seen`;
-  const words = "Eleven runs. Each stops just before the step on which it turns. Say what comes; then it goes on, and you may change it.";
+  const words = "Eleven runs. Each stops just before the decisive step. Say what comes; then it goes on, and you may change it.";
   return `${head("", "Guess, then see", lead(words, seen.length === 0 ? "" : score), "title")}${cards(QUESTIONS.map(cardOf))}
     <h2>Seven more</h2><p class="prose">These lists have a fourth call, <b>ceiling</b>: the smallest number that is as big as the one
     that is asked for, or more. And each thread may add only so many numbers.</p>${cards(APPENDIX.map(cardOf))}

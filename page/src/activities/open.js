@@ -1,5 +1,6 @@
 // What an address opens, and what the page shows first.
 import { TRACES } from "../../made/traces.js";
+import { LECTURE } from "../data/lecture.js";
 import { numberOfLevel } from "../data/levels.js";
 import { byId } from "../page/dom.js";
 import { isExample, openKept, openTask, openWork, ownTask, showMarks } from "../page/work.js";
@@ -77,18 +78,27 @@ function openLink({ text, event, lacks, view = null }) {
   openTask(ownTask("from a link"), text, event, `${told}${others}.`);
 }
 
-async function openAddress(hash) {
+// The slide of the lecture that an address names, also by the address of what is on it, or 0.
+function slideOf(hash) {
+  const [, number = "1"] = /^#lecture(?:=(.*))?$/.exec(hash) ?? [null, `${1 + LECTURE.findIndex(([, , address]) => address === hash)}`];
+  if (number === "0" || LECTURE[Number(number) - 1] !== undefined) return Number(number);
+  throw new AddressFault(`the lecture has the slides 1 to ${LECTURE.length}, and no "${number.slice(0, 60)}"`);
+}
+
+async function openAddress(given) {
   try {
+    const slide = slideOf(given);
+    const hash = slide === 0 ? given : LECTURE[slide - 1][2];
     const place = sceneOfHash(hash);
     if (place !== null) {
-      openStory(place);
+      openStory({ ...place, slide });
       return true;
     }
     const wanted = readAddress(hash);
-    setView(wanted.view);
+    setView(wanted.view, slide);
     if (wanted.course !== null) await openCourse(wanted);
     else if (wanted.place !== null) openPlace(wanted.place, wanted);
-    else if (wanted.sides !== null) openStory({ activity: "compare", given: wanted.sides, view: wanted.view });
+    else if (wanted.sides !== null) openStory({ activity: "compare", given: wanted.sides, view: wanted.view, slide });
     else if (wanted.example !== null || wanted.text !== null || wanted.seed !== null) openRun(wanted);
     else return false;
     return true;

@@ -3,6 +3,7 @@
 //
 //     listset-lessons 2
 //     course The twelve lessons of the five lists
+//     assignment Week 3
 //     student Ada
 //     marked-in-chain #list=lazy&threads=2&quota=4&opening=5&s=b1.remove.5,g1.7,b0.contains.5,g0.3&event=12
 //     judge snip points 2-true,0-true,1-true
@@ -22,9 +23,16 @@ import { judged, missingIn, MOST_EVENTS } from "./lesson.js";
 
 const HAND_IN_TITLE = "listset-lessons 2";
 
-export function handInText(course, student, solutions, otherLines) {
+export function handInText(course, student, solutions, otherLines, assignment = null) {
   const lines = solutions.map(({ name, schedule }) => `${name} ${addressOf(schedule, eventsAsked(schedule))}`);
-  return [HAND_IN_TITLE, `course ${course}`, `student ${student}`, ...lines, ...otherLines, "end", ""].join("\n");
+  const title = assignment === null ? [] : [`assignment ${assignment}`];
+  return [HAND_IN_TITLE, `course ${course}`, ...title, `student ${student}`, ...lines, ...otherLines, "end", ""].join("\n");
+}
+
+// The text of a file, in UTF-8 or in the UTF-16 of some editors.
+export function textOfBytes(bytes) {
+  const coding = { 0xfeff: "utf-16be", 0xfffe: "utf-16le" }[(bytes[0] << 8) | bytes[1]] ?? "utf-8";
+  return new TextDecoder(coding).decode(bytes);
 }
 
 function unmailed(text) {
@@ -62,9 +70,9 @@ export function textsIn(text) {
 }
 
 // Whether a line begins a part of a text that is handed in, whether a part lacks words, and whether a line may go on with one.
-const isBegin = (line) => /^(student|course|judge|break) /.test(line) || /^[a-z][a-z0-9-]* +(\S*#|<?https?:)/.test(line);
+const isBegin = (line) => /^(student|course|assignment|judge|break) /.test(line) || /^[a-z][a-z0-9-]* +(\S*#|<?https?:)/.test(line);
 const lacksWords = (line) =>
-  /^judge /.test(line) ? line.split(" ").length < 4 : !/^(student|course) /.test(line) && !line.includes("#");
+  /^judge /.test(line) ? line.split(" ").length < 4 : !/^(student|course|assignment) /.test(line) && !line.includes("#");
 const isPiece = (line) => !line.includes(" ") || /^\S*[.,=&]\S* /.test(line);
 
 export function readHandIn({ lines, isEnded, number }) {
@@ -80,8 +88,8 @@ export function readHandIn({ lines, isEnded, number }) {
   }
   const valueOf = (word) => parts.find(({ line }) => line.startsWith(`${word} `))?.line.slice(word.length + 1) ?? null;
   if (!isEnded) faults.push({ line: number, fault: 'the text is cut: the line "end" is missing' });
-  const solutions = parts.filter(({ line }) => !/^(student|course) /.test(line));
-  return { course: valueOf("course"), student: valueOf("student"), solutions, faults };
+  const solutions = parts.filter(({ line }) => !/^(student|course|assignment) /.test(line));
+  return { course: valueOf("course"), assignment: valueOf("assignment"), student: valueOf("student"), solutions, faults };
 }
 
 function readSchedule(link) {

@@ -28,7 +28,7 @@ export const BREAK_LEVELS = {
       "A remove takes its node out before it marks it.": "it marks the node first",
       "A remove does not look whether its key is there.": "it compares curr.key with its key",
     },
-    start: [["remove", 3], ["remove", 3]], shortest: [14, 2], missing: [{ row: 9, part: "no mark" }],
+    start: [["remove", 3], ["remove", 3]], shortest: [14, 2], missing: [{ row: 9, part: "unmarked" }],
   },
   mark: {
     story: "Removing a node is one compare-and-set here. Fast. Too fast?",
@@ -42,7 +42,7 @@ export const BREAK_LEVELS = {
       "A remove marks a node that is marked already.": "it marks no node at all",
       "An add writes its arrow without comparing.": "it compares with what it saw",
     },
-    start: [["add", 5], ["remove", 3]], shortest: [15, 2], missing: [{ row: 9, part: "CAS curr.next: succ, no mark → mark" }],
+    start: [["add", 5], ["remove", 3]], shortest: [15, 2], missing: [{ row: 9, part: "CAS curr.next: succ unmarked → marked" }],
   },
   "new-slot": {
     story: "Each key that is added needs a node of its own. Does it get one?",
@@ -124,7 +124,7 @@ export const BREAK_LEVELS = {
       "A remove does not mark its node.": "it marks the node before it unlinks it",
       "An add does not look whether its key is there.": "it compares curr.key with its key",
     },
-    start: [["add", 5], ["remove", 3]], shortest: [17, 2], missing: [{ row: 7, part: "no mark" }],
+    start: [["add", 5], ["remove", 3]], shortest: [17, 2], missing: [{ row: 7, part: "unmarked" }],
   },
   "same-node": {
     story: "The second walk looks for pred. It meets something that looks like it.",

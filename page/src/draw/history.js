@@ -22,7 +22,8 @@ const shownIn = ({ calls }, first, last) => calls.filter(({ begun, ended }) => b
 function formOf(threads) {
   if (threads > 12) return { bar: 9, below: 1, mostRows: 1 };
   if (threads > 6) return { bar: 13, below: 4, mostRows: 1 };
-  return { bar: BAR, below: BELOW, mostRows: threads > 3 ? 2 : 3 };
+  if (threads > 2) return { bar: 15, below: 3, mostRows: 2 };
+  return { bar: BAR, below: BELOW, mostRows: 3 };
 }
 
 export function layLabels(threads, calls, itemOf, room) {

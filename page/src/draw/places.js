@@ -145,7 +145,7 @@ export function arranged(state, event, shape) {
   const { shown, more } = nodesAside(state, chain, important);
   const rooms = roomsUnder(state, items, shown, shape);
   const lanesUnder = (labels, row) => Math.max(0, ...labels.filter((own) => own.row === row).map((own) => own.lane + 1));
-  const below = TOP + NODE_HEIGHT + 18 * lanesUnder(pointerLabels(pointers, places, rooms), TOP) + 62;
+  const below = TOP + NODE_HEIGHT + 18 * lanesUnder(pointerLabels(pointers, places, rooms), TOP) + 54;
   const right = placeAside(state, chain, shown, places, below);
   const labels = pointerLabels(pointers, places, rooms);
   const bottom = shown.length > 0 ? below : TOP;

@@ -101,7 +101,7 @@ function drawWindow(scale, total, x) {
 // What the row of the contents is called. A broken list may have other keys than the points of its calls say.
 function nameOfContents({ lacks }) {
   if (lacks === null) return label({ class: "name", x: 6, y: 17 }, "set");
-  const lines = ["set as", "told"].map((words, line) => label({ class: "name", x: 2, y: 10 + 12 * line }, words));
+  const lines = ["by the", "answers"].map((words, line) => label({ class: "name", x: 0, y: 10 + 12 * line, style: "font-size:11px" }, words));
   return tag("g", {}, title(`${BY_POINTS}; the list may have other keys`), ...lines);
 }
 const BY_POINTS = "the set by the linearization points of the calls";
@@ -115,7 +115,7 @@ export function drawContents(trace, scale) {
   const what = trace.lacks === null ? "the set" : BY_POINTS;
   const words = `${what} after event ${scale.count}: {${now.keys.slice(0, 40).join(", ")}}`;
   const frame = { width: scale.width, height: 50, viewBox: `0 0 ${scale.width} 50`, role: "img", "aria-label": words };
-  return tag("svg", frame, nameOfContents(trace), ...parts, drawCursor(scale, 24), number, drawWindow(scale, trace.total, x));
+  return tag("svg", frame, nameOfContents(trace), drawCursor(scale, 24), ...parts, number, drawWindow(scale, trace.total, x));
 }
 
 export function drawOrder(trace, count, hides = false) {

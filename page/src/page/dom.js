@@ -3,7 +3,7 @@
 /** @type {(id: string) => any} */
 export const byId = (id) => document.getElementById(id);
 
-// Draws a box anew; what had the focus there has it again, or else the first button: never a field, where a key would mean another thing.
+// Draws a box anew; what had the focus there has it again, or else the first button: never a field, nor what takes a press back.
 export function redraw(box, html) {
   /** @type {any} */
   const before = box.contains(document.activeElement) ? document.activeElement : null;
@@ -13,7 +13,7 @@ export function redraw(box, html) {
   else box.replaceChildren(...html);
   if (before === null) return;
   const same = [...box.querySelectorAll("button, select, input, a, [tabindex]")].find((part) => keyOf(part) === key);
-  (same ?? box.querySelector("button, a") ?? box).focus();
+  (same ?? box.querySelector("button:not([data-undo], [data-again]), a") ?? box).focus();
 }
 
 // A button that does nothing now is told as such, and keeps the focus that it has.

@@ -1,4 +1,5 @@
 // Files: a schedule, a trace or a report that is opened; a schedule and a trace that are saved. And the box of the report.
+import { textOfBytes } from "../course/hand_in.js";
 import { readVerdict } from "../engine/answers.js";
 import { askList } from "../run/broken.js";
 import { faultOfTrace } from "../run/check_trace.js";
@@ -23,7 +24,7 @@ export function saveText(name, text, type = "text/plain") {
 export function onFile(input, take) {
   input.onchange = async () => {
     const [file] = input.files;
-    await take(await file.text(), file.name);
+    await take(textOfBytes(new Uint8Array(await file.arrayBuffer())), file.name);
     input.value = "";
   };
 }

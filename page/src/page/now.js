@@ -31,6 +31,8 @@ export function announce(what, ...given) {
   for (const deed of listeners[what]) deed(...given);
 }
 
+export const isLecture = () => now.place.view === "lecture";
+export const isSceneSlide = () => isLecture() && now.place.screen === "scene"; // whose figure takes the height that is left
 export const isJudging = () => now.exercise !== null;
 export const hiddenOutcomes = () => (isJudging() ? LEVELS[now.exercise.level].hidden : []);
 export const exampleShown = () => exampleIn(now);

@@ -1,7 +1,7 @@
 // Play: one event after the other, in three speeds, until the end or a pause. Who asks the system for less motion begins slow.
 import { CLASSICS } from "../../made/classics.js";
 import { byId } from "./dom.js";
-import { exampleShown, goTo, now, show } from "./now.js";
+import { exampleShown, goTo, isLecture, now, show } from "./now.js";
 import { setView } from "./seen.js";
 
 const SPEEDS = { slow: 1600, medium: 700, fast: 200 }; // milliseconds of one event
@@ -57,16 +57,22 @@ function goToTurn(step) {
 }
 
 // ---- the keys; letters and digits can be switched off
-export const keysOf = { scene: (event) => event }; // what keys do in a scene
+export const keysOf = { scene: (event) => event, slide: (by) => by }; // what keys do in a scene, and a presenter's on a slide
+const WAYS = { PageDown: 1, ArrowRight: 1, ArrowDown: 1, " ": 1, PageUp: -1, ArrowLeft: -1, ArrowUp: -1 };
+const isPress = ({ key, target }) => key === " " && target.matches(":is(button, a, summary):focus-visible"); // of what has the focus
 
 export function pressKey(event) {
   if (/^(TEXTAREA|INPUT|SELECT)$/.test(event.target.tagName) && event.target.id !== "slider") return;
   if (event.ctrlKey || event.metaKey || event.altKey || event.target.closest("[role=slider]") !== null) return;
   if (event.key === "Escape" && now.place.view !== null) return toggleLecture();
+  if (isLecture() && event.key in WAYS && !isPress(event)) {
+    event.preventDefault();
+    if (document.activeElement.matches("button")) document.activeElement.blur(); // which the key would press too
+    return keysOf.slide(WAYS[event.key]);
+  }
   if (now.place.screen === "scene") return keysOf.scene(event);
   const { total } = now.run.trace;
-  const far = now.place.view === "lecture" ? 1 : 10; // what a lecturer's pointer sends
-  const steps = { ArrowRight: 1, ArrowLeft: -1, PageDown: far, PageUp: -far, Home: -total, End: total };
+  const steps = { ArrowRight: 1, ArrowLeft: -1, PageDown: 10, PageUp: -10, Home: -total, End: total };
   if (event.key in steps) {
     event.preventDefault();
     if (event.shiftKey && event.key.startsWith("Arrow")) goToTurn(steps[event.key]);
@@ -84,6 +90,7 @@ export function toggleKeys() {
 
 // The lecture view, and back: whoever leaves it by the key Tab is at the button that opens it.
 export function toggleLecture() {
+  if (now.place.slide > 0) return void (location.hash = "#teachers");
   const isLeft = document.activeElement === byId("leave");
   setView(now.place.view === null ? "lecture" : null);
   show();

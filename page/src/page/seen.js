@@ -57,4 +57,4 @@ const placed = { key: "" };
 export const services = { hasEngine: true }; // until it is known that there is none
 
 // A view shows one thing alone: a slide of a lecture, or the list or the history for a frame.
-export const setView = (view) => change("view", { view });
+export const setView = (view, slide = 0) => change("view", { view, slide });

@@ -8,7 +8,7 @@
  * `count` events; `isRun`: the trace is that of the text. A task is what the run is for: tries are kept under the name `work`, `begun` is
  * the text with which it begins.
  * @typedef {"lecture" | "embed" | "list" | "history" | null} PageView
- * @typedef {{ activity: string, screen: "stage" | "scene", id: string, given: Record<string, string>, view: PageView }} Place
+ * @typedef {{ activity: string, screen: "stage" | "scene", id: string, given: Record<string, string>, view: PageView, slide: number }} Place
  * @typedef {"" | "task" | "again" | "guess" | "playing" | "moment" | "done"} Stage
  * @typedef {{ stage: Stage, chosen: number | null, note: string, text: string, hints: number, at: number, branches: any[], wrong: string[] }} Scene
  * @typedef {{ text: string, trace: any, state: any, count: number, lacks: string | null, source: string, isRun: boolean, faultLine: number | null }} Run
@@ -25,7 +25,7 @@ const SCENE_AT_FIRST = { stage: "", chosen: null, note: "", text: "", hints: 0, 
 
 /** @returns {State} */
 export const stateAtFirst = () => ({
-  place: { activity: "watch", screen: "stage", id: "", given: {}, view: null },
+  place: { activity: "watch", screen: "stage", id: "", given: {}, view: null, slide: 0 },
   scene: SCENE_AT_FIRST,
   run: { text: "", trace: null, state: null, count: 0, lacks: null, source: "", isRun: false, faultLine: null },
   task: /** @type {Task} */ ({ ...NO_TASK_YET }),
@@ -48,7 +48,7 @@ const MAKES = {
   place: (state, { activity, screen, id = "", given = {} }) =>
     ({ ...state, place: { ...state.place, activity, screen, id, given }, scene: SCENE_AT_FIRST }),
   scene: (state, { type, ...given }) => ({ ...state, scene: { ...state.scene, ...given } }),
-  view: (state, { view }) => ({ ...state, place: { ...state.place, view } }),
+  view: (state, { view, slide = 0 }) => ({ ...state, place: { ...state.place, view, slide } }),
   task: (state, { task, lacks = null }) =>
     onStage({ ...state, task: { ...NO_TASK_YET, ...task }, run: { ...state.run, lacks }, exercise: null }),
   run: (state, { type, ...given }) => ({ ...state, run: { ...state.run, ...given } }),
@@ -75,5 +75,5 @@ export function reduce(state, action) {
 /** What an entry of the browser's history is: a place or a task, and not a step of its run. @param {State} state */
 export function entryOf({ place, task, exercise }) {
   const ofRun = place.screen === "stage" ? [task.kind, task.id, exercise !== null] : [place.id, JSON.stringify(place.given)];
-  return [place.activity, place.screen, place.view, ...ofRun].join("\n");
+  return [place.activity, place.screen, place.view, place.slide, ...ofRun].join("\n");
 }

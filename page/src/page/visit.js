@@ -1,6 +1,7 @@
 // The address bar follows what is shown, and what is kept in the browser does too.
 import { CLASSICS } from "../../made/classics.js";
 import { LISTS } from "../../made/rows.js";
+import { slideAddress } from "../data/lecture.js";
 import { levelOfNumber } from "../data/levels.js";
 import { AddressFault, addressOf, LONGEST_ADDRESS, longLine, partsOfSeed, shortLine, warningOf } from "../run/address.js";
 import { startOfLacking } from "../run/broken.js";
@@ -111,6 +112,7 @@ const ADDRESSES = {
 // The address of a state, or null where it has none. `given` has the packed course, or null for the book.
 export function addressIn(state, given) {
   const { place, task, run, exercise } = state;
+  if (place.slide > 0) return slideAddress(place.slide);
   const view = place.view === null ? "" : `&view=${place.view}`;
   if (place.screen === "scene") return (ADDRESSES[place.activity] ?? plainAddress)(place, state.scene, given) + view;
   const address = task.kind === "own" ? addressOf(run.text, run.count, run.lacks) : `#${task.kind}=${task.id}&event=${run.count}`;

@@ -97,7 +97,8 @@ function partsOf(hash) {
   for (const [name, value] of new URLSearchParams(hash.replace(/^#/, ""))) {
     if (!Object.hasOwn(ADDRESS_PARTS, name)) throw new AddressFault(`the address has a part "${name}", which is none`);
     if (name in parts) throw new AddressFault(`the address has "${name}" twice`);
-    if (!ADDRESS_PARTS[name].test(value)) throw new AddressFault(`"${value.slice(0, 60)}" is no ${name} of an address`);
+    const bad = ADDRESS_PARTS[name].test(value) ? undefined : (value.split(",").find((one) => !ADDRESS_PARTS[name].test(one)) ?? value);
+    if (bad !== undefined) throw new AddressFault(`"${bad.slice(0, 60)}" is no ${name} of an address`);
     parts[name] = value;
   }
   return parts;

@@ -9,7 +9,7 @@ export const QUESTIONS = [
       { text: "Only A", right: true, say: "" },
       { text: "Only B", say: "B gets the lock only when A is done. What does it find then?" },
     ],
-    why: "<b>Only A.</b> Who has the lock comes first. B tries in vain, which is a step too and changes nothing. When it gets the lock it walks, finds 5, and answers false.",
+    why: "<b>Only A.</b> Who has the lock comes first. B’s try fails and changes nothing. When B gets the lock it walks, finds 5, and answers false. Its ring stands where that was right first: when A’s 5 came in.",
     lacks: "lock", without: { lines: ["begin 0 add 5", "go 0 to 5", "begin 1 add 5", "go 1 out", "go 0 out"] },
     broken: "Both are told true, and 5 came in once.",
   },
@@ -23,11 +23,11 @@ export const QUESTIONS = [
       { text: "To 9, and waits there", say: "On its way it has to lock the head, as everybody." },
     ],
     why: "<b>Not even the head.</b> First A has to let go of it. Then B goes hand over hand: it lets go of the head only when it holds 5.",
-    lacks: "hand-over-hand", without: { opening: [3, 9], lines: ["begin 0 add 5", "go 0 7", "begin 1 remove 3", "go 1 8", "go 0 7"] },
+    lacks: "hand-over-hand", without: { question: "A adds 5, and lets go of 3 too early. B removes 3.", opening: [3, 9], lines: ["begin 0 add 5", "go 0 7", "begin 1 remove 3", "go 1 8", "go 0 7"] },
     broken: "5 is lost: its pred was taken out behind A’s back.",
   },
   {
-    name: "same-gap", list: "optimistic", title: "One gap for two", opening: [],
+    name: "same-gap", list: "optimistic", title: "One gap for two", opening: [], hides: [6, 7, 8],
     lines: ["begin 0 add 5", "begin 1 add 7", "go 0 2", "go 1 2", "go 1 out", "go 0 2"], rest: ["go 0 out"],
     question: "Both had walked to the gap between head and tail. B was first with its 7. Now A has its locks. What does A do?",
     options: [
@@ -38,7 +38,7 @@ export const QUESTIONS = [
     why: "<b>It notices.</b> A looks whether its pred still points to its curr. The head points to 7 now. So A lets go of both, and walks again.",
   },
   {
-    name: "stale-pred", list: "optimistic", title: "A pred that is gone", opening: [3],
+    name: "stale-pred", list: "optimistic", title: "A pred that is gone", opening: [3], hides: [6, 7],
     lines: ["begin 0 add 5", "go 0 4", "begin 1 remove 3", "go 1 out", "go 0 2"], rest: ["go 0 out"],
     question: "A’s pred is 3. Meanwhile B has removed 3, whose node still points to the end. A has its locks. May A write?",
     options: [
@@ -51,17 +51,17 @@ export const QUESTIONS = [
   },
   {
     name: "marked-in-chain", list: "lazy", title: "There, and removed", opening: [5],
-    lines: ["begin 1 remove 5", "go 1 to 12", "begin 0 contains 5", "go 0 2"], rest: ["go 0 out", "go 1 out"],
+    lines: ["begin 1 remove 5", "go 1 to 12", "begin 0 contains 5", "go 0 2"], rest: ["go 0 out"],
     question: "B has marked 5, and has not taken it out yet. A’s walk stops at that node. What does contains(5) answer?",
     options: [
       { text: "true", say: "The node is in the chain. But the mark says that it is removed." },
       { text: "false", right: true, say: "" },
       { text: "Nothing, before B is done", say: "A takes no lock, so nobody can hold it up." },
     ],
-    why: "<b>false.</b> It is the mark that removes 5 from the set. That its node is still in the chain does not matter. A reads one word, and takes no lock for it.",
+    why: "<b>false.</b> With the mark 5 has left the set; that its node is still in the chain does not matter. A takes no lock, and reads one word. (The book’s LazyList has the mark in a word of its own.)",
   },
   {
-    name: "marked-pred", list: "lazy", title: "Warned by a mark", opening: [3],
+    name: "marked-pred", list: "lazy", title: "Warned by a mark", opening: [3], hides: [6, 7],
     lines: ["begin 0 add 5", "go 0 4", "begin 1 remove 3", "go 1 out", "go 0 2"], rest: ["go 0 out"],
     question: "A’s pred, 3, has been removed by B. This list never walks twice. What warns A?",
     options: [
@@ -74,15 +74,15 @@ export const QUESTIONS = [
     broken: "5 is lost: it hangs on a node that is out of the list.",
   },
   {
-    name: "read-in-anothers-step", list: "lazy", title: "In another’s step", opening: [5],
+    name: "read-in-anothers-step", list: "lazy", title: "In another’s step", opening: [5], isTimed: true,
     lines: ["begin 0 contains 5", "go 0 2", "begin 1 remove 5", "go 1 out", "begin 1 add 5", "go 1 out"], rest: ["go 0 1"],
-    question: "At each step of A 5 was in the set, and it is in now. A is about to answer false. When is that right?",
+    question: "A asks contains(5). Whenever A took a step, 5 was in the set, and it is in now. A is about to answer false. When is that right?",
     options: [
       { text: "Never: it is a bug", say: "It looks like one. But the call also runs while A stands still." },
       { text: "Between B’s remove and B’s add", right: true, say: "" },
       { text: "When A answers", say: "Then 5 is in the set, in a new node." },
     ],
-    why: "<b>Between B’s two calls.</b> There 5 was not in the set, and A’s call was under way. It takes effect there, in a step of B. Who looks for it among A’s own steps finds none, and calls a correct list wrong.",
+    why: "<b>Between B’s two calls.</b> There 5 was not in the set, and A’s call was under way. It takes effect there, at a step of B. Who looks only among A’s own steps finds no such moment, and calls a correct list wrong.",
   },
   {
     name: "two-removers", list: "lock-free", title: "Two removers", opening: [5],

@@ -1,16 +1,16 @@
 // The figure of a question: its run, one of its branches, or a run of a list that lacks a check.
 import { BREAK_LEVELS } from "../data/levels.js";
 import { tag } from "../run/markup.js";
-import { now } from "../page/now.js";
+import { isLecture, now } from "../page/now.js";
 import { QUESTIONS } from "./ask.js";
 import { APPENDIX } from "./ask_more.js";
 import { Figure } from "./figure.js";
 import { LiveRun } from "./live_run.js";
 import { drawLedger, isOddRun, LIST_WORDS, part, scene, setScene, takeFigure } from "./scene.js";
 
-const CHECK_WORDS = {
+export const CHECK_WORDS = {
   lock: "the lock is ignored",
-  "hand-over-hand": "it lets go of one lock before it has the next",
+  "hand-over-hand": "it lets go of one node before it holds the next",
   "second-walk": "it does not walk again",
   "marks-in-validation": "it does not look at the marks",
   "mark-in-remove": "it marks a node that is marked already",
@@ -23,20 +23,26 @@ export const isEmbed = () => now.place.view === "embed";
 
 export function takeBranch({ lines, opening, lacks = null, isFree = false }) {
   const item = itemOf(now.place);
+  const { high = isEmbed() ? 0.34 : 0.23, least = isEmbed() ? 110 : 180 } = scene.figure?.spec ?? {}; // (a branch is as large as the example)
   const calls = isFree ? {} : item.calls;
-  return takeFigure(new Figure(freshBox(), {
+  return takeFigure(new Figure(freshBox(item.isTimed), {
     list: item.list, lacks, lines, calls, threads: item.threads ?? 2, quota: item.quota ?? 4, opening: opening ?? item.opening,
-    operations: operationsIn(item),
-    strip: true, scrub: true, again: false, free: isFree, short: true, roomFor: 552, high: isEmbed() ? 0.34 : 0.23, least: isEmbed() ? 110 : 180,
+    operations: operationsIn(item), hidden: { hides: item.hides },
+    strip: true, scrub: true, again: false, free: isFree, short: true, roomFor: 552, high, least,
     code: !isEmbed(), codeTitle: LIST_WORDS[item.list], codeNote: lacks === null ? "" : `Here ${CHECK_WORDS[lacks]}.`,
     struck: BREAK_LEVELS[lacks]?.missing,
   }));
 }
 
-const operationsIn = ({ lines, rest }) => [...lines, ...rest].filter((line) => line.startsWith("begin")).map((line) => line.split(" ")[2]);
+// Whose code is shown: on a slide of the calls alone that are under way, so that it is larger.
+function operationsIn({ lines, rest }) {
+  const isOver = (line, at) => isLecture() && lines.slice(at).includes(`go ${line.split(" ")[1]} out`);
+  const shown = [...lines.filter((line, at) => !isOver(line, at)), ...rest];
+  return shown.filter((line) => line.startsWith("begin")).map((line) => line.split(" ")[2]);
+}
 
-function freshBox() {
-  const box = Object.assign(document.createElement("div"), { id: "figure" });
+function freshBox(isTimed) {
+  const box = Object.assign(document.createElement("div"), { id: "figure", className: isTimed ? "timed" : "" });
   part("#figure").replaceWith(box);
   return box;
 }
@@ -102,7 +108,7 @@ export function withoutCheck(item) {
   if (known !== -1) return openBranch(known, true);
   const { lines = sameLines(item), opening } = item.without ?? {};
   setScene({ branches: [...branches, { name: "Without this check", lines, opening, lacks: item.lacks, isFixed: true }] });
-  openBranch(branches.length, true);
+  return openBranch(branches.length, true);
 }
 
 function sameLines({ list, opening, lines, rest, lacks }) {
@@ -138,7 +144,10 @@ export function talkOfBranch(branch) {
 export function drawBranches({ branches, at }) {
   const box = part("#branches");
   box.hidden = branches.length === 1;
-  part("#what-if-mark").hidden = at === 0 || branches[at].isFixed === true;
+  const { isFixed = false } = branches[at];
+  const { question, without } = itemOf(now.place);
+  part("#what-if-mark").hidden = at === 0 || isFixed;
+  part("#question").textContent = (isFixed && without?.question) || question;
   const button = ({ name }, index) =>
     tag("button", { class: "small", "data-do": "branch", "data-branch": index, "aria-pressed": index === at }, index === 0 ? "" : "↳ ", name);
   box.innerHTML = branches.map(button).join("");

@@ -47,7 +47,7 @@ export const APPENDIX = [
     name: "nothing-in-anothers-step", list: "lock-free", title: "Nothing there", opening: [5, 7],
     lines: ["begin 0 ceiling 6", "go 0 2", "begin 1 remove 7", "go 1 out", "begin 1 remove 5", "go 1 out", "begin 1 add 7", "go 1 out"],
     rest: ["go 0 out"],
-    question: "At each step of A 7 was in the set. Its ceiling(6) is going to answer that there is none. Is that right?",
+    question: "Whenever A took a step, 7 was in the set. Its ceiling(6) is going to answer that there is none. Is that right?",
     options: [
       { text: "No", say: "Look at the time in which A stood still." },
       { text: "Yes", right: true, say: "" },

@@ -1,11 +1,12 @@
 // Ask, then show: a run stops at its question; the reader says what comes; the run plays on, and the reply says why.
-import { now } from "../page/now.js";
+import { slideAddress } from "../data/lecture.js";
+import { isLecture, now } from "../page/now.js";
 import { QUESTIONS } from "./ask.js";
-import { ALL, drawBranches, goBack, isEmbed, itemOf, openBranch, seeAgain, takeBranch, talkOfBranch, whatIf, withoutCheck } from "./ask_branches.js";
+import { ALL, CHECK_WORDS, drawBranches, goBack, isEmbed, itemOf, openBranch, seeAgain, takeBranch, talkOfBranch, whatIf, withoutCheck } from "./ask_branches.js";
 import { isNarrow } from "./figure_parts.js";
 import { keepStory, keptStory } from "./kept.js";
 import { LiveRun } from "./live_run.js";
-import { drawOn, FIGURE_AND_TALK, head, LIST_WORDS, numberOfKey, optionButtons, part, replyTo, scene, setScene, talk, threadOfKey } from "./scene.js";
+import { drawOn, FIGURE_AND_TALK, head, LIST_WORDS, numberOfKey, openScene, optionButtons, part, replyTo, scene, setScene, talk, threadOfKey } from "./scene.js";
 
 const here = () => itemOf(now.place);
 
@@ -17,17 +18,17 @@ function html(place) {
   const kicker = `${isEmbed() ? "Guess, then see" : '<a href="#ask">Guess, then see</a>'} · ${which} · ${LIST_WORDS[item.list]}`;
   const out = `<a class="button quiet small" target="_blank" href="${location.pathname}#ask=${item.name}">open in a page ↗</a>`;
   const all = '<a class="button quiet" href="#ask">All questions</a>';
-  return `<section class="screen">${head(kicker, `<span id="what-if-mark" class="what-if" hidden>What if?</span>${item.question}`)}
+  return `<section class="screen">${head(kicker, `<span id="what-if-mark" class="what-if" hidden>What if?</span><span id="question">${item.question}</span>`)}
     <div id="branches" class="branches" hidden></div>${FIGURE_AND_TALK}</section>
     <footer class="foot">${isEmbed() ? "" : all}<span class="spread"></span>${isEmbed() ? out : ""}
     <button id="show-me" class="primary" data-do="show">${isNarrow() ? "Show me" : "I do not know: show me"}</button>
-    <a id="go-on" class="button quiet" href="#ask=${next.name}" ${isEmbed() ? "hidden" : ""}>Skip →</a></footer>`;
+    <a id="go-on" class="button quiet" href="${place.slide > 0 ? slideAddress(place.slide + 1) : `#ask=${next.name}`}" ${isEmbed() ? "hidden" : ""}>Skip →</a></footer>`;
 }
 
 function begin(place) {
   const { lines, rest } = itemOf(place);
   const whole = { name: "The example", lines: [...lines, ...rest] };
-  takeBranch({ lines, opening: undefined }).set({ hidesDock: true, isOpen: false });
+  takeBranch({ lines, opening: undefined }).set({ hidesDock: true, isOpen: false, isGuess: true });
   setScene({ stage: "guess", branches: [whole], at: 0 });
 }
 
@@ -40,11 +41,27 @@ async function guessed(index) {
   setScene({ stage: "playing", chosen: index });
   const asked = figure.run.count;
   figure.run = new LiveRun({ ...figure.spec, lines: now.scene.branches[0].lines });
-  figure.isOpen = true;
-  await figure.show(asked);
+  Object.assign(figure, { isOpen: true, isGuess: false });
+  const stop = isLecture() ? figure.run.endOfBit(asked) : figure.run.trace.total; // a lecturer goes on from the step that decides
+  await figure.show(asked, stop);
   if (scene.figure !== figure) return;
   setScene({ branches: [{ ...now.scene.branches[0], from: asked }] });
   openBranch(0);
+  scene.figure.moveTo(stop);
+}
+
+async function goes(by) {
+  const { figure } = scene;
+  const { stage, branches } = now.scene;
+  const { lacks } = here();
+  const { count, trace } = figure.run;
+  if (by < 0 && stage !== "guess") openScene(now.place);
+  else if (by < 0) return false;
+  else if (stage === "guess") await guessed(-1);
+  else if (count < trace.total) await figure.show(count);
+  else if (lacks !== undefined && !branches.some(({ isFixed }) => isFixed)) await withoutCheck(here());
+  else return false;
+  return true;
 }
 
 function talkOf({ stage, chosen, at, branches }) {
@@ -57,7 +74,7 @@ function talkOf({ stage, chosen, at, branches }) {
     return `<p class="ask">This was the question. Go to any moment with the slider, and let the other thread go on.</p>
       <p class="line"><button data-do="home">← Back to the example</button></p>`;
   }
-  const without = item.lacks === undefined ? "" : '<button data-do="without">And without this check?</button>';
+  const without = item.lacks === undefined ? "" : `<button data-do="without">And if ${CHECK_WORDS[item.lacks]}?</button>`;
   return `<div class="reveal${item.options[chosen]?.right ? "" : " other"}"><div>${reply}<p class="why">${item.why}</p><p class="line more"><button data-do="if">What if …?</button> ${without}
     <button data-do="again" class="quiet">See it again</button></p></div></div>`;
 }
@@ -93,6 +110,7 @@ export const askView = {
   begin,
   draw,
   press,
+  goes,
   deeds: {
     answer: ({ dataset }) => guessed(Number(dataset.option)),
     show: () => guessed(-1),

@@ -141,7 +141,7 @@ function html(place) {
     <p class="small">New to this? <a href="#story=1">Why not just one lock?</a> Twenty minutes, from nothing.</p>`;
   const verb = done.length === 0 ? "Begin" : "Go on";
   const next = (task) => tag("a", { class: "button primary", href: task.href }, `${verb}: ${escaped(task.title)} →`);
-  const bar = first === undefined ? foot("All done.", '<button class="primary" data-do="hand">Hand in ↑</button>') : foot("", next(first));
+  const bar = first === undefined ? foot(tasks.length === 0 ? "No task." : "All done.", '<button class="primary" data-do="hand">Hand in ↑</button>') : foot("", next(first));
   const items = tasks.map((task) => itemOf(task, lines[task.id] !== undefined));
   const title = head("Assignment", escaped(titleOfAssignment(place)), lead, "title");
   return `${title}${tag("ol", { class: "tasks" }, ...items)}${HAND(keptStory(), done.length)}${bar}`;
@@ -157,7 +157,7 @@ function textNow() {
   const [student, number] = ["student", "number"].map((name) => part(`#hand-${name}`).value.trim());
   keepStory({ student, number });
   const { done, lines } = doneOf(now.place);
-  return handInText(BOOK_NAME, `${student || "?"}${number === "" ? "" : ` (${number})`}`, [], done.map(({ id }) => lines[id]));
+  return handInText(BOOK_NAME, `${student || "?"}${number === "" ? "" : ` (${number})`}`, [], done.map(({ id }) => lines[id]), titleOfAssignment(now.place));
 }
 
 const fill = () => (part("#hand-text").textContent = textNow());
@@ -169,7 +169,19 @@ function isNamed() {
   return false;
 }
 
-const fileName = () => `${part("#hand-student").value.trim().toLowerCase().replace(/\W+/g, "-") || "hand-in"}.txt`;
+// joerg-mueller-4711-week-3.txt
+function fileName() {
+  const { student, number } = keptStory();
+  const letters = { ä: "ae", ö: "oe", ü: "ue", ß: "ss" };
+  const words = [student, number, titleOfAssignment(now.place)].join(" ").toLowerCase().replace(/[äöüß]/g, (letter) => letters[letter]);
+  return `${words.normalize("NFD").replace(/\p{M}/gu, "").replace(/[^\p{L}\p{N}]+/gu, "-")}.txt`;
+}
+
+function save() {
+  if (!isNamed()) return;
+  saveText(fileName(), textNow());
+  part("#scene-told").textContent = `Saved: ${fileName()}. Hand in this file.`;
+}
 
 export const assignmentView = {
   kind: "assignment",
@@ -178,7 +190,7 @@ export const assignmentView = {
   begin,
   deeds: {
     copy: () => isNamed() && copyText(textNow(), "The text is copied: paste it where you hand in."),
-    save: () => isNamed() && saveText(fileName(), textNow()),
+    save,
     afresh: startAfresh,
     hand: () => {
       part("#hand").scrollIntoView({ behavior: "smooth" });

@@ -70,7 +70,7 @@ const NOBODY_KNOWS = "Nobody knows a run that breaks this list. Try it, and say 
 function taskHtml({ hints, note }) {
   const items = BREAK_LEVELS[nameNow()].hints.slice(0, hints).map((text) => `<li>${text}</li>`);
   const list = items.length === 0 ? "" : `<ol class="hints">${items.join("")}</ol>`;
-  const ask = nameNow() === NO_TASK ? NOBODY_KNOWS : "Let A and B step, until no order of their calls explains what they answer.";
+  const ask = nameNow() === NO_TASK ? NOBODY_KNOWS : "Let A and B step until the list lacks a number that was promised, or two answers contradict each other.";
   return `<p class="ask">${ask}</p>${note === "" ? "" : `<p class="again">${note}</p>`}${list}`;
 }
 
@@ -82,9 +82,9 @@ function wonHtml({ note, wrong }) {
   const isDone = isNamed(name);
   const { lacks, shortest } = BREAK_LEVELS[name];
   const reply = wrong.length === 0 ? "" : whyWrong(name, wrong.at(-1));
-  const asked = `<p class="ask">Which check is missing?</p>${optionButtons(optionsOf(name), wrong)}<p role="status">${reply}</p>`;
+  const asked = `<p class="ask">What does this list do wrong?</p>${optionButtons(optionsOf(name), wrong)}<p role="status">${reply}</p>`;
   const { total } = run.trace;
-  const own = `${total} steps; ${total < shortest[0] ? "the shortest known before had" : "the shortest known has"} ${shortest[0]}.`;
+  const own = `${total} steps, of which one press makes several; ${total < shortest[0] ? "the shortest known before had" : "the shortest known has"} ${shortest[0]}.`;
   const named = `<p><b class="yes">✓ ${lacks}</b> It is struck out in the code. <span class="small">Yours has ${own}</span></p>
     <p class="line"><button data-do="replay">See your run again</button> <button data-do="afresh" class="quiet">Break it in another way</button></p>`;
   const ledger = isOddRun(run) ? drawLedger(run) : "";

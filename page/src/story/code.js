@@ -1,7 +1,7 @@
 // The algorithm beside the picture, and the way to step: each line is a button. `plain` leaves out the lines of the lock.
 import { chipOf, colourOf, escaped, letterOf, tag } from "../run/markup.js";
 
-const WORDS = /\b(while|if|else|return|start again|loop|until|unlock|lock|find|validate|CAS|mark|new)\b/g;
+const WORDS = /\b(while|if|else|return|start again|loop|until|unlock|lock|find|validate|CAS|new)\b/g;
 
 /**
  * Shown are the lines of the calls `operations`, without the rows `hides`, with `instead` in place of a row's words; `fresh` rows are new in
@@ -82,9 +82,9 @@ export const BOOK_CODE = {
     { of: ["add"], text: "add, if curr.key ≠ key:" },
     { of: ["add"], text: "    node = new Node(key, next = curr)", rows: [5, 6] },
     { of: ["add"], text: "    pred.next = node", rows: [7] },
-    { of: ["remove"], text: "remove, if curr.key = key:" },
+    { of: ["remove"], text: "remove, if curr.key == key:" },
     { of: ["remove"], text: "    pred.next = curr.next", rows: [8, 9] },
-    { of: ["contains"], text: "contains: true if curr.key = key" },
+    { of: ["contains"], text: "contains: return curr.key == key" },
     { text: "unlock the list; return", rows: [10] },
   ],
   fine: [
@@ -97,9 +97,9 @@ export const BOOK_CODE = {
     { of: ["add"], text: "add, if curr.key ≠ key:" },
     { of: ["add"], text: "    node = new Node(key, next = curr)", rows: [7, 8] },
     { of: ["add"], text: "    pred.next = node", rows: [9] },
-    { of: ["remove"], text: "remove, if curr.key = key:" },
+    { of: ["remove"], text: "remove, if curr.key == key:" },
     { of: ["remove"], text: "    pred.next = curr.next", rows: [10, 11] },
-    { of: ["contains"], text: "contains: true if curr.key = key" },
+    { of: ["contains"], text: "contains: return curr.key == key" },
     { text: "unlock curr; unlock pred; return", rows: [12, 13] },
   ],
   optimistic: [
@@ -109,13 +109,13 @@ export const BOOK_CODE = {
     { text: "lock pred; lock curr", rows: [4, 5] },
     { text: "validate: walk from the head again", rows: [6] },
     { text: "    until pred is met, else not valid", rows: [7] },
-    { text: "    pred.next = curr? else not valid", rows: [8] },
+    { text: "    pred.next == curr, else not valid", rows: [8] },
     { of: ["add"], text: "add, if curr.key ≠ key:" },
     { of: ["add"], text: "    node = new Node(key, next = curr)", rows: [9, 10] },
     { of: ["add"], text: "    pred.next = node", rows: [11] },
-    { of: ["remove"], text: "remove, if curr.key = key:" },
+    { of: ["remove"], text: "remove, if curr.key == key:" },
     { of: ["remove"], text: "    pred.next = curr.next", rows: [12, 13] },
-    { of: ["contains"], text: "contains: true if curr.key = key" },
+    { of: ["contains"], text: "contains: return curr.key == key" },
     { text: "unlock pred; unlock curr", rows: [14, 15] },
     { text: "if not valid: start again; return", isPlain: true },
   ],
@@ -129,7 +129,7 @@ export const BOOK_CODE = {
     { of: ["add"], text: "add, if curr.key ≠ key:" },
     { of: ["add"], text: "    node = new Node(key, next = curr)", rows: [8, 9] },
     { of: ["add"], text: "    pred.next = node", rows: [10] },
-    { of: ["remove"], text: "remove, if curr.key = key:" },
+    { of: ["remove"], text: "remove, if curr.key == key:" },
     { of: ["remove"], text: "    mark curr", rows: [11] },
     { of: ["remove"], text: "    pred.next = curr.next", rows: [12] },
     { of: CHANGES, text: "unlock curr; unlock pred", rows: [13, 14] },
@@ -139,17 +139,18 @@ export const BOOK_CODE = {
   "lock-free": [
     { of: CHANGES, text: "find: pred = head; curr = pred.next", rows: [1] },
     { of: CHANGES, text: "    succ, marked = curr.next", rows: [2] },
-    { of: CHANGES, text: "    marked? CAS pred.next: curr → succ", rows: [3] },
+    { of: CHANGES, text: "    if marked: CAS pred.next: curr → succ", rows: [3] },
+    { of: CHANGES, text: "        else start again", isPlain: true },
     { of: CHANGES, text: "    if curr.key < key: go one node on", rows: [4] },
     { of: ["add"], text: "add, if curr.key ≠ key:" },
     { of: ["add"], text: "    node = new Node(key, next = curr)", rows: [5, 6] },
-    { of: ["add"], text: "    CAS pred.next: curr, no mark → node", rows: [7] },
+    { of: ["add"], text: "    CAS pred.next: curr unmarked → node", rows: [7] },
     { of: ["add"], text: "    else start again", isPlain: true },
-    { of: ["remove"], text: "remove, if curr.key = key:" },
+    { of: ["remove"], text: "remove, if curr.key == key:" },
     { of: ["remove"], text: "    succ = curr.next", rows: [8] },
-    { of: ["remove"], text: "    CAS curr.next: succ, no mark → mark", rows: [9] },
+    { of: ["remove"], text: "    CAS curr.next: succ unmarked → marked", rows: [9] },
     { of: ["remove"], text: "    else start again", isPlain: true },
-    { of: ["remove"], text: "    CAS pred.next: curr → succ, once", rows: [10] },
+    { of: ["remove"], text: "    CAS pred.next: curr → succ", rows: [10] },
     ...READS,
   ],
 };

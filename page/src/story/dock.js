@@ -23,23 +23,24 @@ function rowOf(figure, thread) {
   if (isIdle && next === undefined) return spec.free ? chooser(figure, thread, own) : restOf(run, thread, own.at(-1));
   const call = isIdle ? { operation: next[0], key: next[1] } : own.at(-1);
   const plan = run.nextOf(thread, next);
-  const words = spec.words?.[plan.phase] ?? phaseText(plan.phase, call);
+  const waits = plan.waitsFor !== null;
+  const words = waits ? `waits for ${letterOf(plan.waitsFor)}` : (spec.words?.[plan.phase] ?? phaseText(plan.phase, call));
   const key = letterOf(thread).toLowerCase();
-  const given = { class: "step", "data-step": thread, "aria-keyshortcuts": key, ...(figure.isOpen ? {} : { disabled: "" }) };
-  const button = tag("button", given, words, `<kbd aria-hidden="true">${key}</kbd>`);
-  const waits = plan.waits && plan.steps === 1 ? '<span class="waits">has to wait</span>' : "";
-  return threadRow(thread, `<code>${callText(call)}</code> ${button} ${waits}`);
+  const given = { class: "step", "data-step": thread, "aria-keyshortcuts": key, ...(waits ? { "aria-disabled": "true" } : {}) };
+  const button = tag("button", { ...given, ...(figure.isOpen ? {} : { disabled: "" }) }, words, `<kbd aria-hidden="true">${key}</kbd>`);
+  return threadRow(thread, button, callText(call));
 }
 
-function threadRow(thread, inside) {
+// The thread's letter, below it its call, and beside them what it may do.
+function threadRow(thread, inside, call = "") {
   const given = { class: `thread ${colourOf(thread)}`, "data-thread": thread, role: "group", "aria-label": `thread ${letterOf(thread)}` };
-  return tag("div", given, chipOf(thread), " ", inside);
+  return tag("div", given, tag("span", { class: "own" }, chipOf(thread), call === "" ? "" : ` <code>${call}</code>`), " ", inside);
 }
 
 function restOf(run, thread, last) {
   if (last === undefined) return threadRow(thread, "");
   const reply = last.ended !== null && run.count >= last.ended ? `<b class="reply ${last.reply}">${answerText(last.reply)}</b>` : "";
-  return threadRow(thread, `<code>${callText(last)}</code> <span class="does">${reply}</span>`);
+  return threadRow(thread, `<span class="does">${reply}</span>`, callText(last));
 }
 
 function chooser(figure, thread, own) {
@@ -50,7 +51,7 @@ function chooser(figure, thread, own) {
   const letter = letterOf(thread);
   const field = { type: "number", min: 0, max: 999, value: key, "data-key": thread, "aria-label": `number of ${letter}’s call` };
   const fields = tag("select", { "data-call": thread, "aria-label": `call of ${letter}` }, ...options) + tag("input", field);
-  const reply = last === undefined ? "" : `<small>${callText(last)}: <b class="reply ${last.reply}">${answerText(last.reply)}</b></small>`;
+  const reply = last === undefined ? "" : `<small>${callText(last)}:<br><b class="reply ${last.reply}">${answerText(last.reply)}</b></small>`;
   return threadRow(thread, `<span class="choose">${fields}<button data-begin="${thread}">begin</button></span> ${reply}`);
 }
 
@@ -61,8 +62,9 @@ export function showStrip(figure) {
   const scale = scaleOf(run.trace, run.count, wide - room, figure.hides);
   Object.assign(scale, { edge: scale.edge + room, width: wide });
   figure.scale = scale;
-  setHtml(figure.part("strip"), tag("div", { class: "calls" }, drawCalls(run.trace, scale)) + drawContents(run.trace, scale));
+  setHtml(figure.part("strip"), tag("div", { class: "calls" }, drawCalls(run.trace, scale)) + drawContents(run.trace, scale) + LEGEND);
 }
+const LEGEND = '<p class="small legend">● changes the set · ○ here its answer is right first</p>';
 const MOST_CALLS = 400; // pixels: of more threads the bars scroll
 
 export function scrollToLane(figure) {

@@ -1,4 +1,5 @@
 // A live figure: the list, a sentence, the code, and a button for each thread. Pressing a button lets that thread do its next bit.
+import { isSceneSlide } from "../page/now.js";
 import { momentAt } from "../run/sentences.js";
 import { drawFigure, frameOf, isNarrow, markLostNodes } from "./figure_parts.js";
 import { beginOwn, chooseCall, pressed } from "./dock.js";
@@ -19,7 +20,6 @@ export class Figure {
   active = 0; // the thread that runs to a line of the code
   past = []; // what stood there before each deed
   isBusy = false; // steps are being shown
-  isActing = false; // and more of them will be
   isHurried = false;
   isEnded = false;
   isOpen = true; // the reader may step
@@ -28,6 +28,7 @@ export class Figure {
   isLost = false; // the nodes that are lost are lit
   hides = true; // of the history, what comes later
   wide = 0; // of the list, in pixels
+  tall = 0;
   stripWide = 0;
   scroll = 0;
   told = null;
@@ -41,12 +42,14 @@ export class Figure {
     this.run = spec.run ?? new LiveRun(spec);
     this.shown = spec.shown ?? this.run.state.threads.map((_, thread) => thread);
     this.chosen = spec.chosen ?? {}; // of an idle thread, the call that stands in its fields
-    this.most = { width: 0, height: spec.tall && !isNarrow() ? 262 : 0 }; // room for a node that is sure to come
+    const isRoomy = !isSceneSlide() && (spec.isPath || spec.free) && spec.again !== false && !isNarrow();
+    this.most = { width: 0, height: isRoomy ? 270 + 18 * this.shown.length : 0 }; // room for a node that may come
     frameOf(this);
     box.addEventListener("click", (event) => pressed(this, event));
     box.addEventListener("input", ({ target }) => target.closest(".choose") !== null && chooseCall(this, target.closest("[data-thread]")));
     this.stretch = new ResizeObserver(() => {
-      if (this.part("list").clientWidth !== this.wide) requestAnimationFrame(() => this.isEnded || this.fit());
+      const { clientWidth, clientHeight } = this.part("list");
+      if (clientWidth !== this.wide || (isSceneSlide() && clientHeight !== this.tall)) requestAnimationFrame(() => this.isEnded || this.fit());
     });
     this.stretch.observe(this.part("list"));
     this.fit();
@@ -54,6 +57,7 @@ export class Figure {
 
   fit() {
     [this.wide, this.stripWide] = ["list", "strip"].map((name) => this.part(name).clientWidth);
+    this.tall = this.part("list").clientHeight;
     this.draw();
   }
 
@@ -114,9 +118,12 @@ export class Figure {
     if (!this.isEnded) this.onStep?.(this);
   }
 
-  // Shows the steps from a moment to the end of the run; another press meanwhile shows the end at once.
-  async show(from) {
-    const { total } = this.run.trace;
+  // Shows the steps from a moment to another; another press meanwhile shows the end at once.
+  show(from, total = this.run.trace.total) {
+    return (this.playing = this.showSteps(from, total));
+  }
+
+  async showSteps(from, total) {
     this.isBusy = true;
     this.isHurried = false;
     tellBusy(true);
@@ -131,7 +138,7 @@ export class Figure {
       if (count < total) await sleep(BIT);
     }
     this.isBusy = false;
-    tellBusy(this.isActing);
+    tellBusy(false);
   }
 
   async replay(from = 0) {
@@ -141,18 +148,10 @@ export class Figure {
     await this.show(from);
   }
 
-  // Plays what a list of deeds makes: [thread] is its next bit, [thread, n] are n bits, [thread, "out"] is all of its call.
-  async act(deeds) {
-    const { onStep } = this;
-    Object.assign(this, { onStep: null, isActing: true });
-    for (const [thread, many = 1] of deeds) {
-      for (let bit = 0; many === "out" ? bit === 0 || !this.run.isIdle(thread) : bit < many; bit++) {
-        if (this.isEnded) return;
-        await this.step(thread);
-        await sleep(wantsStill() ? 0 : BETWEEN);
-      }
-    }
-    Object.assign(this, { onStep, isActing: false });
+  // Between two presses that the page makes.
+  async rest() {
+    tellBusy(true);
+    await sleep(wantsStill() ? 0 : BETWEEN);
     tellBusy(false);
   }
 

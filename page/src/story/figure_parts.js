@@ -2,6 +2,7 @@
 import { glide } from "../draw/glide.js";
 import { drawList } from "../draw/list.js";
 import { arranged, shapeFor } from "../draw/places.js";
+import { isSceneSlide } from "../page/now.js";
 import { callText, colourOf, letterOf } from "../run/markup.js";
 import { momentAt } from "../run/sentences.js";
 import { setHtml } from "../page/dom.js";
@@ -14,9 +15,10 @@ const MOST_HEIGHT = 0.4; // of the window, for the list
 const NARROW = "(max-width: 760px)";
 export const isNarrow = () => matchMedia(NARROW).matches;
 
-const codeBox = ({ codeTitle, codeNote = "" }) => `<details class="codebox" ${isNarrow() ? "" : "open"}><summary><b>${codeTitle}</b></summary>
+const CAS = "CAS x: a → b makes x point to b, if it still points to a. succ is the node after curr.";
+const codeBox = ({ list, codeTitle, codeNote = "" }) => `<details class="codebox" ${isNarrow() ? "" : "open"}><summary><b>${codeTitle}</b></summary>
     <p class="small code-note" ${codeNote === "" ? "hidden" : ""}>${codeNote}</p><span class="runs"></span><div class="lines"></div>
-    <p class="small hint">A letter stands at its thread’s next line. Press the line to step, another one to run there.</p></details>`;
+    <p class="small hint">${list === "lock-free" ? CAS : "A letter stands at its thread’s next line. Press the line to step, another one to run there."}</p></details>`;
 
 export function frameOf({ box, spec }) {
   box.innerHTML = `<div class="stage"><div class="list" tabindex="0" role="group" aria-label="the list"></div>
@@ -50,6 +52,7 @@ function scrollSoon(figure, moved) {
   cancelAnimationFrame(figure.scroll);
   figure.scroll = requestAnimationFrame(() => {
     if (figure.isEnded) return;
+    if (isSceneSlide()) fitCode(figure.part("lines"));
     scrollToTouched(figure);
     scrollToLit(figure, moved);
     if (figure.spec.strip) scrollToLane(figure);
@@ -74,7 +77,7 @@ function placeTheList(figure, { state, event }, isNear) {
   const shape = shapeFor(room);
   const list = arranged(state, event, shape);
   most.height = Math.max(most.height, list.height);
-  most.width = Math.max(most.width, list.width, (spec.roomFor ?? 0) * shape.share);
+  most.width = Math.max(most.width, list.width, (isSceneSlide() ? 0 : (spec.roomFor ?? 0)) * shape.share);
   const draw = () => {
     box.innerHTML = drawList(state, event, list, most.height, id);
     const svg = box.firstElementChild;
@@ -87,10 +90,11 @@ function placeTheList(figure, { state, event }, isNear) {
   glide(box, draw, isNear);
 }
 
-function fitList({ spec, most: { width } }, svg, room, own) {
+function fitList({ spec, tall: left, most: { width } }, svg, room, own) {
   const [, top, , high] = svg.getAttribute("viewBox").split(" ").map(Number);
-  const tall = Math.max(innerHeight * (spec.high ?? MOST_HEIGHT), spec.least ?? 180);
-  const scale = Math.max(0.5, Math.min(MOST_SCALE, (room - 4) / width, tall / high));
+  const tall = isSceneSlide() ? left : Math.max(innerHeight * (spec.high ?? MOST_HEIGHT), spec.least ?? 180);
+  const [least, most] = isSceneSlide() ? [0.1, Infinity] : [0.5, MOST_SCALE];
+  const scale = Math.max(least, Math.min(most, (room - 4) / width, tall / high));
   svg.setAttribute("viewBox", `${(own - width) / 2} ${top} ${width} ${high}`);
   svg.setAttribute("width", width * scale);
   svg.setAttribute("height", high * scale);
@@ -126,7 +130,7 @@ export function markLostNodes({ run, box }) {
 
 function operationsOf({ spec, run, isGuess }) {
   const planned = Object.values(spec.calls ?? {}).flat().map(([operation]) => operation);
-  const begun = run.trace.calls.map(({ operation }) => operation);
+  const begun = isSceneSlide() && spec.operations !== undefined ? [] : run.trace.calls.map(({ operation }) => operation);
   const hidden = isGuess ? (spec.hidden?.operations ?? []) : [];
   return [...new Set([...(spec.operations ?? []), ...planned, ...begun])].filter((name) => !hidden.includes(name));
 }
@@ -144,8 +148,17 @@ function showCode(figure, { state, event, before }) {
   const hides = (figure.isGuess ? spec.hidden?.hides : undefined) ?? spec.hides; // some is not told before the guess
   setHtml(box, drawOwnCode({ list, plain, fresh, struck, hides, instead, operations: operationsOf(figure), next, made, canStep, active }));
   const toggles = figure.shown.filter(isAble).map((thread) => toggleOf(thread, active));
-  setHtml(figure.part("runs"), canStep && toggles.length > 1 ? toggles.join("") : "");
+  setHtml(figure.part("runs"), canStep && spec.free && toggles.length > 1 ? `who runs: ${toggles.join("")}` : "");
 }
+
+// On a slide the code is as large as all of it has room.
+function fitCode(box) {
+  for (let size = Math.round(innerHeight / 26); box !== null && size > SMALLEST_CODE; size--) {
+    box.style.fontSize = `${size}px`;
+    if (box.scrollHeight <= box.clientHeight && box.scrollWidth <= box.clientWidth) return;
+  }
+}
+const SMALLEST_CODE = 10;
 
 const toggleOf = (thread, active) => `<button class="who ${colourOf(thread)}" data-active="${thread}" aria-pressed="${thread === active}"
   title="${letterOf(thread)} runs to another line that is pressed">${letterOf(thread)}</button>`;

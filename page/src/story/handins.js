@@ -1,82 +1,139 @@
-// Checks what a class handed in: the texts of many files, by the same judge as check_lessons.js, as a table of students and tasks.
+// Checks what a class handed in: the texts of many files, as a table of students and tasks. check_lessons.js prints the same table.
+import { LISTS } from "../../made/rows.js";
 import { judgedPart, readHandIn, textsIn } from "../course/hand_in.js";
 import { triedCourse } from "../course/lesson.js";
+import { numberOfLevel } from "../data/levels.js";
 import { askNow } from "../page/now.js";
-import { bookCourse, taskOfJudged } from "./assignment.js";
+import { counted, inLetters } from "../run/markup.js";
+import { bookCourse, taskOfJudged, tasksOf } from "./assignment.js";
 
+const MANY = 10; // a schedule that one in so many students has is no sign of a copy
+
+const stripped = (name) => name.replace(/^.*\//, "").replace(/\.[A-Za-z]+$/, "");
+
+// The name and the number of a student, as "Ada Lovelace (1234567)".
 function studentOf(text, file) {
   const [, name, number] = /^(.*?)\s*(?:[([#]\s*((?=\D*\d)\w[\w-]{0,20})\s*[)\]]?)?\s*$/.exec(text ?? "") ?? [];
-  return { name: name || file.replace(/^.*\//, "").replace(/\.[A-Za-z]+$/, ""), number: number ?? "" };
+  return { name: name || stripped(file), number: number ?? "" };
 }
 
-// files: { name, text }. `tasks` of an assignment, or null: then all that was handed in. The rows, and courses that came along.
-export async function checkAll(files, tasks, tellProgress = (_at, _of) => {}) {
+// The assignment of a link, with its title and its tasks, or the sentence why it is none.
+export function assignmentOfLink(link) {
+  const { assignment: title, ...given } = Object.fromEntries(new URLSearchParams(link.replaceAll("&amp;", "&").replace(/^[^#]*#?/, "")));
+  const { tasks, unknown } = tasksOf(given);
+  if (title === undefined) return { fault: "This is no link of an assignment: “#assignment=” is missing." };
+  if (unknown.length > 0) return { fault: `This link names tasks that there are not: ${unknown.join(", ")}.` };
+  return tasks.length === 0 ? { fault: "The assignment of this link has no task." } : { title, tasks };
+}
+
+// files: { name, text }. `assignment` as its link gives it, or null: then all that was handed in. The rows, one of a student.
+export async function checkAll(files, assignment, tellProgress = (_at, _of) => {}) {
   const found = files.flatMap(({ name, text }) => textsIn(text).map((one) => ({ ...one, file: name })));
-  const empty = files.filter(({ name }) => !found.some(({ file }) => file === name)).map(({ name }) => name);
+  const without = files.filter(({ name }) => !found.some(({ file }) => file === name));
+  const empty = without.map(({ name, text }) => (text.startsWith("PK\u0003\u0004") ? `${name} (unpack it first)` : name));
   const courses = [bookCourse(), ...found.filter(({ kind }) => kind === "course").map(({ text }) => triedCourse(askNow, text))];
-  const students = new Map();
   const handed = found.filter(({ kind }) => kind === "hand-in");
+  const students = new Map();
   for (const [index, text] of handed.entries()) {
-    const read = readHandIn(text);
-    const who = studentOf(read.student, text.file);
-    const key = `${who.number} ${who.name.toLowerCase()}`;
-    const own = students.get(key) ?? { ...who, files: [], solved: new Map(), wrong: new Set(), notes: [] };
-    students.set(key, own);
-    if (!own.files.includes(text.file)) own.files.push(text.file);
-    own.notes.push(...read.faults.map(({ line, fault }) => `line ${line}: ${fault}`));
-    const lessons = (courses.find(({ name }) => name === read.course) ?? courses[0]).lessons;
-    for (const { line } of read.solutions) judgePart(own, lessons, line, tasks ?? []);
+    takeText(students, text, courses, assignment);
     tellProgress(index + 1, handed.length);
     if (index % 3 === 2) await new Promise((done) => setTimeout(done));
   }
   const rows = [...students.values()].sort((one, other) => one.name.localeCompare(other.name));
-  noteSame(rows);
-  noteNumbers(rows);
-  const all = [...new Set(rows.flatMap(({ solved }) => [...solved.keys()]))].sort();
-  const columns = tasks === null ? all.map((id) => ({ id, title: id })) : tasks.map(({ id, title }) => ({ id, title }));
-  return { rows, columns, empty };
+  const ids = [...new Set(rows.flatMap(({ solved, wrong }) => [...solved.keys(), ...wrong]))].sort();
+  const columns = assignment?.tasks ?? ids.map((id) => ({ id, title: titleOf(id, courses) }));
+  const common = noteCopies(rows);
+  for (const row of rows) row.notes.unshift(...notesOnNames(row, rows));
+  return { rows, columns, empty, common: common.map((task) => titleOf(task, courses)) };
 }
 
-function judgePart(own, lessons, line, tasks) {
+// The texts of a student are those with one number and name; without a number each is a row of its own.
+function takeText(students, text, courses, assignment) {
+  const read = readHandIn(text);
+  const who = studentOf(read.student, text.file);
+  const key = who.number === "" ? `${text.file}\n${text.number}` : `${who.number} ${who.name.toLowerCase()}`;
+  const own = students.get(key) ?? { ...who, files: [], solved: new Map(), wrong: new Set(), notes: [], faults: 0, copies: [] };
+  students.set(key, own);
+  if (!own.files.includes(text.file)) own.files.push(text.file);
+  if (assignment !== null && ![null, assignment.title].includes(read.assignment)) own.notes.push(`handed in for “${read.assignment}”`);
+  own.notes.push(...read.faults.map(({ line, fault }) => `line ${line}: ${fault}`));
+  const course = read.course === null ? courses[0] : courses.find(({ name }) => name === read.course);
+  if (course === undefined) own.notes.push(`the course “${read.course}” is not among the files`);
+  own.faults += read.faults.length + (course === undefined ? 1 : 0);
+  const odd = { others: new Set(), answers: new Set() };
+  for (const { line } of read.solutions) judgePart(own, course?.lessons ?? [], line, assignment?.tasks ?? null, odd);
+  const [others, answers] = [odd.others, odd.answers].map((some) => [...some].map((task) => titleOf(task, courses)));
+  if (others.length > 0) own.notes.push(`${counted(others.length, "solution")} of tasks not asked: ${others.join("; ")}`);
+  if (answers.length > 0) own.notes.push(`the very answer of the lesson: ${answers.join("; ")}`);
+}
+
+// `odd`: the solutions of what is no task of the assignment, and those that are the lesson's own.
+function judgePart(own, lessons, line, tasks, odd) {
   const verdict = judgedPart(askNow, lessons, line);
-  const task = line.startsWith("judge ") ? (taskOfJudged(line, tasks)?.id ?? verdict.task) : verdict.task;
+  const task = (line.startsWith("judge ") ? taskOfJudged(line, tasks ?? [])?.id : undefined) ?? verdict.task;
+  if (tasks !== null && task !== null && !tasks.some(({ id }) => id === task)) return void odd.others.add(task);
+  const title = task === null ? line.slice(0, 40) : (tasks?.find(({ id }) => id === task)?.title ?? titleOf(task, [{ lessons }]));
   const isOwn = verdict.schedule !== undefined && !verdict.isVeryAnswer; // what two may have in common only by copying
   if (verdict.isSolved) own.solved.set(task, isOwn ? verdict.schedule : null);
   else {
-    own.wrong.add(task);
-    own.notes.push(`${task ?? line.slice(0, 40)}: ${verdict.says}`);
+    if (task === null) own.faults++;
+    else own.wrong.add(task);
+    own.notes.push(`${title}: ${inLetters(verdict.says)}`);
   }
-  if (verdict.isVeryAnswer) own.notes.push(`${task}: the very answer of the lesson`);
-  if (verdict.ofExample) own.notes.push(`${task}: the very run of an example`);
+  if (verdict.isVeryAnswer) odd.answers.add(task);
+  if (verdict.ofExample) own.notes.push(`${title}: the very run of the example ${verdict.ofExample}`);
+}
+
+// The title of what was handed in: a lesson, a level, or a run that was judged.
+function titleOf(task, courses) {
+  const [kind, name] = task.split(" ");
+  if (kind === "break") return tasksOf({ break: String(numberOfLevel(name)) }).tasks[0]?.title ?? task;
+  if (kind !== "judge") return courses.flatMap(({ lessons }) => lessons).find((lesson) => lesson.name === task)?.title ?? task;
+  const [, list] = /list=([a-z-]+)/.exec(name) ?? [];
+  return LISTS[list] === undefined ? task : `Judged: ${LISTS[list].name}, ${/event=(\d+)/.exec(name)?.[1] ?? "?"} events`;
 }
 
 export const markOf = ({ solved, wrong }, { id }) => (solved.has(id) ? "solved" : wrong.has(id) ? "wrong" : "none");
+export const countOf = ({ solved }, columns) => columns.filter(({ id }) => solved.has(id)).length;
 
-function noteNumbers(rows) {
-  for (const row of rows) {
-    const names = rows.filter(({ number }) => number !== "" && number === row.number).map(({ name }) => name);
-    if (names.length > 1) row.notes.unshift(`two names for one number: ${names.join(", ")}`);
-  }
+function notesOnNames(row, rows) {
+  const { name, number, files } = row;
+  const same = rows.filter((other) => number !== "" && other.number === number).map((other) => other.name);
+  const twins = rows.filter((other) => other.name.toLowerCase() === name.toLowerCase() && [number, other.number].includes(""));
+  const twinFiles = twins.flatMap((one) => one.files).join(", ");
+  const notes = [[files, `merged from ${files.join(", ")}`], [same, `two names for one number: ${same.join(", ")}`],
+    [twins, `${twins.length} rows with this name, since a number is missing: ${twinFiles}`]];
+  return notes.filter(([some]) => some.length > 1).map(([, note]) => note);
 }
 
-// Who handed in the same schedules, to the byte, of the same tasks.
-function noteSame(rows) {
+// Of each row with whom it shares schedules, to the byte: { count, of, isTold, rows }. Schedules that many have are no sign, and named; one
+// other alone may be chance, and is not told where there could be more.
+function noteCopies(rows) {
   const byText = new Map();
-  const note = (row, { name }, task) => row.same.set(name, [...(row.same.get(name) ?? []), task]);
+  const own = new Map(rows.map((row) => [row, [...row.solved].filter(([, schedule]) => schedule !== null).map((entry) => entry.join("\n"))]));
+  for (const row of rows) for (const key of own.get(row)) byText.set(key, [...(byText.get(key) ?? []), row]);
+  const most = Math.max(4, rows.length / MANY);
+  const isRare = (key) => byText.get(key).length <= most;
   for (const row of rows) {
-    row.same = new Map();
-    for (const [task, schedule] of row.solved) {
-      const key = `${task}\n${schedule}`;
-      const others = schedule === null ? [] : (byText.get(key) ?? []);
-      byText.set(key, [...others, row]);
-      for (const other of others) note(row, other, task), note(other, row, task);
+    const keys = own.get(row);
+    const rare = keys.filter(isRare);
+    for (const other of new Set(rare.flatMap((key) => byText.get(key)).filter((one) => one !== row))) {
+      const shared = keys.filter((key) => own.get(other).includes(key));
+      const isTold = shared.filter(isRare).length >= Math.min(2, rare.length);
+      const group = row.copies.find((one) => one.count === shared.length && one.isTold === isTold);
+      if (group === undefined) row.copies.push({ count: shared.length, of: keys.length, isTold, rows: [other] });
+      else group.rows.push(other);
     }
+    row.copies.sort((one, other) => Number(other.isTold) - Number(one.isTold) || other.count - one.count);
   }
+  return [...new Set([...byText.keys()].filter((key) => !isRare(key)).map((key) => key.split("\n")[0]))];
 }
 
-export function sameText(row) {
-  const others = [...row.same].map(([name, tasks]) => `${name} (${tasks.length})`);
-  return others.length > 3 ? `${others.slice(0, 2).join(", ")} and ${others.length - 2} more` : others.join(", ");
+// "3 of 3 with David Maier, Vera Peters": what is told, or with all of the others, as in the table for a spreadsheet.
+export function copiesText({ copies }, all = false) {
+  const nameOf = ({ name, number }) => (number === "" ? name : `${name} (${number})`);
+  const groups = copies.filter(({ isTold }) => all || isTold);
+  return groups.map(({ count, of, rows }) => `${count} of ${of} with ${rows.map(nameOf).join(", ")}`).join("; ");
 }
 
 // A table for a spreadsheet. A cell that a spreadsheet would compute is made a plain text.
@@ -85,11 +142,10 @@ export function csvOf({ rows, columns }) {
     const text = String(value).replace(/^[=+\-@\t\r]/, "'$&");
     return /[",\n;]/.test(text) ? `"${text.replaceAll('"', '""')}"` : text;
   };
-  const head = ["student", "number", ...columns.map(({ title }) => title), "solved", "of", "same schedules as", "notes", "files"];
+  const head = ["student", "number", ...columns.map(({ title }) => title), "solved", "of", "same schedules", "notes", "files"];
   const line = (row) => {
     const marks = columns.map((column) => ({ solved: 1, wrong: 0, none: "" })[markOf(row, column)]);
-    const solved = marks.filter((mark) => mark === 1).length;
-    return [row.name, row.number, ...marks, solved, columns.length, sameText(row), row.notes.join(" | "), row.files.join(" ")];
+    return [row.name, row.number, ...marks, countOf(row, columns), columns.length, copiesText(row, true), row.notes.join(" | "), row.files.join(" ")];
   };
-  return `${[head, ...rows.map(line)].map((cells) => cells.map(cell).join(",")).join("\r\n")}\r\n`;
+  return `\ufeff${[head, ...rows.map(line)].map((cells) => cells.map(cell).join(",")).join("\r\n")}\r\n`;
 }

@@ -1,14 +1,14 @@
 // For teachers: the files of a class are dropped, and checked here; a table of students and tasks, and the same as CSV.
+import { textOfBytes } from "../course/hand_in.js";
 import { saveText } from "../page/files.js";
 import { linkTo } from "../page/visit.js";
 import { counted, escaped, tag } from "../run/markup.js";
-import { tasksOf } from "./assignment.js";
-import { checkAll, csvOf, markOf, sameText } from "./handins.js";
+import { assignmentOfLink, checkAll, copiesText, countOf, csvOf, markOf } from "./handins.js";
 import { part } from "./scene.js";
 
 const MOST_BYTES = 2_000_000; // of a file
-const MOST_NOTES = 2; // that the table has of a student; the CSV has all
-const given = { files: [], tooLong: [], result: null };
+const MOST_NOTES = 3; // that the table has of a student; the CSV has all
+const given = { files: [], tooLong: [], result: null, turn: 0 };
 const MARKS = { solved: '<b class="yes">✓</b>', wrong: '<b class="no" title="handed in, and wrong">✗</b>', none: "–" };
 const piece = (name) => part(`#in-${name}`);
 
@@ -23,21 +23,20 @@ export const handInsHtml = () => `<section class="panel" id="handins"><h2>What t
   <div id="in-table" class="scroll" tabindex="0" role="group" aria-label="what was handed in"></div>
   <p class="line" id="in-save" hidden><button class="primary" data-do="csv">Save as CSV</button><button class="quiet" data-do="clear">Clear</button></p></section>`;
 
-function tasksGiven() {
-  const link = piece("link").value.trim();
-  const parts = Object.fromEntries(new URLSearchParams(link.slice(link.indexOf("#") + 1)));
-  return "assignment" in parts ? tasksOf(parts).tasks : null;
-}
-
 async function check() {
-  if (given.files.length === 0) return;
+  const turn = ++given.turn; // what was begun before and is not done yet is not shown
+  if (given.files.length + given.tooLong.length === 0) return;
+  const link = piece("link").value.trim();
+  const assignment = link === "" ? null : assignmentOfLink(link);
+  if (assignment?.fault !== undefined) return showNothing(assignment.fault);
   Object.assign(piece("progress"), { hidden: false, max: 1, value: 0 });
   piece("told").textContent = `${given.files.length} files …`;
-  const tell = (value, max) => piece("progress") !== null && Object.assign(piece("progress"), { value, max });
-  given.result = await checkAll(given.files, tasksGiven(), tell);
-  if (piece("progress") === null) return; // another place was opened meanwhile
+  const isNow = () => turn === given.turn && piece("progress") !== null; // another place may be opened meanwhile
+  const result = await checkAll(given.files, assignment, (value, max) => isNow() && Object.assign(piece("progress"), { value, max }));
+  if (!isNow()) return;
   piece("progress").hidden = true;
-  drawResult(given.result);
+  given.result = result;
+  drawResult(result);
 }
 
 async function filesOf(entry) {
@@ -53,7 +52,7 @@ async function filesOf(entry) {
 
 async function take(found) {
   for (const { name, file } of found) {
-    if (file.size < MOST_BYTES) given.files.push({ name, text: await file.text() });
+    if (file.size < MOST_BYTES) given.files.push({ name, text: textOfBytes(new Uint8Array(await file.arrayBuffer())) });
     else given.tooLong.push(name);
   }
   await check();
@@ -62,7 +61,7 @@ async function take(found) {
 export function beginHandIns() {
   const drop = piece("drop");
   piece("files").onchange = ({ target }) => take([...target.files].map((file) => ({ name: file.name, file })));
-  piece("link").onchange = check;
+  piece("link").oninput = check;
   drop.ondragover = (event) => {
     event.preventDefault();
     drop.classList.add("over");
@@ -77,39 +76,50 @@ export function beginHandIns() {
   check();
 }
 
-function notesOf(row) {
-  const same = sameText(row);
-  const notes = [...(same === "" ? [] : [`same schedules as ${same}`]), ...row.notes];
+function notesOf({ notes }) {
   const more = notes.length > MOST_NOTES ? ` … and ${notes.length - MOST_NOTES} more` : "";
   return `${escaped(notes.slice(0, MOST_NOTES).join("; "))}${more}`;
 }
 
 function drawRow(row, columns) {
-  const marks = columns.map((column) => markOf(row, column));
-  const cells = marks.map((mark) => `<td class="mark">${MARKS[mark]}</td>`).join("");
-  const count = marks.filter((mark) => mark === "solved").length;
-  return `<tr><th scope="row">${escaped(row.name)}</th><td>${escaped(row.number)}</td>${cells}
-    <td class="mark"><b>${count}</b></td><td class="notes">${notesOf(row)}</td></tr>`;
+  const cells = columns.map((column) => `<td class="mark">${MARKS[markOf(row, column)]}</td>`).join("");
+  return `<tr><th scope="row">${escaped(row.name)}</th><td>${escaped(row.number)}</td>${cells}<td class="mark"><b>${countOf(row, columns)}</b></td>
+    <td class="same">${escaped(copiesText(row))}</td><td class="notes">${notesOf(row)}</td></tr>`;
 }
 
-function drawResult({ rows, columns, empty }) {
-  const full = rows.filter(({ solved }) => columns.every(({ id }) => solved.has(id))).length;
-  const odd = [["Without a hand-in", empty], ["Too long", given.tooLong]].filter(([, names]) => names.length > 0);
-  const wrong = odd.map(([what, names]) => tag("span", { class: "odd" }, `${what}: ${escaped(names.join(", "))}.`)).join(" ");
+function drawResult({ rows, columns, empty, common }) {
+  const full = rows.filter((row) => countOf(row, columns) === columns.length).length;
+  const odd = [["Without a hand-in", empty], ["Too long", given.tooLong], ["Same schedules: left out, as many have them", common]];
+  const wrong = odd.filter(([, names]) => names.length > 0).map(([what, names]) => tag("span", { class: "odd" }, `${what}: ${escaped(names.join(", "))}.`));
   const merged = rows.reduce((sum, { files }) => sum + files.length - 1, 0);
   const files = `${counted(given.files.length + given.tooLong.length, "file")}: <b>${counted(rows.length, "student")}</b>`;
-  piece("told").innerHTML = `${files}, ${merged} merged, ${empty.length} without a hand-in. ${full} with all ${columns.length} tasks. ${wrong}`;
-  const heads = ["Student", "Number", ...columns.map(({ title }) => title), "Solved", "Notes"].map((name) => `<th scope="col">${escaped(name)}</th>`);
+  piece("told").innerHTML = `${files}, ${merged} merged, ${empty.length} without a hand-in. ${full} with all ${columns.length} tasks. ${wrong.join(" ")}`;
+  const head = (name, at) => tag("th", { scope: "col" }, tag("button", { "data-do": "sort", "data-at": at }, escaped(name)));
+  const heads = ["Student", "Number", ...columns.map(({ title }) => title), "Solved", "Same schedules", "Notes"].map(head);
   const body = rows.map((row) => drawRow(row, columns)).join("");
   piece("table").innerHTML = `<table class="class"><thead><tr>${heads.join("")}</tr></thead><tbody>${body}</tbody></table>`;
   piece("save").hidden = false;
 }
 
+function showNothing(told) {
+  piece("table").innerHTML = "";
+  piece("told").textContent = told;
+  piece("save").hidden = piece("progress").hidden = true;
+}
+
 function clear() {
-  Object.assign(given, { files: [], tooLong: [], result: null });
-  for (const name of ["table", "told"]) piece(name).innerHTML = "";
-  piece("save").hidden = true;
+  Object.assign(given, { files: [], tooLong: [], result: null, turn: given.turn + 1 });
+  showNothing("");
   piece("files").value = "";
 }
 
-export const handInDeeds = { csv: () => saveText("hand-ins.csv", `\ufeff${csvOf(given.result)}`, "text/csv"), clear };
+export const handInDeeds = {
+  csv: () => saveText("hand-ins.csv", csvOf(given.result), "text/csv"),
+  clear,
+  sort({ dataset: { at } }) {
+    const body = piece("table").querySelector("tbody");
+    const sign = at > given.result.columns.length + 2 ? -1 : 1; // of what is told most comes first
+    const compared = (one, other) => sign * one.cells[at].innerText.localeCompare(other.cells[at].innerText, undefined, { numeric: true });
+    body.append(...[...body.rows].sort(compared));
+  },
+};

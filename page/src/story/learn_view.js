@@ -94,9 +94,9 @@ function taskHtml({ hints }) {
 function solvedHtml() {
   const { lesson } = learning.panel;
   const teaches = lesson.teaches === "" ? "" : escaped(inLetters(lesson.teaches));
-  return `<div class="reveal"><div><p class="why"><b>Solved.</b> ${teaches}</p>
-    <p class="line"><button data-do="replay">See your run again</button>
-    <button data-do="afresh" class="quiet">Solve it in another way</button></p></div></div>`;
+  return `<div class="reveal"><div><p class="why"><b>Solved.</b> ${teaches}</p></div>
+    <p class="line"><button data-do="replay" class="small">See your run again</button>
+    <button data-do="afresh" class="quiet small">Solve it in another way</button></p></div>`;
 }
 
 function draw(state) {

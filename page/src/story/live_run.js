@@ -44,9 +44,9 @@ export class ShownRun {
 
 /**
  * `lines` are the schedule's first lines, also those of a draft. In a `free` run the reader may begin any call, and stop before each look; of
- * a `plain` one the list's lock is ignored, and nothing is told of it.
+ * a `plain` one the list's lock is ignored, and nothing is told of it. `joined` are rows that belong to the press before them.
  * @typedef {{ list: string, lacks?: string | null, threads?: number, quota?: number, opening?: number[], lines?: string[], version?: number,
- *   free?: boolean, plain?: boolean }} RunSpec
+ *   free?: boolean, plain?: boolean, joined?: number[] }} RunSpec
  */
 export class LiveRun extends ShownRun {
   /** @param {RunSpec} spec */
@@ -93,34 +93,47 @@ export class LiveRun extends ShownRun {
     this.state.moveTo(this.count);
   }
 
-  // What a thread would do next, up to where something else begins: the number of its steps, its phase, and whether it waits.
+  // What a thread would do next, up to where something else begins: the number of its steps, its phase, and for whom it waits. That
+  // it waits it knows once it has tried.
   nextOf(thread, call = null) {
     const isBegin = this.isIdle(thread);
     const lines = isBegin ? [...this.lines, `begin ${thread} ${call.join(" ")}`] : this.lines;
     const trace = this.traceOf([...lines, `go ${thread} ${MOST_STEPS}`]);
     const begun = this.trace.total + lines.length - this.lines.length;
     const row = isBegin ? trace.event(begun).changes.pc : this.state.threads[thread].pc;
-    return { ...this.chunk(trace, begun, row), thread, row, isBegin };
+    const next = this.chunk(trace, begun, row);
+    const tried = this.trace.events().findLast((event) => event.thread === thread);
+    const waitsFor = next.waits && next.steps === 1 && tried?.word === next.last.word && tried.saw === next.last.saw ? Number(tried.saw.slice(1)) : null;
+    return { ...next, thread, row, isBegin, waitsFor };
   }
 
   chunk(trace, begun, row) {
-    const { list, plain } = this.spec;
+    const { list, plain, joined = [] } = this.spec;
     const phase = phaseAt(list, row, plain);
-    const joined = this.spec.free && !plain ? [] : joinedRows(list, plain);
+    const rows = this.spec.free && !plain ? [] : [...joinedRows(list, plain), ...joined];
+    let last;
     let steps = 0;
     let before = row;
     for (let number = begun + 1; number <= trace.total; number++) {
-      const event = trace.event(number);
+      last = trace.event(number);
       steps++;
-      if (event.answer !== undefined) break;
-      const after = event.changes.pc;
-      const ofLock = isFailed(event) && isLock(event.word);
+      if (last.answer !== undefined) break;
+      const after = last.changes.pc;
+      const ofLock = isFailed(last) && isLock(last.word);
       const waits = ofLock && after === before; // a broken list may go on all the same
-      if (waits || (isFailed(event) && !ofLock)) return { steps, phase, waits };
+      if (waits || (isFailed(last) && !ofLock)) return { steps, phase, waits, last };
       before = after;
-      if (phaseAt(list, after, plain) !== phase && !joined.includes(after)) break;
+      if (phaseAt(list, after, plain) !== phase && !rows.includes(after)) break;
     }
-    return { steps, phase, waits: false };
+    return { steps, phase: phase === "unlock" && last?.answer === undefined ? "restart" : phase, waits: false, last };
+  }
+
+  // The moment at which the bit ends that is made after this one.
+  endOfBit(count) {
+    this.moveTo(count);
+    const { thread, deed, changes } = this.trace.event(count + 1);
+    const [begun, row] = deed === "begin" ? [count + 1, changes.pc] : [count, this.state.threads[thread].pc];
+    return begun + this.chunk(this.trace, begun, row).steps;
   }
 
   // How many steps lead a thread to where this is so, end its call, or lead to a lock for which it waits.

@@ -3,8 +3,8 @@ import { tag } from "../run/markup.js";
 import { LISTS_AT_END, SCREENS } from "./path.js";
 
 export const HERO = `<div class="hero"><p class="kicker">Concurrent lists, from nothing</p><p class="title">Why not just one lock?</p>
-  <p class="lead">Two threads share one list. In twenty minutes you break it, mend it, and meet the five list sets of Herlihy and Shavit.
-  You press, and the threads step. You need no book.</p></div>`;
+  <p class="lead">Two threads share one list. You press, and they step. <span class="roomy">In twenty minutes you break it, mend it, and meet
+  the five list sets of Herlihy and Shavit.</span> You need no book.</p></div>`;
 
 export function dots(number, done) {
   const names = [...SCREENS.map(({ nav }) => nav), "And now?"];

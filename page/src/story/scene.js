@@ -1,5 +1,5 @@
 // The places of the story: each has a view. A button with `data-do` does the deed of its view that has this name.
-import { change, dispatch, now } from "../page/now.js";
+import { change, dispatch, isLecture, now } from "../page/now.js";
 import { byId, setHtml } from "../page/dom.js";
 import { copied } from "../page/visit.js";
 import { warningOf } from "../run/address.js";
@@ -9,11 +9,12 @@ import { isNarrow } from "./figure_parts.js";
 
 /**
  * A view has the class of its place (`kind`) and its parts as text; `fault` says why there is no such place, `begin` makes the figure once the
- * parts are there, `draw` shows how far one is, `end` comes before the parts go; `deeds` are done by buttons, `press` by a key.
+ * parts are there, `draw` shows how far one is, `end` comes before the parts go; `deeds` are done by buttons, `press` by a key; `goes` on or
+ * back on a slide, and says whether it did.
  * @typedef {import("../page/state.js").Place} Place
  * @typedef {{ kind: string, title: (place: Place) => string, html: (place: Place) => string, fault?: (place: Place) => string | null,
  *   begin?: (place: Place) => void, draw?: (scene: import("../page/state.js").Scene) => void, end?: () => void,
- *   deeds?: Record<string, (target: any) => any>, press?: (event: KeyboardEvent) => any }} View
+ *   deeds?: Record<string, (target: any) => any>, press?: (event: KeyboardEvent) => any, goes?: (by: number) => any }} View
  */
 
 /** @type {Record<string, View>} of an activity, or of one without an id its map */
@@ -33,22 +34,19 @@ export async function copyText(text, words) {
 // What is said below the figure. What is new comes in sight, above the bar at the bottom.
 export function talk(html) {
   const box = part("#talk");
-  if (!setHtml(box, html) || scene.isNew || hiddenBelow() <= 0) return;
-  const last = box.lastElementChild;
-  const isTall = last.getBoundingClientRect().height > innerHeight / 2; // as on a phone: what comes first is to be seen
-  last.scrollIntoView({ block: isTall ? "start" : "end" });
+  const last = () => box.lastElementChild;
+  if (!setHtml(box, html) || scene.isNew || last() === null || underBar(last()) <= 0) return;
+  const isTall = last().getBoundingClientRect().height > innerHeight / 2; // as on a phone: what comes first is to be seen
+  last().scrollIntoView({ block: isTall ? "start" : "end" });
 }
 
-function hiddenBelow() {
-  const [last, bar] = [part("#talk")?.lastElementChild, part(".foot")];
-  return last == null || bar === null ? 0 : last.getBoundingClientRect().bottom - bar.getBoundingClientRect().top;
-}
+const underBar = (box) => box.getBoundingClientRect().bottom - (part(".foot")?.getBoundingClientRect().top ?? Infinity);
 
-// The list is drawn smaller where what is asked below it would lie under the bar.
+// The list is drawn smaller where what is said below it would lie under the bar.
 function fitFigure({ spec }) {
   const list = scene.figure.part("list").firstElementChild;
-  const over = hiddenBelow();
-  if (over <= 0 || list === null || isNarrow()) return;
+  const over = underBar(part("#talk") ?? list);
+  if (over <= 0 || list === null || isNarrow() || isLecture()) return;
   Object.assign(spec, { high: (Number(list.getAttribute("height")) - over - 8) / innerHeight, least: 110 });
   scene.figure.draw();
 }
@@ -87,9 +85,9 @@ export function renderScene({ place, scene: state }) {
   scene.isFirst = false; // who comes by a key goes on at the title of what is opened
 }
 
-export function openScene({ activity, id = "", given = {}, view = null }) {
+export function openScene({ activity, id = "", given = {}, view = null, slide = 0 }) {
   scene.key = ""; // also where it is shown already, it begins anew
-  change("view", { view });
+  change("view", { view, slide });
   dispatch("place", { activity, screen: "scene", id, given });
 }
 
@@ -99,8 +97,6 @@ export function listenToScene() {
     if (target !== null && byId("scene").contains(target)) scene.view?.deeds?.[target.dataset.do]?.(target);
   });
 }
-
-export const pressInScene = (event) => scene.view?.press?.(event);
 
 export const head = (kicker, title, more = "", kind = "") =>
   `<div class="head">${kicker === "" ? "" : `<p class="kicker">${kicker}</p>`}<h1 class="${kind}" tabindex="-1">${title}</h1>${more}</div>`;

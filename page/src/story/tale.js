@@ -36,14 +36,15 @@ const WORDS = {
   answer: () => "answer",
   lock: () => "take the lock",
   unlock: () => "let go, and answer",
+  restart: () => "let go, and start again",
   first: () => "lock the head",
   next: () => "lock the next node",
-  letgo: () => "let go of the one behind",
+  letgo: () => "let go of pred",
   locks: () => "lock pred and curr",
-  again: () => "look once more",
+  again: () => "look again",
   check: () => "look at the marks",
   mark: ({ key }) => `mark ${key}: removed`,
-  tidy: ({ key }) => `take ${key} out of the chain`,
+  tidy: ({ key }) => `take ${key} out`,
   look: () => "look at the mark",
   snip: () => "take the marked node out",
   swing: ({ key }) => `try to hang ${key} in`,
@@ -98,7 +99,7 @@ function lockTold(event, who, plain, waits) {
 
 function keyTold(event, owner, key, phase, held) {
   if (phase === "again") {
-    if (held.pc === 14 && held.reply === "none") return `is past the place of its pred, and has not met it: ${bold("pred is not in the list any more.")} It lets go and starts again.`;
+    if (held.pc === 14 && held.reply === "none") return `is past the place of its pred: ${bold("pred is not in the list any more.")} It starts again.`;
     return held.node === held.pred ? "meets its pred: it is still in the list." : "walks on: this is not its pred.";
   }
   if (owner === "tail") return "has come to the end: here is the place.";

@@ -1,6 +1,7 @@
 // For teachers: a lecture as links, a question for one's own pages, homework as one link, and what a class handed in.
 import { LACKING } from "../../made/classics.js";
 import { LISTS } from "../../made/rows.js";
+import { LECTURE, slideAddress } from "../data/lecture.js";
 import { BREAK_LEVELS } from "../data/levels.js";
 import { escaped, listOptions, tag } from "../run/markup.js";
 import { seedOf } from "../run/address.js";
@@ -11,31 +12,17 @@ import { beginHandIns, handInDeeds, handInsHtml } from "./handins_view.js";
 import { startAfresh } from "./kept.js";
 import { copyText, head, part } from "./scene.js";
 
-/** @type {[number, string, string, string][]} */
-const LECTURE = [
-  [4, "Lose a number", "#story=2&view=lecture", "No lock. Let the class call out A or B until a number is lost."],
-  [4, "One lock", "#story=3&view=lecture", "A has the lock and is stopped. How far does B get? Let the class guess, then press 1, 2 or 3."],
-  [5, "FineList: hand over hand", "#story=4&view=lecture", "A has locked 3 and 7. How far does B get now? Then let B follow A, node by node."],
-  [5, "A walk without locks", "#story=5&view=lecture", "Both lock what they change, and 5 gets lost all the same. Let the class find the order."],
-  [6, "Why a second walk", "#ask=stale-pred&view=lecture", "May A write? After the answer, press “And without this check?”: 5 is lost."],
-  [5, "LazyList: a mark", "#story=7&view=lecture", "B has marked 5, and its node is still in the chain. What may A answer?"],
-  [5, "In another thread’s step", "#ask=read-in-anothers-step&view=lecture", "A will answer false. When is that right? In a step of B."],
-  [3, "Who waits?", "#sides=coarse.lazy&quota=4&calls=0.add.5,1.contains.5&turns=0.0.0.0&view=lecture",
-    "Press B three times: LazyList has answered, CoarseList tries its lock."],
-  [5, "LockFreeList: compare-and-set", "#story=9&view=lecture", "Two removes of 5, no lock. Who comes first? Let the class decide, then step A and B."],
-  [3, "Everybody judges", "#seed=lazy.2.5.2.17&judge", "Write the link on the board. All get the same run, without its answers."],
-];
 const PANELS = { slides: "Lecture", embed: "Embed", homework: "Homework", handins: "Hand-ins", own: "Your own lessons" };
 
 function lectureHtml() {
-  const slide = ([minutes, title, href, says]) =>
-    tag("li", {}, tag("span", { class: "minutes" }, `${minutes}′`), `<div><b>${title}</b><p class="small">${says}</p></div>`,
-      tag("a", { class: "button", href, target: "_blank" }, "Open slide ↗"),
-      tag("button", { class: "quiet", "data-do": "link", "data-link": href }, "Copy link"));
+  const slide = ([minutes, title, _, says], at) =>
+    tag("li", {}, tag("span", { class: "minutes" }, `${minutes}′`), `<div><b>${at + 1}. ${title}</b><p class="small">${says}</p></div>`,
+      tag("a", { class: "button", href: slideAddress(at + 1) }, "Open slide"),
+      tag("button", { class: "quiet", "data-do": "link", "data-link": slideAddress(at + 1) }, "Copy link"));
   const sum = LECTURE.reduce((total, [minutes]) => total + minutes, 0);
   return `<section class="panel" id="slides"><h2>A lecture of ${sum} minutes</h2>
-    <p class="prose">Each link opens one slide, as large as the screen. A presenter’s keys and the arrows step; A and B let a thread go on; Escape
-    leads back. Ask the class first, then step.</p><ol class="plan">${LECTURE.map(slide).join("")}</ol></section>`;
+    <p class="prose">Each slide is as large as the screen. A presenter’s keys, the arrows and Space go on and back, through all of them; A and B
+    let a thread step; Escape leads back here. Ask the class first, then step.</p><ol class="plan">${LECTURE.map(slide).join("")}</ol></section>`;
 }
 
 const titleOf = (name) => QUESTIONS.find((item) => item.name === name).title;
@@ -116,6 +103,7 @@ function fill() {
   piece("count").textContent = count === 0 ? "Nothing is ticked yet." : `${count} task${count === 1 ? "" : "s"}`;
   piece("link").textContent = linkTo(address);
   piece("open").href = address;
+  if (count > 0) Object.assign(part("#in-link"), { value: linkTo(address) }).oninput?.(); // and the hand-ins are of this assignment
   const item = (seed, at) => `<li><code>${seed}</code> <a href="#seed=${seed}" target="_blank">look</a>
     <button class="quiet small" data-do="drop" data-at="${at}" aria-label="leave out ${seed}">✕</button></li>`;
   piece("seeds").innerHTML = work.seeds.map(item).join("");

@@ -23,7 +23,7 @@ def test_a_won_level_keeps_its_answer_to_itself(visitor):
 
 def test_the_contradiction_is_in_sight(visitor):
     won(visitor)
-    assert visitor.text(".ledger .odd") == "4" and visitor.in_window(".ledger") and visitor.is_seen(".list .lost")
+    assert visitor.text(".ledger .odd") == "4" and visitor.in_window(".ledger") and visitor.in_window(".list svg")
 
 
 def test_the_contradiction_is_in_sight_on_a_phone(visitor):

@@ -68,6 +68,12 @@ def test_a_lesson_is_solved_and_explored_on(visitor, another):
     assert "course Monday" in text and "first #list=lazy&threads=2&quota=0&opening=5&s=b0.contains.5" in text
 
 
+def test_three_threads_and_the_goal_are_in_sight(visitor):
+    visitor.open("#learn=one-lock")
+    visitor.step("cab")
+    assert all(visitor.is_in_window(it) for it in ("#goal", "[data-thread='0']", "[data-thread='1']", "[data-thread='2']"))
+
+
 def test_the_last_try_is_there_again(visitor):
     visitor.open("#learn=one-lock")
     visitor.step("ab")

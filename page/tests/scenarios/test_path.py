@@ -26,6 +26,8 @@ def test_who_presses_show_me_gets_through(visitor, number):
         visitor.idle()
     visitor.revealed()
     assert len(visitor.text(".why")) > 60 and visitor.text("#go-on").startswith(("Continue", "And now?"))
+    assert visitor.script("return scrollY") == 0 and visitor.in_window(".reveal")
+    assert visitor.script("const it = document.querySelector('.lines'); return it === null || it.scrollHeight <= it.clientHeight")
 
 
 @pytest.mark.parametrize(("keys", "lost"), [("abbbaa", 6), ("baaabb", 5), ("abaabb", 5), ("aabbba", 6)])
@@ -43,6 +45,42 @@ def test_a_number_that_is_not_lost_and_one_press_back(visitor):
     assert "nothing is lost" in visitor.text("#talk") and visitor.text("#show-me") == "Start over"
     visitor.click("[data-undo]")
     assert "nothing is lost" not in visitor.text("#talk")
+
+
+def test_the_last_press_leads_on_and_can_be_taken_back(visitor):
+    visitor.open("#story=1")
+    while not visitor.is_seen(".reveal"):
+        visitor.click("[data-step]")
+        visitor.idle()
+    assert visitor.focus() == "BUTTON go-on"
+    visitor.click("[data-undo]")
+    assert not visitor.is_seen(".reveal") and "Press the blue button" in visitor.text("#talk")
+
+
+def test_buttons_stay_where_they_are(visitor):
+    visitor.open("#story=5")
+    places = set()
+    for key in "abbba":
+        visitor.step(key)
+        places.add(visitor.script("return document.querySelector('[data-step=\"1\"]').getBoundingClientRect().top"))
+    assert len(places) == 1
+
+
+def test_who_waits_has_a_pale_button(visitor):
+    visitor.open("#story=3")
+    guess(visitor, "3")
+    assert visitor.text("[data-step='1']").startswith("waits for A") and visitor.script("return document.querySelector('[data-step=\"1\"]').ariaDisabled") == "true"
+    while visitor.is_seen("[data-step='0']"):
+        visitor.step("a")
+    assert visitor.text("[data-step='1']").startswith("take the lock")
+
+
+def test_why_two_locks(visitor):
+    visitor.open("#story=4")
+    guess(visitor, "2")
+    visitor.click("[data-do=why]")
+    visitor.wait("return document.querySelector('.list .lost') !== null")
+    assert visitor.is_seen(".steps del") and visitor.is_seen(".reveal")
 
 
 def test_a_wrong_guess_has_its_reply_and_steps_are_no_entries(visitor):
@@ -152,6 +190,11 @@ def test_a_phone_by_thumb(visitor, number):
         visitor.touch("[data-step='0']")
         visitor.idle()
         assert visitor.text(".tale") != ""
+    if number == 4:
+        visitor.touch("[data-option='1']")
+        visitor.revealed()
+        ends = "const right = (it) => it.getBoundingClientRect().right; return [...document.querySelectorAll('.dock *')].map(right).every((it) => it <= right(document.querySelector('.stage')))"
+        assert visitor.script(ends)
 
 
 def test_a_slide_by_a_presenters_keys(visitor):
@@ -160,8 +203,9 @@ def test_a_slide_by_a_presenters_keys(visitor):
     for _ in range(8):
         visitor.press("PageDown")
         visitor.idle()
-    visitor.wait("return location.hash.startsWith('#story=3&view=lecture')")
+    visitor.wait("return location.hash.startsWith('#lecture=2')")
     visitor.press("Escape")
+    visitor.wait("return location.hash === '#teachers'")
     assert visitor.is_seen("#top")
 
 

@@ -47,6 +47,9 @@ def test_what_is_done_is_ticked_and_handed_in(visitor):
     visitor.unfold("#hand details")
     text = visitor.text("#hand-text")
     assert "student Ada Lovelace (4711000)" in text and "one-lock #list=coarse" in text and "break second-walk #" in text
+    assert "assignment Week 3\n" in text
+    visitor.click("[data-do=save]")
+    assert visitor.text("#scene-told") == "Saved: ada-lovelace-4711000-week-3.txt. Hand in this file."
 
 
 def dropped(visitor, files):
@@ -54,32 +57,50 @@ def dropped(visitor, files):
         const box = document.getElementById("in-files"); box.files = data.files; box.dispatchEvent(new Event("change"))""", files)
 
 
+HAND_IN = "listset-lessons 2\ncourse The twelve lessons of the five lists\nassignment {}\nstudent {}\n{}\nend\n"
+MARKED = "marked-in-chain #list=lazy&threads=2&quota=4&opening=5&s=b1.remove.5,{}g1.2,g1.2,g1.2,g1.1,b0.contains.5,g0.2,g0.1&event=9"
+BROKEN = "break lock #list=coarse&threads=2&quota=2&opening=3.7&s=b0.add.5,b1.add.4,g0.1,g1.1,g0.4,g1.4,g0.2,g1.2,g0.1,g1.1,g0.1&event=19&lacks=1"
+
+
+def marked(number):
+    """A solution that no other number has: before, A has looked for other keys."""
+    return MARKED.format("".join(f"b0.contains.{1 + int(digit)},g0.2," for digit in f"{number:05b}"))
+
+
 def test_a_class_is_checked(visitor):
-    kept = json.loads(visitor.script("const ask = new XMLHttpRequest(); ask.open('GET', 'kept.json', false); ask.send(); return ask.responseText"))
-    line = json.loads(kept["listset-broken"])["second-walk"]
-    text = "listset-lessons 2\ncourse The twelve lessons of the five lists\nstudent {} ({})\n{}\nend\n"
-    files = [[f"{it}.txt", text.format(f"Student {it}", 1000 + it, line if it % 3 else line.replace("event=23", "event=22x"))] for it in range(40)]
+    copies = [7, 8, 9]
+    lines = [f"{marked(7 if it in copies else it)}\n{BROKEN}" for it in range(30)]
+    files = [[f"{it}.txt", HAND_IN.format("Week 3", f"Student {it} ({1000 + it})", lines[it])] for it in range(30)]
+    more = [["max.txt", HAND_IN.format("Week 3", "Max Maier", lines[28])], ["max-2.txt", HAND_IN.format("Week 3", "Max Maier", BROKEN)],
+            ["late.txt", HAND_IN.format("Week 2", "Eva (7)", "hand-over-hand #list=fine")], ["notes.txt", "Dear all"]]
     visitor.open("#teachers")
-    visitor.type("#in-link", f"http://x/index.html{LINK}")
-    dropped(visitor, [*files, ["notes.txt", "Dear all"]])
-    visitor.wait("return document.querySelectorAll('.class tbody tr').length === 40", seconds=60)
-    assert "40 students" in visitor.text("#in-told") and "notes.txt" in visitor.text("#in-told")
-    assert "same schedules as" in visitor.text(".class tbody") and visitor.is_seen("[data-do=csv]")
-    csv = visitor.inside("return listsets.checkAll(given[0].map(([name, text]) => ({ name, text })), null).then((it) => (window.csv = listsets.csvOf(it))) && 1", files)
-    assert csv == 1
-    rows = visitor.wait("return window.csv").splitlines()
-    assert len(rows) == 41 and rows[0].startswith("student,number,")
-    assert "41 files: 40 students, 0 merged, 1 without a hand-in." in visitor.text("#in-told") and "✗" in visitor.text(".class tbody")
+    visitor.type("#hw-title", "Week 3")
+    for task in ("[value=marked-in-chain]", "[data-kind=break][value='1']"):
+        visitor.click(task)
+    assert visitor.script("return document.getElementById('in-link').value") == visitor.text("#hw-link")
+    dropped(visitor, [*files, *more])
+    visitor.wait("return document.querySelectorAll('.class tbody tr').length === 33", seconds=60)
+    told = visitor.text("#in-told")
+    assert "34 files: 33 students, 0 merged, 1 without a hand-in. 31 with all 2 tasks." in told and "notes.txt" in told
+    assert "many have them: Level 1, CoarseList" in told
+    row = lambda name: visitor.script("return [...document.querySelectorAll('.class tbody tr')].find((it) => it.innerText.includes(arguments[0])).innerText", name)
+    assert "2 of 2 with Student 8 (1008), Student 9 (1009)" in row("Student 7\t") and " of 2 with" not in row("Student 6\t")
+    assert "2 rows with this name, since a number is missing: max.txt, max-2.txt" in row("Max Maier")
+    assert "handed in for “Week 2”; 1 solution of tasks not asked: Hand over hand" in row("Eva")
+    visitor.click(".class thead button", "Same schedules")
+    assert "2 of 2 with" in visitor.text(".class tbody tr")
+    visitor.type("#in-link", "http://example.org/foo")
+    assert visitor.text("#in-told") == "This is no link of an assignment: “#assignment=” is missing." and not visitor.is_seen(".class")
 
 
-def test_two_names_for_one_number_are_two_rows(visitor):
-    text = "listset-lessons 2\ncourse The twelve lessons of the five lists\nstudent {}\nend\n"
+def test_who_has_a_number_is_one_student(visitor):
     names = ["Anna Abel (12)", "Hana Gök (12)", "Bo (7)", "bo (7)", "Cy (MSc)"]
     visitor.open("#teachers")
-    dropped(visitor, [[f"{at}.txt", text.format(name)] for at, name in enumerate(names)])
+    dropped(visitor, [[f"{at}.txt", HAND_IN.format("x", name, BROKEN)] for at, name in enumerate(names)])
     visitor.wait("return document.querySelectorAll('.class tbody tr').length === 4")
     assert "5 files: 4 students, 1 merged, 0 without a hand-in." in visitor.text("#in-told")
     assert visitor.text(".class tbody").count("two names for one number: Anna Abel, Hana Gök") == 2
+    assert "merged from 2.txt, 3.txt" in visitor.text(".class tbody")
 
 
 def test_a_task_leads_to_the_next_task(visitor):
@@ -91,6 +112,7 @@ def test_a_task_leads_to_the_next_task(visitor):
     visitor.open("#learn=two-at-once")
     assert "seed" not in visitor.script("return document.getElementById('go-on').hash")
     visitor.open("#seed=lazy.2.5.2.17&judge")
+    assert visitor.is_seen("#judge-ask") and visitor.script("return getComputedStyle(document.getElementById('judge-end')).visibility") == "hidden"
     visitor.press("Right")
     assert visitor.event() == 1 and visitor.script("return document.getElementById('judge-level').value") == "replies"
 
@@ -108,13 +130,64 @@ def test_start_afresh(visitor):
     assert visitor.script("return document.getElementById('hand-student').value") == ""
 
 
-def test_the_slides_of_the_lecture_open(visitor):
+def fit(visitor, width, height):
+    visitor.size(width, height)
+    visitor.size(width, height + visitor.script("return arguments[0] - innerHeight", height))  # the window has a frame
+
+
+def test_the_lecture_goes_on_by_one_key(visitor):
     visitor.open("#teachers")
-    slides = visitor.script("return [...document.querySelectorAll('.plan a')].map((it) => it.getAttribute('href'))")
-    assert len(slides) == 10
-    visitor.size(1280, 720)
-    visitor.size(1280, 720 + visitor.script("return 720 - innerHeight"))  # the window has a frame
-    for slide in slides:
-        visitor.open(slide)
-        assert visitor.text("#told") == "" and not visitor.is_seen("#fault:not(:empty)"), slide
-        assert visitor.script("return document.documentElement.scrollHeight <= innerHeight + 1") or "judge" in slide, slide
+    slides = visitor.script("return [...document.querySelectorAll('.plan a')].map((it) => it.hash)")
+    fit(visitor, 1280, 720)
+    visitor.open(slides[0])
+    seen = slides[:1]
+    for at in range(120):
+        assert visitor.script("""return document.documentElement.scrollHeight <= innerHeight + 1
+            && [...document.querySelectorAll('.lines')].every((it) => it.scrollHeight <= it.clientHeight + 1
+            && it.getBoundingClientRect().bottom <= it.closest('.fig').getBoundingClientRect().bottom)"""), visitor.hash
+        assert visitor.text("#leave").startswith(f"{len(seen)} of {len(slides)}")
+        visitor.press("Space" if at % 2 else "PageDown")
+        visitor.script("return new Promise((done) => setTimeout(done, 300))")
+        if visitor.hash != seen[-1]:
+            seen.append(visitor.hash)
+        if seen == slides:
+            break
+    assert seen == slides
+    visitor.press("PageUp")
+    visitor.wait("return location.hash === arguments[0]", slides[-2])
+    visitor.press("Escape")
+    visitor.wait("return location.hash === '#teachers'")
+    visitor.open("#lecture=99")
+    assert "the slides 1 to 11" in visitor.text("#told")
+
+
+def test_a_slide_takes_every_key_and_stops_where_it_is_decided(visitor):
+    visitor.open("#lecture=1")
+    visitor.press("a", "b", "a", "b")
+    visitor.wait("return document.querySelectorAll('.dock .thread').length === 2 && document.querySelector('[data-undo]') !== null")
+    visitor.settle()
+    visitor.settle()
+    visitor.idle()
+    assert visitor.inside("return listsets.scene.figure.past.length") == 4
+    visitor.press("Left")
+    visitor.wait("return JSON.parse(document.body.dataset.busy !== 'yes')")
+    visitor.settle()
+    assert visitor.inside("return listsets.scene.figure.past.length") == 3 and visitor.hash == "#lecture=1"
+    visitor.open("#lecture=5")
+    visitor.press("PageDown")
+    visitor.revealed()
+    assert "pred is not in the list any more" in visitor.text(".tale") and "No." in visitor.text(".why")
+    visitor.press("PageDown")
+    visitor.wait("return document.querySelector('.tale').innerText.includes('answers true')")
+
+
+def test_a_slide_follows_its_window(visitor):
+    height = lambda: visitor.script("return Math.round(document.querySelector('.list svg').getBoundingClientRect().height)")
+    visitor.size(800, 600)
+    visitor.open("#lecture=1")
+    visitor.size(1920, 1080)
+    visitor.settle()
+    grown = height()
+    visitor.open("#lecture=1")
+    visitor.settle()
+    assert abs(grown - height()) <= 2

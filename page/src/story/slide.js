@@ -1,0 +1,42 @@
+// A slide of the lecture: a presenter's keys go on and back in it, and from its end to the next one. No key is lost while a step is shown.
+import { LECTURE, slideAddress } from "../data/lecture.js";
+import { isLecture, now } from "../page/now.js";
+import { goByHand } from "../page/play.js";
+import { scene } from "./scene.js";
+
+const queue = { last: Promise.resolve(), waiting: 0 };
+const hurry = () => scene.figure?.isBusy && (scene.figure.isHurried = true);
+
+// What a key does comes after what the keys before it do, whose steps are shown at once then.
+function inTurn(deed) {
+  queue.waiting++;
+  hurry();
+  queue.last = queue.last.then(async () => {
+    const done = deed();
+    if (--queue.waiting > 0) hurry();
+    await done;
+    await scene.figure?.playing;
+    await new Promise((next) => setTimeout(next));
+  });
+}
+
+export const pressInScene = (event) => (isLecture() ? inTurn(() => scene.view?.press?.(event)) : scene.view?.press?.(event));
+
+// The slide after this one or before it, once it is there; false where there is none.
+export function toSlide(by) {
+  const number = now.place.slide + by;
+  if (now.place.slide === 0 || LECTURE[number - 1] === undefined) return false;
+  const isThere = new Promise((done) => window.addEventListener("popstate", () => setTimeout(done), { once: true }));
+  location.hash = slideAddress(number);
+  return isThere;
+}
+
+function goesOnStage(by) {
+  const count = now.run.count + by;
+  const isThere = count >= 0 && count <= now.run.trace.total;
+  if (isThere) goByHand(count);
+  return isThere;
+}
+
+export const goOnSlide = (by) =>
+  inTurn(async () => (now.place.screen === "stage" ? goesOnStage(by) : await scene.view?.goes?.(by)) || toSlide(by));
