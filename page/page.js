@@ -390,6 +390,7 @@ var listsets = (() => {
     showStrip: () => showStrip,
     signOf: () => signOf,
     slideAddress: () => slideAddress,
+    slideOf: () => slideOf,
     startAfresh: () => startAfresh,
     startOfLacking: () => startOfLacking,
     stateAtFirst: () => stateAtFirst,

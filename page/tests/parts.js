@@ -141,7 +141,8 @@ function checkForms() {
   check("README.md has the forms of addresses", forms.length > 15);
   for (const form of forms) {
     const base = form.startsWith("#") ? form : `#list=lazy&threads=2&quota=4${form === "&judge" ? "&s=b0.add.5" : ""}${form}`;
-    const refusal = inPage("sceneOfHash")(base) === null ? refusalOf(base) : "";
+    const isScene = inPage("slideOf")(base) > 0 || inPage("sceneOfHash")(base) !== null;
+    const refusal = isScene ? "" : refusalOf(base);
     check(`${form} is an address: ${refusal}`, refusal === "");
   }
 }

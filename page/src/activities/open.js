@@ -79,7 +79,7 @@ function openLink({ text, event, lacks, view = null }) {
 }
 
 // The slide of the lecture that an address names, also by the address of what is on it, or 0.
-function slideOf(hash) {
+export function slideOf(hash) {
   const [, number = "1"] = /^#lecture(?:=(.*))?$/.exec(hash) ?? [null, `${1 + LECTURE.findIndex(([, , address]) => address === hash)}`];
   if (number === "0" || LECTURE[Number(number) - 1] !== undefined) return Number(number);
   throw new AddressFault(`the lecture has the slides 1 to ${LECTURE.length}, and no "${number.slice(0, 60)}"`);
