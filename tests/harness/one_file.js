@@ -5,7 +5,7 @@
 const fs = require("fs");
 const vm = require("vm");
 
-const WANTED = ["const ENGINE =", "class Engine {"];
+const WANTED = ["const ENGINE =", "var listsets ="];
 
 async function main([page]) {
   const text = fs.readFileSync(page, "utf8");

@@ -10,7 +10,7 @@ pub use lset_replay::replay;
 pub use lset_schedule::generate;
 pub use lset_steps::{Event, Machine, World};
 pub use lset_words::{
-    Call, Key, MOST_OPENING, MOST_QUOTA, MOST_THREADS, Reply, layout, layout_opening,
+    Call, Key, MOST_OPENING, MOST_QUOTA, MOST_THREADS, Presence, Reply, layout, layout_opening,
 };
 pub use rand_core::{Rng, SeedableRng};
 pub use rand_pcg::Pcg32;
