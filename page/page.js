@@ -74,6 +74,7 @@ var listsets = (() => {
     MOST_JUDGED: () => MOST_JUDGED,
     MOST_NUMBER: () => MOST_NUMBER,
     MOST_ROWS: () => MOST_ROWS,
+    NARROW: () => NARROW2,
     NODE_HEIGHT: () => NODE_HEIGHT,
     NODE_REGISTERS: () => NODE_REGISTERS,
     NO_ENGINE: () => NO_ENGINE,
@@ -161,6 +162,7 @@ var listsets = (() => {
     departureOf: () => departureOf,
     dispatch: () => dispatch,
     dots: () => dots,
+    drawBar: () => drawBar2,
     drawBranches: () => drawBranches,
     drawCalls: () => drawCalls,
     drawContents: () => drawContents,
@@ -297,6 +299,7 @@ var listsets = (() => {
     on: () => on,
     onFile: () => onFile,
     openBranch: () => openBranch,
+    openContents: () => openContents,
     openCourseFile: () => openCourseFile,
     openExample: () => openExample,
     openFile: () => openFile,
@@ -407,6 +410,7 @@ var listsets = (() => {
     takeTrace: () => takeTrace,
     taleOf: () => taleOf,
     talk: () => talk,
+    talkOf: () => talkOf2,
     talkOfBranch: () => talkOfBranch,
     taskOfJudged: () => taskOfJudged,
     tasksOf: () => tasksOf,
@@ -5166,7 +5170,7 @@ end
       missing: [{ row: 25, part: "if marked: start again;" }]
     },
     "mark-in-contains": {
-      story: "Here contains does not look at the mark. No schedule is known after which no order explains the calls. Why not?",
+      story: "contains ignores the mark here, yet nobody has found a wrong answer. Why?",
       hints: [
         "A remove of 3, and a contains of 3 by the other thread.",
         "The remove has set its mark and is still pending. So it may come after the contains.",
@@ -7030,7 +7034,7 @@ end
       isHead ? "of" : "",
       isMade ? `made ${colourOf(made2.thread)}` : "",
       here3.length > 0 ? `lit ${colourOf(here3[0])}` : "",
-      rows.some((row) => fresh.includes(row)) ? "fresh" : ""
+      (isPlain ? [0] : rows).some((row) => fresh.includes(row)) ? "fresh" : ""
     ];
     const words = isHead ? escaped(text.trim()) : wordsOf(text.trim(), rows, struck);
     const depth = text.match(/^ */)[0].length;
@@ -7231,7 +7235,7 @@ end
     if (name === "head")
       return "the head";
     if (name === "tail")
-      return "the end";
+      return "the tail";
     return name in state.nodes ? keyText(state.nodes[name].key) : "";
   };
   var bare = (link) => link.replace("*", "");
@@ -7281,7 +7285,7 @@ end
       return held2.node === held2.pred ? "meets its pred: it is still in the list." : "walks on: this is not its pred.";
     }
     if (owner === "tail")
-      return "has come to the end: here is the place.";
+      return "has come to the tail: here is the place.";
     const seen = Number(event.saw);
     if (seen < key)
       return `reads ${bold(seen)}: too small, it goes on.`;
@@ -7367,7 +7371,7 @@ end
     const words = waits ? `waits for ${letterOf(plan.waitsFor)}` : spec.words?.[plan.phase] ?? phaseText(plan.phase, call);
     const key = letterOf(thread).toLowerCase();
     const given2 = { class: "step", "data-step": thread, "aria-keyshortcuts": key, ...waits ? { "aria-disabled": "true" } : {} };
-    const button = tag("button", { ...given2, ...figure.isOpen ? {} : { disabled: "" } }, words, `<kbd aria-hidden="true">${key}</kbd>`);
+    const button = tag("button", { ...given2, ...figure.canStep ? {} : { disabled: "" } }, words, `<kbd aria-hidden="true">${key}</kbd>`);
     return threadRow2(thread, button, callText(call));
   }
   function threadRow2(thread, inside, call = "") {
@@ -7400,7 +7404,7 @@ end
     figure.scale = scale;
     setHtml(figure.part("strip"), tag("div", { class: "calls" }, drawCalls(run.trace, scale)) + drawContents(run.trace, scale) + LEGEND);
   }
-  var LEGEND = '<p class="small legend">● changes the set · ○ here its answer is right first</p>';
+  var LEGEND = '<p class="small legend">● changes the set · ○ first moment at which its answer is right</p>';
   var MOST_CALLS = 400;
   function scrollToLane(figure) {
     const { run, scale } = figure;
@@ -7489,9 +7493,9 @@ end
   var NARROW2 = "(max-width: 760px)";
   var isNarrow = () => matchMedia(NARROW2).matches;
   var CAS = "CAS x: a → b makes x point to b, if it still points to a. succ is the node after curr.";
-  var codeBox = ({ list, codeTitle, codeNote = "" }) => `<details class="codebox" ${isNarrow() ? "" : "open"}><summary><b>${codeTitle}</b></summary>
+  var codeBox = ({ list, isPath, codeTitle, codeNote = "" }) => `<details class="codebox" ${isNarrow() ? "" : "open"}><summary><b>${codeTitle}</b></summary>
     <p class="small code-note" ${codeNote === "" ? "hidden" : ""}>${codeNote}</p><span class="runs"></span><div class="lines"></div>
-    <p class="small hint">${list === "lock-free" ? CAS : "A letter stands at its thread’s next line. Press the line to step, another one to run there."}</p></details>`;
+    <p class="small hint">${list === "lock-free" && !isPath ? CAS : "A letter stands at its thread’s next line. Press the line to step, another one to run there."}</p></details>`;
   function frameOf({ box, spec }) {
     box.innerHTML = `<div class="stage"><div class="list" tabindex="0" role="group" aria-label="the list"></div>
     <p class="tale" aria-live="polite"></p><div class="strip"></div><div class="scrub"></div><div class="dock"></div></div>
@@ -7570,9 +7574,10 @@ end
     };
     glide(box, draw6, isNear);
   }
-  function fitList({ spec, tall: left, most: { width } }, svg, room, own) {
+  function fitList({ spec, fitted, tall: left, most: { width } }, svg, room, own) {
+    const { high: part2 = MOST_HEIGHT, least: lowest = 180 } = { ...spec, ...fitted };
     const [, top, , high] = svg.getAttribute("viewBox").split(" ").map(Number);
-    const tall = isSceneSlide() ? left : Math.max(innerHeight * (spec.high ?? MOST_HEIGHT), spec.least ?? 180);
+    const tall = isSceneSlide() ? left : Math.max(innerHeight * part2, lowest);
     const [least, most] = isSceneSlide() ? [0.1, Infinity] : [0.5, MOST_SCALE];
     const scale = Math.max(least, Math.min(most, (room - 4) / width, tall / high));
     svg.setAttribute("viewBox", `${(own - width) / 2} ${top} ${width} ${high}`);
@@ -7608,25 +7613,23 @@ end
         box.querySelector(`.list [data-part="node ${name}"]`)?.classList.add("lost");
     }
   }
-  function operationsOf({ spec, run, isGuess }) {
+  function operationsOf({ spec, run }) {
     const planned = Object.values(spec.calls ?? {}).flat().map(([operation]) => operation);
     const begun = isSceneSlide() && spec.operations !== void 0 ? [] : run.trace.calls.map(({ operation }) => operation);
-    const hidden = isGuess ? spec.hidden?.operations ?? [] : [];
-    return [.../* @__PURE__ */ new Set([...spec.operations ?? [], ...planned, ...begun])].filter((name) => !hidden.includes(name));
+    return [.../* @__PURE__ */ new Set([...spec.operations ?? [], ...planned, ...begun])];
   }
   function showCode(figure, { state, event, before }) {
     const box = figure.part("lines");
     if (box === null)
       return;
-    const { spec, run, canStep } = figure;
-    const { list, plain, fresh, struck, instead } = spec;
+    const { spec, run, canStep, isGuess } = figure;
+    const { list, plain, fresh, struck, hides, instead } = Object.assign({}, spec, isGuess ? spec.hidden : {});
     const isAble = (thread) => !run.isIdle(thread) || figure.left(thread).length > 0;
     if (!isAble(figure.active))
       figure.active = figure.shown.find(isAble) ?? figure.active;
     const { active } = figure;
     const made2 = event === null || event.deed === "begin" ? null : { row: before.pc, thread: event.thread };
     const next = state.threads.map((own, thread) => ({ thread, row: own.pc })).filter(({ row }) => row !== 0);
-    const hides = (figure.isGuess ? spec.hidden?.hides : void 0) ?? spec.hides;
     setHtml(box, drawOwnCode({ list, plain, fresh, struck, hides, instead, operations: operationsOf(figure), next, made: made2, canStep, active }));
     const toggles = figure.shown.filter(isAble).map((thread) => toggleOf(thread, active));
     setHtml(figure.part("runs"), canStep && spec.free && toggles.length > 1 ? `who runs: ${toggles.join("")}` : "");
@@ -7643,7 +7646,7 @@ end
   title="${letterOf(thread)} runs to another line that is pressed">${letterOf(thread)}</button>`;
   function scrollToLit(figure, moved) {
     const box = figure.part("lines");
-    const line = box?.querySelector(`.lit.${colourOf(moved)}`) ?? box?.querySelector(".made") ?? box?.querySelector(".lit");
+    const line = box?.querySelector(`.lit.${colourOf(moved)}`) ?? box?.querySelector(".made") ?? box?.querySelector(".lit") ?? box?.querySelector(".line:has(del)");
     if (line == null || box.scrollHeight <= box.clientHeight)
       return;
     const y = line.offsetTop - box.offsetTop;
@@ -7812,19 +7815,26 @@ end
     isOpen = true;
     // the reader may step
     hidesDock = false;
+    isPlayed = false;
+    // the page steps, and not the reader
     isGuess = false;
     // what would tell the answer is not shown
     isLost = false;
     // the nodes that are lost are lit
     hides = true;
     // of the history, what comes later
+    most = { width: 0, height: 0 };
+    // of the list, in its own units: with room for a node that may come
     wide = 0;
     // of the list, in pixels
+    fitted = {};
+    // how high it may be, where what the spec says is too much
     tall = 0;
     stripWide = 0;
     scroll = 0;
     told = null;
     onStep = null;
+    onFit = null;
     onFork = null;
     /** @param {any} box @param {import("./live_run.js").RunSpec & { [name: string]: any }} spec */
     constructor(box, spec) {
@@ -7833,10 +7843,8 @@ end
       this.run = spec.run ?? new LiveRun(spec);
       this.shown = spec.shown ?? this.run.state.threads.map((_, thread) => thread);
       this.chosen = spec.chosen ?? {};
-      const isRoomy = !isSceneSlide() && (spec.isPath || spec.free) && spec.again !== false && !isNarrow();
-      this.most = { width: 0, height: isRoomy ? 270 + 18 * this.shown.length : 0 };
       frameOf(this);
-      box.addEventListener("click", (event) => pressed(this, event));
+      box.addEventListener("click", (event) => this.isEnded || pressed(this, event));
       box.addEventListener("input", ({ target }) => target.closest(".choose") !== null && chooseCall(this, target.closest("[data-thread]")));
       this.stretch = new ResizeObserver(() => {
         const { clientWidth, clientHeight } = this.part("list");
@@ -7849,7 +7857,12 @@ end
     fit() {
       [this.wide, this.stripWide] = ["list", "strip"].map((name) => this.part(name).clientWidth);
       this.tall = this.part("list").clientHeight;
+      this.fitted = {};
+      const isRoomy = !isSceneSlide() && (this.spec.isPath || this.spec.free) && this.spec.again !== false && !isNarrow();
+      if (isRoomy)
+        this.most.height = Math.max(this.most.height, 270 + 18 * this.shown.length);
       this.draw();
+      this.onFit?.(this);
     }
     end() {
       this.stretch.disconnect();
@@ -7864,7 +7877,7 @@ end
       this.draw();
     }
     get canStep() {
-      return this.isOpen && !this.hidesDock && this.spec.dock !== false;
+      return this.isOpen && !this.hidesDock && !this.isPlayed && this.spec.dock !== false;
     }
     left(thread) {
       const own = this.spec.calls?.[thread] ?? [];
@@ -8007,18 +8020,18 @@ end
     last().scrollIntoView({ block: isTall ? "start" : "end" });
   }
   var underBar = (box) => box.getBoundingClientRect().bottom - (part(".foot")?.getBoundingClientRect().top ?? Infinity);
-  function fitFigure({ spec }) {
-    const list = scene.figure.part("list").firstElementChild;
+  function fitFigure(figure) {
+    const list = figure.part("list").firstElementChild;
     const over = underBar(part("#talk") ?? list);
     if (over <= 0 || list === null || isNarrow() || isLecture())
       return;
-    Object.assign(spec, { high: (Number(list.getAttribute("height")) - over - 8) / innerHeight, least: 110 });
-    scene.figure.draw();
+    figure.set({ fitted: { high: (Number(list.getAttribute("height")) - over - 8) / innerHeight, least: 110 } });
   }
   function takeFigure(figure) {
     scene.figure?.end();
-    scene.figure = figure;
-    return figure;
+    if (figure !== null)
+      figure.onFit = fitFigure;
+    return scene.figure = figure;
   }
   function leaveScene() {
     if (scene.view === null)
@@ -8056,6 +8069,7 @@ end
     dispatch("place", { activity, screen: "scene", id, given: given2 });
   }
   function listenToScene() {
+    matchMedia(NARROW2).onchange = ({ matches }) => document.querySelectorAll("details.codebox").forEach((box) => box.toggleAttribute("open", !matches));
     byId("scene").addEventListener("click", (event) => {
       const target = event.target.closest("[data-do]");
       if (target !== null && byId("scene").contains(target))
@@ -8117,8 +8131,15 @@ end
   }
   function pressThread(event) {
     const thread = threadOfKey(event);
-    if (thread !== -1)
-      scene.figure?.press(thread);
+    const { figure } = scene;
+    if (thread === -1 || figure === null)
+      return;
+    const { run, spec, isBusy } = figure;
+    const isAnswered = spec.free && !isBusy && run.isIdle(thread) && run.trace.calls.some((call) => call.thread === thread);
+    if (isAnswered)
+      figure.tell(`${chipOf(thread)} has its answer. Press <b>begin</b> for its next call.`);
+    else
+      figure.press(thread);
   }
   var numberOfKey = ({ key }) => now.prefs.letters && /^[1-9]$/.test(key) ? Number(key) - 1 : -1;
   var LIST_WORDS = { coarse: "One lock", fine: "Hand over hand", optimistic: "Optimistic", lazy: "Lazy", "lock-free": "Lock-free" };
@@ -10185,11 +10206,11 @@ end
   }
   function begin4(place) {
     const name = levelOf(place);
-    const { start } = BREAK_LEVELS[name];
+    const { start, missing } = BREAK_LEVELS[name];
     const list = LACKING[name];
     const given2 = place.given.text === void 0 ? { opening: [3, 7] } : runOfText(place.given.text);
     const operations = ["add", "remove", "contains", ...name === "mark-in-ceiling" ? ["ceiling"] : []];
-    const figure = takeFreeFigure(list, { lacks: name, ...given2, chosen: { 0: start[0], 1: start[1] }, high: 0.24, operations, codeNote: LACKS_ONE });
+    const figure = takeFreeFigure(list, { lacks: name, ...given2, chosen: { 0: start[0], 1: start[1] }, high: 0.24, operations, codeNote: LACKS_ONE, struck: name === NO_TASK ? missing : void 0 });
     figure.onStep = looked;
     setScene({ stage: "task", text: figure.run.schedule });
     if (place.given.text !== void 0)
@@ -10387,7 +10408,7 @@ end
     const operations = ["add", "remove", "contains", ...more];
     const codeNote = lesson.lacks === null ? "" : LACKS_ONE;
     const run = { ...runOfText(lesson.begun), version: versionOf(lesson.begun), lacks: lesson.lacks };
-    const figure = takeFreeFigure(lesson.list, { ...run, scrub: true, high: 0.24, operations, codeNote });
+    const figure = takeFreeFigure(lesson.list, { ...run, scrub: true, high: 0.3, operations, codeNote });
     Object.assign(figure, { onStep: looked2, onFork: goOnFromHere });
     if (own !== null && own !== lesson.begun && fits(own))
       takeTry(figure, linesOf(own));
@@ -10497,7 +10518,7 @@ end
       task: "Press the blue button until A has its answer.",
       help: [[0]],
       goal: (fig) => fig.run.trace.calls[0]?.reply ? { done: "" } : null,
-      reveal: () => `${b("5 is in, and A was told true.")} Walk, make a node, change one arrow: that is all of it. For one thread it is right. Now let a second one in.`
+      reveal: () => `${b("5 is in, and A was told true:")} 5 was not there before. Walk, make a node, change one arrow: that is all of it. For one thread it is right. Now let a second one in.`
     },
     {
       id: "lost",
@@ -10527,7 +10548,7 @@ end
       question: "One lock for the whole list: what does it cost?",
       prose: "The cure is simple. A thread takes the lock before its first step, and gives it back after its last. No number can get lost now.",
       figure: { list: "coarse", opening: [3, 7, 9], calls: { 0: [["add", 5]], 1: [["contains", 9]] }, lines: ["begin 0 add 5", "go 0 5"], codeTitle: "One lock", fresh: [1, 10], roomFor: 836, tale: "" },
-      ask: "A has the lock, and the computer stops A for a while. B only asks contains(9): is 9 in the list? How far does B get?",
+      ask: "A is doing add(5): it has the lock, and the computer stops it for a while. B only asks contains(9): is 9 in the list? How far does B get?",
       options: [
         { text: "To its answer", say: "B changes nothing, yes. But a thread that reads in the middle of a change may see half of it. So in this list, readers take the lock too." },
         { text: "As far as A", say: "There is no “as far as”: the lock is not on a node, it is on the whole list." },
@@ -10541,7 +10562,7 @@ end
       nav: "Hand over hand",
       question: "Can each node have a lock of its own?",
       prose: "Now each node has a lock, and a thread locks only where it stands: pred and curr. Like hands on a rope, it lets go of one node only when it holds the next.",
-      figure: { list: "fine", opening: [3, 7, 9], calls: { 0: [["add", 8]], 1: [["contains", 9]] }, lines: ["begin 0 add 8", "go 0 8"], codeTitle: "Hand over hand", fresh: [1, 3, 5], roomFor: 836 },
+      figure: { list: "fine", opening: [3, 7, 9], calls: { 0: [["add", 8]], 1: [["contains", 9]] }, lines: ["begin 0 add 8", "go 0 8"], codeTitle: "Hand over hand", fresh: [1, 3, 5, 12], roomFor: 836 },
       ask: "A adds 8. It has locked 3 and 7, and is stopped there. B asks contains(9). How far does B get?",
       options: [
         { text: "To its answer", say: "B has to lock each node on its way, and A holds two of them. On a rope, nobody overtakes." },
@@ -10550,15 +10571,15 @@ end
       ],
       play: [[1], [1]],
       after: "Go on as you like: let A move on, and B follows.",
-      reveal: () => `${b("Up to A, and no further.")} Nobody overtakes: one slow thread near the front holds up all behind it. And why two hands? With one, B could take 7 out while A steps from 7 to 9, and A would hang its node on one that is gone. <button class="small" data-do="why">Show me</button>`,
-      without: { list: "fine", lacks: "hand-over-hand", opening: [7, 9], lines: ["begin 0 add 8", "go 0 7", "begin 1 remove 7", "go 1 8", "go 0 7"], codeTitle: "With one hand", codeNote: "Here it lets go of one node before it holds the next.", struck: [{ row: 3, part: "pred still locked" }] }
+      reveal: () => `${b("Up to A, and no further.")} Nobody overtakes: one slow thread near the front holds up all behind it. And why two hands? With one, B could take 7 out (let the node before it point past it) while A steps from 7 to 9, and A would hang its node on one that is gone. <button class="small" data-do="why">Show me</button>`,
+      without: { lacks: "hand-over-hand", opening: [7, 9], calls: { 0: [["add", 8]], 1: [["remove", 7]] }, lines: ["begin 0 add 8", "go 0 7"], tale: "", codeTitle: "With one hand", codeNote: "Here it lets go of one node before it holds the next.", struck: [{ row: 3, part: "pred still locked" }] }
     },
     {
       id: "no-look",
       nav: "Free walk",
       question: "Most steps only look. Can a walk do without locks?",
       prose: "So let threads walk freely, and lock only at the end: pred and curr. Then check that pred still points to curr, and only then write. (To remove 3 is to let the node before it point past 3.) Is it still right?",
-      figure: { list: "optimistic", lacks: "second-walk", opening: [3, 7], calls: { 0: [["add", 5]], 1: [["remove", 3]] }, codeTitle: "Walk, then lock", tale: "Nobody has begun yet.", hides: [6, 7], instead: { 8: "valid: pred.next == curr" }, joined: [8, 11], words: { locks: "lock both, and check", make: "hang 5 in" }, roomFor: 694 },
+      figure: { list: "optimistic", lacks: "second-walk", opening: [3, 7], calls: { 0: [["add", 5]], 1: [["remove", 3]] }, codeTitle: "Walk, then lock", tale: "Nobody has begun yet.", fresh: [0, 4, 8, 14], hides: [6, 7], instead: { 8: "valid: pred.next == curr" }, joined: [8, 11], words: { locks: "lock both, and check", make: "hang 5 in" }, roomFor: 694 },
       task: "A adds 5, B removes 3. Find an order in which 5 gets lost, although both lock what they change.",
       help: [[0], [1], [1], [1], [1], [0], [0], [0]],
       goal: (fig) => {
@@ -10592,7 +10613,7 @@ end
       nav: "A mark",
       question: "Could a node itself say that it is gone?",
       prose: "Walking twice, only to learn whether one node is still in? Give each node a <b>mark</b> instead. To remove 5, a thread first marks it, and then takes it out of the chain.",
-      figure: { list: "lazy", opening: [3, 5, 8], calls: { 0: [["contains", 5]] }, lines: ["begin 1 remove 5", "go 1 to 12"], told: "B has just marked 5.", shown: [0, 1], codeTitle: "Mark, then take out", fresh: [6, 7, 11, 22], hidden: { operations: ["contains"] }, roomFor: 694 },
+      figure: { list: "lazy", opening: [3, 5, 8], calls: { 0: [["contains", 5]] }, lines: ["begin 1 remove 5", "go 1 to 12"], told: "B has just marked 5.", shown: [0, 1], codeTitle: "Mark, then take out", fresh: [6, 7, 11, 20, 21, 22], hidden: { instead: { 22: "  return ?" } }, high: 0.3, roomFor: 694 },
       ask: "B has marked 5, and is stopped before it takes the node out. A asks contains(5), and walks onto that node. What does A answer?",
       options: [
         { text: "true", say: "The node is still in the chain, yes. But in this list the mark decides." },
@@ -10600,7 +10621,7 @@ end
         { text: "It has to wait for B", say: "B holds two locks. But A takes none, so it has nothing to wait for." }
       ],
       play: [[0, "out"]],
-      reveal: () => `${b("false.")} With the mark, 5 has left the set; taking the node out is only tidying up. A looks only at the node’s key and mark, takes no lock, and waits for nobody. Who adds or removes looks at the marks of pred and curr, and need not walk twice. This list is called <i>lazy</i>.`
+      reveal: () => `${b("false.")} With the mark, 5 has left the set; taking the node out is only tidying up. A looks only at the node’s key and mark, takes no lock, and waits for nobody. Who adds or removes looks at the marks of pred and curr, and need not walk twice. This list is called <i>lazy</i>. If contains ignored the mark, A would say true here. Even that could be explained: B’s remove has not ended, so it may count as the later call, and nobody has found a wrong answer of such a list. But if <i>add</i> ignores marks, numbers get lost.`
     },
     {
       id: "when",
@@ -10621,8 +10642,8 @@ end
       id: "no-lock",
       nav: "No lock at all",
       question: "And with no lock at all?",
-      prose: "A processor can do this in one step: <b>change the arrow, but only if it is still what I saw.</b> It is called compare-and-set, CAS. If someone was faster, it changes nothing, and the thread looks again. The mark is kept in the arrow now, so one CAS sees both.",
-      figure: { list: "lock-free", opening: [3, 5, 8], calls: { 0: [["remove", 5]], 1: [["remove", 5]] }, lines: ["begin 0 remove 5", "go 0 to 9", "begin 1 remove 5", "go 1 to 9"], codeTitle: "Lock-free", fresh: [7, 9, 10, 3], roomFor: 694 },
+      prose: "A processor can do this in one step: <b>change the arrow, but only if it is still what I saw.</b> It is called compare-and-set, CAS. If someone was faster, it changes nothing, and the thread looks again. The mark is kept in the arrow now, so one CAS sees both. <b>CAS x: a → b</b> makes x point to b if it still points to a; <b>succ</b> is the node after curr.",
+      figure: { list: "lock-free", opening: [3, 5, 8], calls: { 0: [["remove", 5]], 1: [["remove", 5]] }, lines: ["begin 0 remove 5", "go 0 to 9", "begin 1 remove 5", "go 1 to 9"], codeTitle: "Lock-free", fresh: [0, 2, 3, 7, 8, 9, 10], roomFor: 694 },
       ask: "A and B both want to remove 5. Both have found it, without a mark. How many of them are told true?",
       options: [
         { text: "Both", say: "Then 5 would have been removed twice, and it was there only once. Try it." },
@@ -10633,8 +10654,10 @@ end
       help: [[0], [0], [1], [1], [1], [1]],
       goal: (fig) => fig.run.trace.calls.filter(({ reply }) => reply !== null).length < 2 ? null : { done: "" },
       reveal: (fig) => {
-        const won = fig.run.trace.calls.find(({ reply }) => reply === "true").thread === 0 ? ["A", "B"] : ["B", "A"];
-        return `${b(`One: ${won[0]}, because you let it come first.`)} ${won[0]}’s CAS set the mark. ${won[1]}’s CAS found an arrow that was not the one it had seen, changed nothing, and ${won[1]} looked again: 5 is gone, false. Nobody waited for anybody.`;
+        const { trace } = fig.run;
+        const [won, late] = trace.calls.find(({ reply }) => reply === "true").thread === 0 ? ["A", "B"] : ["B", "A"];
+        const out = trace.events().find(({ deed, saw, from, to }) => deed === "exchange" && saw === from && !to.endsWith("*"));
+        return `${b(`One: ${won}, because you let it come first.`)} ${won}’s CAS set the mark. ${late}’s CAS found the mark set and changed nothing. ${late} looked again: 5 is gone, false. ${letterOf(out.thread)} took the node out. Nobody waited for anybody.`;
       }
     }
   ];
@@ -10667,6 +10690,44 @@ end
     const count = SCREENS.filter(({ id }) => done2[id]).length;
     const words = `Welcome back: you have done ${count} of ${SCREENS.length}. You are where you stopped.`;
     return `<p class="welcome">${words} <a href="#story=1">From the start</a></p>`;
+  }
+  var asked = (text, note = "") => `<p class="ask">${text}</p>${note === "" ? "" : `<p class="again">${note}</p>`}`;
+  function talkOf2(screen, { stage, chosen, note }, figure) {
+    const reply = replyTo(screen.options, chosen, stage !== "done");
+    if (stage === "guess")
+      return asked(screen.ask) + optionButtons(screen.options.map(({ text }) => text));
+    if (stage === "task" || stage === "again")
+      return reply + asked(screen.task ?? screen.playTask, note);
+    if (stage === "moment")
+      return reply + asked(screen.then.task, note);
+    if (stage === "playing")
+      return (isLecture() ? asked(screen.ask) : "") + reply;
+    const after = screen.after === void 0 ? "" : `<p class="small">${screen.after}</p>`;
+    const ledger = screen.ledger ? drawLedger(figure.run) : "";
+    const isOther = screen.options !== void 0 && !screen.options[chosen]?.right;
+    return `<div class="reveal${isOther ? " other" : ""}">${ledger}<div>${reply}<p class="why">${screen.reveal(figure)}</p>${after}</div></div>`;
+  }
+  var SHOW = { guess: "I do not know: show me", again: "Start over", moment: "Show me", task: "Show a step", playing: "Show me" };
+  function drawBar2(stage, number) {
+    const [show2, on2] = [part("#show-me"), part("#go-on")];
+    const isDone2 = stage === "done";
+    if (isDone2 && document.activeElement === show2)
+      on2.focus({ preventScroll: true });
+    show2.hidden = isDone2;
+    show2.className = "primary";
+    show2.textContent = isNarrow() && stage === "guess" ? "Show me" : SHOW[stage];
+    drawOn(isDone2, number === SCREENS.length ? "And now? →" : "Continue →");
+  }
+  function openContents(figure, press4) {
+    figure.part("strip").querySelectorAll(".content").forEach((stretch, index) => {
+      const contents = stretch.querySelector("title").textContent;
+      const given2 = { tabindex: "0", role: "button", "aria-label": `the set was ${contents}` };
+      for (const [name, value] of Object.entries(given2))
+        stretch.setAttribute(name, value);
+      stretch.classList.add("press");
+      stretch.onclick = () => press4(contents, index);
+      stretch.onkeydown = ({ key }) => (key === "Enter" || key === " ") && press4(contents, index);
+    });
   }
   var LAST2 = SCREENS.length + 1;
   var WAYS2 = [
@@ -10762,42 +10823,15 @@ end
     const isGuess = screen.ask !== void 0;
     setScene({ stage: isGuess ? "guess" : "task" });
     if (isGuess)
-      figure.set({ hidesDock: true, isOpen: false, isGuess: true, told: screen.figure.told ?? null });
-  }
-  var asked = (text, note = "") => `<p class="ask">${text}</p>${note === "" ? "" : `<p class="again">${note}</p>`}`;
-  function talkOf2(screen, { stage, chosen, note }) {
-    const reply = replyTo(screen.options, chosen, stage !== "done");
-    if (stage === "guess")
-      return asked(screen.ask) + optionButtons(screen.options.map(({ text }) => text));
-    if (stage === "task" || stage === "again")
-      return reply + asked(screen.task ?? screen.playTask, note);
-    if (stage === "moment")
-      return reply + asked(screen.then.task, note);
-    if (stage === "playing")
-      return (isLecture() ? asked(screen.ask) : "") + reply;
-    const after = screen.after === void 0 ? "" : `<p class="small">${screen.after}</p>`;
-    const ledger = screen.ledger ? drawLedger(scene.figure.run) : "";
-    const isOther = screen.options !== void 0 && !screen.options[chosen]?.right;
-    return `<div class="reveal${isOther ? " other" : ""}">${ledger}<div>${reply}<p class="why">${screen.reveal(scene.figure)}</p>${after}</div></div>`;
+      figure.set({ isOpen: false, isGuess: true, told: screen.figure.told ?? null });
   }
   function draw5(state) {
     const screen = here2();
     if (screen === null || state.stage === "")
       return;
     if (state.stage !== "done" || part(".reveal") === null)
-      talk(talkOf2(screen, state));
+      talk(talkOf2(screen, state, scene.figure));
     drawBar2(state.stage, numberOf(now.place));
-  }
-  var SHOW = { guess: "I do not know: show me", again: "Start over", moment: "Show me", task: "Show a step", playing: "Show me" };
-  function drawBar2(stage, number) {
-    const [show2, on2] = [part("#show-me"), part("#go-on")];
-    const isDone2 = stage === "done";
-    if (isDone2 && document.activeElement === show2)
-      on2.focus({ preventScroll: true });
-    show2.hidden = isDone2;
-    show2.className = "primary";
-    show2.textContent = isNarrow() && stage === "guess" ? "Show me" : SHOW[stage];
-    drawOn(isDone2, number === SCREENS.length ? "And now? →" : "Continue →");
   }
   function looked3() {
     const screen = here2();
@@ -10823,9 +10857,9 @@ end
     setScene({ stage: "playing", chosen: index });
     if (screen.playTask !== void 0) {
       setScene({ stage: "task" });
-      return figure.set({ isOpen: true, hidesDock: false });
+      return figure.set({ isOpen: true });
     }
-    figure.set({ isOpen: true });
+    figure.set({ isOpen: true, isPlayed: true });
     return playOn2();
   }
   async function playOn2() {
@@ -10841,22 +10875,11 @@ end
       shown3.count++;
     if (shown3.count < play2.length)
       return isLecture() || playOn2();
-    figure.set({ hidesDock: false });
+    figure.set({ isPlayed: false });
     if (then === void 0)
       return done();
     setScene({ stage: "moment" });
-    markContents(figure);
-  }
-  function markContents(figure) {
-    figure.part("strip").querySelectorAll(".content").forEach((stretch, index) => {
-      const contents = stretch.querySelector("title").textContent;
-      for (const [name, value] of Object.entries({ tabindex: "0", role: "button", "aria-label": `the set was ${contents}` })) {
-        stretch.setAttribute(name, value);
-      }
-      stretch.classList.add("press");
-      stretch.onclick = () => pressedMoment(contents, index);
-      stretch.onkeydown = ({ key }) => (key === "Enter" || key === " ") && pressedMoment(contents, index);
-    });
+    openContents(figure, pressedMoment);
   }
   function pressedMoment(contents, index) {
     if (now.scene.stage !== "moment")
@@ -10882,14 +10905,22 @@ end
     if (!isLecture() && document.activeElement.closest("button, a, input, [tabindex='0']") === null)
       part("#go-on").focus({ preventScroll: true });
   }
-  async function showWhy() {
-    const { figure, without } = here2();
-    const own = takeFigure(new Figure(part("#figure"), { ...figure, ...without, calls: {}, dock: false, isPath: true }));
-    await own.replay();
-    if (scene.figure === own)
-      own.set({ isLost: true });
-  }
   var isOver = (thread) => scene.figure.run.isIdle(thread) && scene.figure.left(thread).length === 0;
+  var nextWhy = () => [1, 0].find((thread) => !isOver(thread));
+  function showWhy(button) {
+    const { figure, without } = here2();
+    if (scene.figure.spec.lacks === without.lacks)
+      return scene.figure.step(nextWhy());
+    const own = takeFigure(new Figure(part("#figure"), { ...figure, ...without, isPath: true }));
+    part(".reveal p.small").hidden = true;
+    button.textContent = "Next step";
+    own.onStep = () => {
+      button.hidden = nextWhy() === void 0;
+      if (button.hidden)
+        part("#go-on").focus({ preventScroll: true });
+      own.set({ isLost: own.run.isBroken() });
+    };
+  }
   async function showMe() {
     const { figure } = scene;
     const screen = here2();
@@ -10959,14 +10990,7 @@ end
     draw: draw5,
     press: press3,
     goes: goes3,
-    deeds: {
-      answer: ({ dataset }) => guessed2(Number(dataset.option)),
-      show: showMe,
-      why: showWhy,
-      on: () => goBy(1),
-      back: () => goBy(-1),
-      afresh: startAfresh
-    }
+    deeds: { answer: ({ dataset }) => guessed2(Number(dataset.option)), show: showMe, why: showWhy, on: () => goBy(1), back: () => goBy(-1), afresh: startAfresh }
   };
 
   // src/story/handins.js

@@ -169,7 +169,7 @@ export const BREAK_LEVELS = {
     start: [["remove", 3], ["contains", 3]], shortest: [16, 3], missing: [{ row: 25, part: "if marked: start again;" }],
   },
   "mark-in-contains": {
-    story: "Here contains does not look at the mark. No schedule is known after which no order explains the calls. Why not?",
+    story: "contains ignores the mark here, yet nobody has found a wrong answer. Why?",
     hints: [
       "A remove of 3, and a contains of 3 by the other thread.",
       "The remove has set its mark and is still pending. So it may come after the contains.",

@@ -26,11 +26,11 @@ function html(place) {
 
 function begin(place) {
   const name = levelOf(place);
-  const { start } = BREAK_LEVELS[name];
+  const { start, missing } = BREAK_LEVELS[name];
   const list = LACKING[name];
   const given = place.given.text === undefined ? { opening: [3, 7] } : runOfText(place.given.text);
   const operations = ["add", "remove", "contains", ...(name === "mark-in-ceiling" ? ["ceiling"] : [])];
-  const figure = takeFreeFigure(list, { lacks: name, ...given, chosen: { 0: start[0], 1: start[1] }, high: 0.24, operations, codeNote: LACKS_ONE });
+  const figure = takeFreeFigure(list, { lacks: name, ...given, chosen: { 0: start[0], 1: start[1] }, high: 0.24, operations, codeNote: LACKS_ONE, struck: name === NO_TASK ? missing : undefined });
   figure.onStep = looked;
   setScene({ stage: "task", text: figure.run.schedule });
   if (place.given.text !== undefined) looked();
@@ -140,9 +140,7 @@ export const breakView = {
   kind: "ask-one",
   fault: ({ id }) => (levelOfNumber(id) === undefined ? `there is no level ${id}` : null),
   title: (place) => `Break it: ${BREAK_LEVELS[levelOf(place)].story}`,
-  html,
-  begin,
-  draw,
+  html, begin, draw,
   press: (event) => {
     if (now.scene.stage === "done" && numberOfKey(event) !== -1) answer(numberOfKey(event));
     else pressThread(event);

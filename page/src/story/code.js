@@ -5,7 +5,7 @@ const WORDS = /\b(while|if|else|return|start again|loop|until|unlock|lock|find|v
 
 /**
  * Shown are the lines of the calls `operations`, without the rows `hides`, with `instead` in place of a row's words; `fresh` rows are new in
- * this list, of a row a part may be `struck` out. `next` has the rows that threads make next, `made` the one that was just made; `active`
+ * this list (0: the lines without a row), of a row a part may be `struck` out. `next` has the rows that threads make next, `made` the one that was just made; `active`
  * runs to a line where no thread stands.
  * @typedef {{ thread: number, row: number }} At
  * @typedef {{ list: string, operations: string[], plain?: boolean, fresh?: number[], hides?: number[], instead?: Record<number, string>,
@@ -42,7 +42,7 @@ function drawOwnLine({ text, rows = [], isPlain = false }, { next, made, fresh =
     isHead ? "of" : "",
     isMade ? `made ${colourOf(made.thread)}` : "",
     here.length > 0 ? `lit ${colourOf(here[0])}` : "",
-    rows.some((row) => fresh.includes(row)) ? "fresh" : "",
+    (isPlain ? [0] : rows).some((row) => fresh.includes(row)) ? "fresh" : "",
   ];
   const words = isHead ? escaped(text.trim()) : wordsOf(text.trim(), rows, struck);
   const depth = text.match(/^ */)[0].length;

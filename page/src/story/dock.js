@@ -27,7 +27,7 @@ function rowOf(figure, thread) {
   const words = waits ? `waits for ${letterOf(plan.waitsFor)}` : (spec.words?.[plan.phase] ?? phaseText(plan.phase, call));
   const key = letterOf(thread).toLowerCase();
   const given = { class: "step", "data-step": thread, "aria-keyshortcuts": key, ...(waits ? { "aria-disabled": "true" } : {}) };
-  const button = tag("button", { ...given, ...(figure.isOpen ? {} : { disabled: "" }) }, words, `<kbd aria-hidden="true">${key}</kbd>`);
+  const button = tag("button", { ...given, ...(figure.canStep ? {} : { disabled: "" }) }, words, `<kbd aria-hidden="true">${key}</kbd>`);
   return threadRow(thread, button, callText(call));
 }
 
@@ -64,7 +64,7 @@ export function showStrip(figure) {
   figure.scale = scale;
   setHtml(figure.part("strip"), tag("div", { class: "calls" }, drawCalls(run.trace, scale)) + drawContents(run.trace, scale) + LEGEND);
 }
-const LEGEND = '<p class="small legend">● changes the set · ○ here its answer is right first</p>';
+const LEGEND = '<p class="small legend">● changes the set · ○ first moment at which its answer is right</p>';
 const MOST_CALLS = 400; // pixels: of more threads the bars scroll
 
 export function scrollToLane(figure) {

@@ -24,15 +24,19 @@ export class Figure {
   isEnded = false;
   isOpen = true; // the reader may step
   hidesDock = false;
+  isPlayed = false; // the page steps, and not the reader
   isGuess = false; // what would tell the answer is not shown
   isLost = false; // the nodes that are lost are lit
   hides = true; // of the history, what comes later
+  most = { width: 0, height: 0 }; // of the list, in its own units: with room for a node that may come
   wide = 0; // of the list, in pixels
+  fitted = {}; // how high it may be, where what the spec says is too much
   tall = 0;
   stripWide = 0;
   scroll = 0;
   told = null;
   onStep = null;
+  onFit = null;
   onFork = null;
 
   /** @param {any} box @param {import("./live_run.js").RunSpec & { [name: string]: any }} spec */
@@ -42,10 +46,8 @@ export class Figure {
     this.run = spec.run ?? new LiveRun(spec);
     this.shown = spec.shown ?? this.run.state.threads.map((_, thread) => thread);
     this.chosen = spec.chosen ?? {}; // of an idle thread, the call that stands in its fields
-    const isRoomy = !isSceneSlide() && (spec.isPath || spec.free) && spec.again !== false && !isNarrow();
-    this.most = { width: 0, height: isRoomy ? 270 + 18 * this.shown.length : 0 }; // room for a node that may come
     frameOf(this);
-    box.addEventListener("click", (event) => pressed(this, event));
+    box.addEventListener("click", (event) => this.isEnded || pressed(this, event)); // the box may be the next one's by then
     box.addEventListener("input", ({ target }) => target.closest(".choose") !== null && chooseCall(this, target.closest("[data-thread]")));
     this.stretch = new ResizeObserver(() => {
       const { clientWidth, clientHeight } = this.part("list");
@@ -58,7 +60,11 @@ export class Figure {
   fit() {
     [this.wide, this.stripWide] = ["list", "strip"].map((name) => this.part(name).clientWidth);
     this.tall = this.part("list").clientHeight;
+    this.fitted = {};
+    const isRoomy = !isSceneSlide() && (this.spec.isPath || this.spec.free) && this.spec.again !== false && !isNarrow();
+    if (isRoomy) this.most.height = Math.max(this.most.height, 270 + 18 * this.shown.length);
     this.draw();
+    this.onFit?.(this);
   }
 
   end() {
@@ -77,7 +83,7 @@ export class Figure {
   }
 
   get canStep() {
-    return this.isOpen && !this.hidesDock && this.spec.dock !== false;
+    return this.isOpen && !this.hidesDock && !this.isPlayed && this.spec.dock !== false;
   }
 
   left(thread) {

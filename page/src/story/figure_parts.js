@@ -12,13 +12,13 @@ import { taleOf } from "./tale.js";
 
 const MOST_SCALE = 1.75;
 const MOST_HEIGHT = 0.4; // of the window, for the list
-const NARROW = "(max-width: 760px)";
+export const NARROW = "(max-width: 760px)";
 export const isNarrow = () => matchMedia(NARROW).matches;
 
 const CAS = "CAS x: a → b makes x point to b, if it still points to a. succ is the node after curr.";
-const codeBox = ({ list, codeTitle, codeNote = "" }) => `<details class="codebox" ${isNarrow() ? "" : "open"}><summary><b>${codeTitle}</b></summary>
+const codeBox = ({ list, isPath, codeTitle, codeNote = "" }) => `<details class="codebox" ${isNarrow() ? "" : "open"}><summary><b>${codeTitle}</b></summary>
     <p class="small code-note" ${codeNote === "" ? "hidden" : ""}>${codeNote}</p><span class="runs"></span><div class="lines"></div>
-    <p class="small hint">${list === "lock-free" ? CAS : "A letter stands at its thread’s next line. Press the line to step, another one to run there."}</p></details>`;
+    <p class="small hint">${list === "lock-free" && !isPath ? CAS : "A letter stands at its thread’s next line. Press the line to step, another one to run there."}</p></details>`;
 
 export function frameOf({ box, spec }) {
   box.innerHTML = `<div class="stage"><div class="list" tabindex="0" role="group" aria-label="the list"></div>
@@ -90,9 +90,10 @@ function placeTheList(figure, { state, event }, isNear) {
   glide(box, draw, isNear);
 }
 
-function fitList({ spec, tall: left, most: { width } }, svg, room, own) {
+function fitList({ spec, fitted, tall: left, most: { width } }, svg, room, own) {
+  const { high: part = MOST_HEIGHT, least: lowest = 180 } = { ...spec, ...fitted };
   const [, top, , high] = svg.getAttribute("viewBox").split(" ").map(Number);
-  const tall = isSceneSlide() ? left : Math.max(innerHeight * (spec.high ?? MOST_HEIGHT), spec.least ?? 180);
+  const tall = isSceneSlide() ? left : Math.max(innerHeight * part, lowest);
   const [least, most] = isSceneSlide() ? [0.1, Infinity] : [0.5, MOST_SCALE];
   const scale = Math.max(least, Math.min(most, (room - 4) / width, tall / high));
   svg.setAttribute("viewBox", `${(own - width) / 2} ${top} ${width} ${high}`);
@@ -128,24 +129,22 @@ export function markLostNodes({ run, box }) {
   }
 }
 
-function operationsOf({ spec, run, isGuess }) {
+function operationsOf({ spec, run }) {
   const planned = Object.values(spec.calls ?? {}).flat().map(([operation]) => operation);
   const begun = isSceneSlide() && spec.operations !== undefined ? [] : run.trace.calls.map(({ operation }) => operation);
-  const hidden = isGuess ? (spec.hidden?.operations ?? []) : [];
-  return [...new Set([...(spec.operations ?? []), ...planned, ...begun])].filter((name) => !hidden.includes(name));
+  return [...new Set([...(spec.operations ?? []), ...planned, ...begun])];
 }
 
 function showCode(figure, { state, event, before }) {
   const box = figure.part("lines");
   if (box === null) return;
-  const { spec, run, canStep } = figure;
-  const { list, plain, fresh, struck, instead } = spec;
+  const { spec, run, canStep, isGuess } = figure;
+  const { list, plain, fresh, struck, hides, instead } = Object.assign({}, spec, isGuess ? spec.hidden : {}); // some is not told before it
   const isAble = (thread) => !run.isIdle(thread) || figure.left(thread).length > 0;
   if (!isAble(figure.active)) figure.active = figure.shown.find(isAble) ?? figure.active;
   const { active } = figure;
   const made = event === null || event.deed === "begin" ? null : { row: before.pc, thread: event.thread };
   const next = state.threads.map((own, thread) => ({ thread, row: own.pc })).filter(({ row }) => row !== 0);
-  const hides = (figure.isGuess ? spec.hidden?.hides : undefined) ?? spec.hides; // some is not told before the guess
   setHtml(box, drawOwnCode({ list, plain, fresh, struck, hides, instead, operations: operationsOf(figure), next, made, canStep, active }));
   const toggles = figure.shown.filter(isAble).map((thread) => toggleOf(thread, active));
   setHtml(figure.part("runs"), canStep && spec.free && toggles.length > 1 ? `who runs: ${toggles.join("")}` : "");
@@ -166,7 +165,7 @@ const toggleOf = (thread, active) => `<button class="who ${colourOf(thread)}" da
 // In sight is the next line of the thread that has moved; where its call has ended, its last one.
 function scrollToLit(figure, moved) {
   const box = figure.part("lines");
-  const line = box?.querySelector(`.lit.${colourOf(moved)}`) ?? box?.querySelector(".made") ?? box?.querySelector(".lit");
+  const line = box?.querySelector(`.lit.${colourOf(moved)}`) ?? box?.querySelector(".made") ?? box?.querySelector(".lit") ?? box?.querySelector(".line:has(del)");
   if (line == null || box.scrollHeight <= box.clientHeight) return;
   const y = line.offsetTop - box.offsetTop;
   if (y < box.scrollTop + 10 || y > box.scrollTop + box.clientHeight - 50) box.scrollTop = y - box.clientHeight / 2;

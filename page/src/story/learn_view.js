@@ -38,7 +38,7 @@ function begin({ id, given }) {
   const operations = ["add", "remove", "contains", ...more];
   const codeNote = lesson.lacks === null ? "" : LACKS_ONE;
   const run = { ...runOfText(lesson.begun), version: versionOf(lesson.begun), lacks: lesson.lacks };
-  const figure = takeFreeFigure(lesson.list, { ...run, scrub: true, high: 0.24, operations, codeNote });
+  const figure = takeFreeFigure(lesson.list, { ...run, scrub: true, high: 0.3, operations, codeNote });
   Object.assign(figure, { onStep: looked, onFork: goOnFromHere });
   if (own !== null && own !== lesson.begun && fits(own)) takeTry(figure, linesOf(own));
   looked();
@@ -130,9 +130,6 @@ export const learnView = {
   kind: "ask-one",
   fault: ({ id }) => (learning.panel.lessonNamed(id) === undefined ? `no course that is kept here has a lesson "${id}"` : null),
   title: ({ id }) => `Solve it: ${learning.panel.lessonNamed(id).title}`,
-  html,
-  begin,
-  draw,
-  press: pressThread,
+  html, begin, draw, press: pressThread,
   deeds: { hint, answer: seeAnswer, replay: () => scene.figure.replay(), afresh: () => scene.figure.again() },
 };

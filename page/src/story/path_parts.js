@@ -1,6 +1,9 @@
 // What stands on the screens of the path: their names, the front door, the bar, and the last screen.
+import { isLecture } from "../page/now.js";
 import { tag } from "../run/markup.js";
+import { isNarrow } from "./figure_parts.js";
 import { LISTS_AT_END, SCREENS } from "./path.js";
+import { drawLedger, drawOn, optionButtons, part, replyTo } from "./scene.js";
 
 export const HERO = `<div class="hero"><p class="kicker">Concurrent lists, from nothing</p><p class="title">Why not just one lock?</p>
   <p class="lead">Two threads share one list. You press, and they step. <span class="roomy">In twenty minutes you break it, mend it, and meet
@@ -26,6 +29,44 @@ export function welcome(done) {
   const count = SCREENS.filter(({ id }) => done[id]).length;
   const words = `Welcome back: you have done ${count} of ${SCREENS.length}. You are where you stopped.`;
   return `<p class="welcome">${words} <a href="#story=1">From the start</a></p>`;
+}
+
+const asked = (text, note = "") => `<p class="ask">${text}</p>${note === "" ? "" : `<p class="again">${note}</p>`}`;
+
+export function talkOf(screen, { stage, chosen, note }, figure) {
+  const reply = replyTo(screen.options, chosen, stage !== "done");
+  if (stage === "guess") return asked(screen.ask) + optionButtons(screen.options.map(({ text }) => text));
+  if (stage === "task" || stage === "again") return reply + asked(screen.task ?? screen.playTask, note);
+  if (stage === "moment") return reply + asked(screen.then.task, note);
+  if (stage === "playing") return (isLecture() ? asked(screen.ask) : "") + reply;
+  const after = screen.after === undefined ? "" : `<p class="small">${screen.after}</p>`;
+  const ledger = screen.ledger ? drawLedger(figure.run) : "";
+  const isOther = screen.options !== undefined && !screen.options[chosen]?.right;
+  return `<div class="reveal${isOther ? " other" : ""}">${ledger}<div>${reply}<p class="why">${screen.reveal(figure)}</p>${after}</div></div>`;
+}
+
+const SHOW = { guess: "I do not know: show me", again: "Start over", moment: "Show me", task: "Show a step", playing: "Show me" };
+
+export function drawBar(stage, number) {
+  const [show, on] = [part("#show-me"), part("#go-on")];
+  const isDone = stage === "done";
+  if (isDone && document.activeElement === show) on.focus({ preventScroll: true });
+  show.hidden = isDone;
+  show.className = "primary";
+  show.textContent = isNarrow() && stage === "guess" ? "Show me" : SHOW[stage];
+  drawOn(isDone, number === SCREENS.length ? "And now? →" : "Continue →");
+}
+
+// The stretches of the row "set" become buttons.
+export function openContents(figure, press) {
+  figure.part("strip").querySelectorAll(".content").forEach((stretch, index) => {
+    const contents = stretch.querySelector("title").textContent;
+    const given = { tabindex: "0", role: "button", "aria-label": `the set was ${contents}` };
+    for (const [name, value] of Object.entries(given)) stretch.setAttribute(name, value);
+    stretch.classList.add("press");
+    stretch.onclick = () => press(contents, index);
+    stretch.onkeydown = ({ key }) => (key === "Enter" || key === " ") && press(contents, index);
+  });
 }
 
 // ---- the last screen: what was met, and where to go from here

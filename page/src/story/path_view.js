@@ -1,11 +1,10 @@
 // The path: one screen at a time, with Continue. A screen is done by a deed or by a guess; "Show me" makes the next deed of one way.
 import { isLecture, now } from "../page/now.js";
 import { Figure } from "./figure.js";
-import { isNarrow } from "./figure_parts.js";
 import { keepStory, keptStory, startAfresh } from "./kept.js";
 import { SCREENS } from "./path.js";
-import { barHtml, dots, endHtml, GONE, HERO, LAST, welcome } from "./path_parts.js";
-import { drawLedger, drawOn, FIGURE_AND_TALK, head, numberOfKey, openScene, optionButtons, part, pressThread, replyTo, scene, setScene, takeFigure, talk, threadOfKey } from "./scene.js";
+import { barHtml, dots, drawBar, endHtml, GONE, HERO, LAST, openContents, talkOf, welcome } from "./path_parts.js";
+import { FIGURE_AND_TALK, head, numberOfKey, openScene, part, pressThread, scene, setScene, takeFigure, talk, threadOfKey } from "./scene.js";
 import { toSlide } from "./slide.js";
 
 const numberOf = ({ id }) => Math.max(1, Math.min(LAST, Number(id) || 1));
@@ -36,40 +35,14 @@ function begin(place) {
   figure.box.classList.toggle("hides-points", screen.figure.hidesPoints === true);
   const isGuess = screen.ask !== undefined;
   setScene({ stage: isGuess ? "guess" : "task" });
-  if (isGuess) figure.set({ hidesDock: true, isOpen: false, isGuess: true, told: screen.figure.told ?? null });
-}
-
-const asked = (text, note = "") => `<p class="ask">${text}</p>${note === "" ? "" : `<p class="again">${note}</p>`}`;
-
-function talkOf(screen, { stage, chosen, note }) {
-  const reply = replyTo(screen.options, chosen, stage !== "done");
-  if (stage === "guess") return asked(screen.ask) + optionButtons(screen.options.map(({ text }) => text));
-  if (stage === "task" || stage === "again") return reply + asked(screen.task ?? screen.playTask, note);
-  if (stage === "moment") return reply + asked(screen.then.task, note);
-  if (stage === "playing") return (isLecture() ? asked(screen.ask) : "") + reply;
-  const after = screen.after === undefined ? "" : `<p class="small">${screen.after}</p>`;
-  const ledger = screen.ledger ? drawLedger(scene.figure.run) : "";
-  const isOther = screen.options !== undefined && !screen.options[chosen]?.right;
-  return `<div class="reveal${isOther ? " other" : ""}">${ledger}<div>${reply}<p class="why">${screen.reveal(scene.figure)}</p>${after}</div></div>`;
+  if (isGuess) figure.set({ isOpen: false, isGuess: true, told: screen.figure.told ?? null });
 }
 
 function draw(state) {
   const screen = here();
   if (screen === null || state.stage === "") return;
-  if (state.stage !== "done" || part(".reveal") === null) talk(talkOf(screen, state)); // the reader may go on after it
+  if (state.stage !== "done" || part(".reveal") === null) talk(talkOf(screen, state, scene.figure)); // the reader may go on after it
   drawBar(state.stage, numberOf(now.place));
-}
-
-const SHOW = { guess: "I do not know: show me", again: "Start over", moment: "Show me", task: "Show a step", playing: "Show me" };
-
-function drawBar(stage, number) {
-  const [show, on] = [part("#show-me"), part("#go-on")];
-  const isDone = stage === "done";
-  if (isDone && document.activeElement === show) on.focus({ preventScroll: true });
-  show.hidden = isDone;
-  show.className = "primary";
-  show.textContent = isNarrow() && stage === "guess" ? "Show me" : SHOW[stage];
-  drawOn(isDone, number === SCREENS.length ? "And now? →" : "Continue →");
 }
 
 function looked() {
@@ -91,9 +64,9 @@ async function guessed(index) {
   setScene({ stage: "playing", chosen: index });
   if (screen.playTask !== undefined) {
     setScene({ stage: "task" });
-    return figure.set({ isOpen: true, hidesDock: false });
+    return figure.set({ isOpen: true });
   }
-  figure.set({ isOpen: true });
+  figure.set({ isOpen: true, isPlayed: true });
   return playOn();
 }
 
@@ -107,22 +80,10 @@ async function playOn() {
   if (scene.figure !== figure) return;
   if (many !== "out" || figure.run.isIdle(thread)) shown.count++;
   if (shown.count < play.length) return isLecture() || playOn();
-  figure.set({ hidesDock: false });
+  figure.set({ isPlayed: false });
   if (then === undefined) return done();
   setScene({ stage: "moment" });
-  markContents(figure);
-}
-
-function markContents(figure) {
-  figure.part("strip").querySelectorAll(".content").forEach((stretch, index) => {
-    const contents = stretch.querySelector("title").textContent;
-    for (const [name, value] of Object.entries({ tabindex: "0", role: "button", "aria-label": `the set was ${contents}` })) {
-      stretch.setAttribute(name, value);
-    }
-    stretch.classList.add("press");
-    stretch.onclick = () => pressedMoment(contents, index);
-    stretch.onkeydown = ({ key }) => (key === "Enter" || key === " ") && pressedMoment(contents, index);
-  });
+  openContents(figure, pressedMoment);
 }
 
 function pressedMoment(contents, index) {
@@ -149,15 +110,22 @@ function focusOn() {
   if (!isLecture() && document.activeElement.closest("button, a, input, [tabindex='0']") === null) part("#go-on").focus({ preventScroll: true });
 }
 
-// A run that shows why, in place of the reader's own.
-async function showWhy() {
-  const { figure, without } = here();
-  const own = takeFigure(new Figure(part("#figure"), { ...figure, ...without, calls: {}, dock: false, isPath: true }));
-  await own.replay();
-  if (scene.figure === own) own.set({ isLost: true });
-}
-
 const isOver = (thread) => scene.figure.run.isIdle(thread) && scene.figure.left(thread).length === 0;
+const nextWhy = () => [1, 0].find((thread) => !isOver(thread));
+
+// A list without the check, in place of the reader's own: the button makes the steps that show why it is there, B's before A's.
+function showWhy(button) {
+  const { figure, without } = here();
+  if (scene.figure.spec.lacks === without.lacks) return scene.figure.step(nextWhy());
+  const own = takeFigure(new Figure(part("#figure"), { ...figure, ...without, isPath: true }));
+  part(".reveal p.small").hidden = true;
+  button.textContent = "Next step";
+  own.onStep = () => {
+    button.hidden = nextWhy() === undefined;
+    if (button.hidden) part("#go-on").focus({ preventScroll: true });
+    own.set({ isLost: own.run.isBroken() });
+  };
+}
 
 async function showMe() {
   const { figure } = scene;
@@ -215,17 +183,6 @@ export const pathView = {
   kind: "path",
   fault: ({ id }) => (/^\d*$/.test(id) && Number(id) <= LAST ? null : `the path has no screen "${id}"`),
   title: (place) => `${screenOf(place)?.question ?? "So, why not just one lock?"} · Why not just one lock?`,
-  html,
-  begin,
-  draw,
-  press,
-  goes,
-  deeds: {
-    answer: ({ dataset }) => guessed(Number(dataset.option)),
-    show: showMe,
-    why: showWhy,
-    on: () => goBy(1),
-    back: () => goBy(-1),
-    afresh: startAfresh,
-  },
+  html, begin, draw, press, goes,
+  deeds: { answer: ({ dataset }) => guessed(Number(dataset.option)), show: showMe, why: showWhy, on: () => goBy(1), back: () => goBy(-1), afresh: startAfresh },
 };

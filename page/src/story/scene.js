@@ -3,9 +3,9 @@ import { change, dispatch, isLecture, now } from "../page/now.js";
 import { byId, setHtml } from "../page/dom.js";
 import { copied } from "../page/visit.js";
 import { warningOf } from "../run/address.js";
-import { tag } from "../run/markup.js";
+import { chipOf, tag } from "../run/markup.js";
 import { Figure } from "./figure.js";
-import { isNarrow } from "./figure_parts.js";
+import { isNarrow, NARROW } from "./figure_parts.js";
 
 /**
  * A view has the class of its place (`kind`) and its parts as text; `fault` says why there is no such place, `begin` makes the figure once the
@@ -43,18 +43,17 @@ export function talk(html) {
 const underBar = (box) => box.getBoundingClientRect().bottom - (part(".foot")?.getBoundingClientRect().top ?? Infinity);
 
 // The list is drawn smaller where what is said below it would lie under the bar.
-function fitFigure({ spec }) {
-  const list = scene.figure.part("list").firstElementChild;
+function fitFigure(figure) {
+  const list = figure.part("list").firstElementChild;
   const over = underBar(part("#talk") ?? list);
   if (over <= 0 || list === null || isNarrow() || isLecture()) return;
-  Object.assign(spec, { high: (Number(list.getAttribute("height")) - over - 8) / innerHeight, least: 110 });
-  scene.figure.draw();
+  figure.set({ fitted: { high: (Number(list.getAttribute("height")) - over - 8) / innerHeight, least: 110 } });
 }
 
 export function takeFigure(figure) {
   scene.figure?.end();
-  scene.figure = figure;
-  return figure;
+  if (figure !== null) figure.onFit = fitFigure;
+  return (scene.figure = figure);
 }
 
 export function leaveScene() {
@@ -92,6 +91,7 @@ export function openScene({ activity, id = "", given = {}, view = null, slide = 
 }
 
 export function listenToScene() {
+  matchMedia(NARROW).onchange = ({ matches }) => document.querySelectorAll("details.codebox").forEach((box) => box.toggleAttribute("open", !matches));
   byId("scene").addEventListener("click", (event) => {
     const target = event.target.closest("[data-do]");
     if (target !== null && byId("scene").contains(target)) scene.view?.deeds?.[target.dataset.do]?.(target);
@@ -163,9 +163,15 @@ export function threadOfKey({ key, ctrlKey, metaKey, altKey }) {
   return key.charCodeAt(0) - "a".charCodeAt(0);
 }
 
+// A key steps, and begins the first call of a thread. For a later one there is its button: a press too many begins nothing.
 export function pressThread(event) {
   const thread = threadOfKey(event);
-  if (thread !== -1) scene.figure?.press(thread);
+  const { figure } = scene;
+  if (thread === -1 || figure === null) return;
+  const { run, spec, isBusy } = figure;
+  const isAnswered = spec.free && !isBusy && run.isIdle(thread) && run.trace.calls.some((call) => call.thread === thread);
+  if (isAnswered) figure.tell(`${chipOf(thread)} has its answer. Press <b>begin</b> for its next call.`);
+  else figure.press(thread);
 }
 
 export const numberOfKey = ({ key }) => (now.prefs.letters && /^[1-9]$/.test(key) ? Number(key) - 1 : -1);

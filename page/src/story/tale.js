@@ -59,7 +59,7 @@ const bold = (text) => `<b>${text}</b>`;
 
 const nodeName = (state, name) => {
   if (name === "head") return "the head";
-  if (name === "tail") return "the end";
+  if (name === "tail") return "the tail";
   return name in state.nodes ? keyText(state.nodes[name].key) : "";
 };
 const bare = (link) => link.replace("*", "");
@@ -102,7 +102,7 @@ function keyTold(event, owner, key, phase, held) {
     if (held.pc === 14 && held.reply === "none") return `is past the place of its pred: ${bold("pred is not in the list any more.")} It starts again.`;
     return held.node === held.pred ? "meets its pred: it is still in the list." : "walks on: this is not its pred.";
   }
-  if (owner === "tail") return "has come to the end: here is the place.";
+  if (owner === "tail") return "has come to the tail: here is the place.";
   const seen = Number(event.saw);
   if (seen < key) return `reads ${bold(seen)}: too small, it goes on.`;
   if (event.call.operation === "ceiling") return `reads ${bold(seen)}: big enough.`;

@@ -100,3 +100,11 @@ def test_a_self_loop_does_not_cross_its_key(visitor):
         document.getElementById("order").innerHTML = drawList(now.run.state, null, arranged(now.run.state, null, shapeFor(900)));
         return document.querySelector(`#order [data-part="link ${name}"] path`).getAttribute("d").split(" L").length""")
     assert corners > 3
+
+
+def test_a_key_begins_no_second_call(visitor):
+    visitor.open("#break=1")
+    visitor.step("aaaaaaaaa")
+    assert "Press begin" in visitor.text(".tale") and visitor.text("[data-begin='0']") == "begin"
+    visitor.click("[data-begin='0']")
+    assert not visitor.is_seen("[data-begin='0']")
