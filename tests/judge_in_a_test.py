@@ -399,8 +399,9 @@ def test_the_package_of_python(room, program, lacking):
 
 @pytest.mark.needs("mvn", "javac", "java")
 def test_the_package_of_java(room, program, lacking):
-    if not pathlib.Path("/usr/share/maven-repo/org/apache/maven/plugins/maven-jar-plugin").exists():
-        lacking("the plugins of maven are not installed: Debian's packages libmaven-compiler-plugin-java and libmaven-jar-plugin-java")
+    plugins = pathlib.Path("/usr/share/maven-repo/org/apache/maven/plugins")
+    if not all((plugins / f"maven-{it}-plugin").exists() for it in ("compiler", "jar", "resources", "surefire")):
+        lacking("maven's plugins are missing: Debian's libmaven-compiler-plugin-java, libmaven-jar-plugin-java, libmaven-resources-plugin-java, libsurefire-java")
     source = shutil.copytree(FORMS / "java", room / "source")
     well("mvn", "-o", "-q", "-Dmaven.repo.local=/usr/share/maven-repo", "package", cwd=source)
     (jar,) = (source / "target").glob("*.jar")
