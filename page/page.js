@@ -9532,7 +9532,7 @@ end
     const { isFixed = false } = branches[at];
     const { question, without } = itemOf2(now.place);
     part("#what-if-mark").hidden = at === 0 || isFixed;
-    part("#question").textContent = isFixed && without?.question || question;
+    part("#asked").textContent = isFixed && without?.question || question;
     const button = ({ name }, index) => tag("button", { class: "small", "data-do": "branch", "data-branch": index, "aria-pressed": index === at }, index === 0 ? "" : "↳ ", name);
     box.innerHTML = branches.map(button).join("");
   }
@@ -10076,7 +10076,7 @@ end
     const kicker = `${isEmbed() ? "Guess, then see" : '<a href="#ask">Guess, then see</a>'} · ${which} · ${LIST_WORDS[item.list]}`;
     const out = `<a class="button quiet small" target="_blank" href="${location.pathname}#ask=${item.name}">open in a page ↗</a>`;
     const all = '<a class="button quiet" href="#ask">All questions</a>';
-    return `<section class="screen">${head(kicker, `<span id="what-if-mark" class="what-if" hidden>What if?</span><span id="question">${item.question}</span>`)}
+    return `<section class="screen">${head(kicker, `<span id="what-if-mark" class="what-if" hidden>What if?</span><span id="asked">${item.question}</span>`)}
     <div id="branches" class="branches" hidden></div>${FIGURE_AND_TALK}</section>
     <footer class="foot">${isEmbed() ? "" : all}<span class="spread"></span>${isEmbed() ? out : ""}
     <button id="show-me" class="primary" data-do="show">${isNarrow() ? "Show me" : "I do not know: show me"}</button>
@@ -10518,7 +10518,7 @@ end
       task: "Press the blue button until A has its answer.",
       help: [[0]],
       goal: (fig) => fig.run.trace.calls[0]?.reply ? { done: "" } : null,
-      reveal: () => `${b("5 is in, and A was told true:")} 5 was not there before. Walk, make a node, change one arrow: that is all of it. For one thread it is right. Now let a second one in.`
+      reveal: () => `${b("5 is in, and A was told true:")} 5 was not there before. Walk, make a node, change one arrow: for one thread that is right. Now let a second one in.`
     },
     {
       id: "lost",

@@ -147,7 +147,7 @@ export function drawBranches({ branches, at }) {
   const { isFixed = false } = branches[at];
   const { question, without } = itemOf(now.place);
   part("#what-if-mark").hidden = at === 0 || isFixed;
-  part("#question").textContent = (isFixed && without?.question) || question;
+  part("#asked").textContent = (isFixed && without?.question) || question;
   const button = ({ name }, index) =>
     tag("button", { class: "small", "data-do": "branch", "data-branch": index, "aria-pressed": index === at }, index === 0 ? "" : "↳ ", name);
   box.innerHTML = branches.map(button).join("");
