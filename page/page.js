@@ -11064,7 +11064,7 @@ ${text.number}` : `${who.number} ${who.name.toLowerCase()}`;
     const title2 = task === null ? line.slice(0, 40) : tasks?.find(({ id }) => id === task)?.title ?? titleOf(task, [{ lessons }]);
     const isOwn = verdict.schedule !== void 0 && !verdict.isVeryAnswer;
     if (verdict.isSolved)
-      own.solved.set(task, isOwn ? verdict.schedule : null);
+      own.solved.set(task, isOwn ? oneByOne(verdict.schedule) : null);
     else {
       if (task === null)
         own.faults++;
@@ -11100,6 +11100,7 @@ ${text.number}` : `${who.number} ${who.name.toLowerCase()}`;
     ];
     return notes.filter(([some]) => some.length > 1).map(([, note]) => note);
   }
+  var oneByOne = (schedule) => schedule.replace(/^go (\d+) (\d+)$/gm, (_, thread, count) => Array(Number(count)).fill(`go ${thread}`).join("\n"));
   function noteCopies(rows) {
     const byText = /* @__PURE__ */ new Map();
     const own = new Map(rows.map((row) => [row, [...row.solved].filter(([, schedule]) => schedule !== null).map((entry) => entry.join("\n"))]));

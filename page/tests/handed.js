@@ -124,14 +124,15 @@ function checkAssignment(course, folder) {
   }
 }
 
-// What is not a student's own: schedules that two have, to the byte, but not what many have; and that of an example.
+// What is not a student's own: schedules that two have, however grouped, but not what many have; and that of an example.
 function checkOwn(ask, course, folder) {
   const text = (student, solutions, lines = []) => handInText(NAME, student, solutions, lines);
   const own = ({ name, solution }, from, to) => ({ name, schedule: solution.replace(from, to) });
   const [waits, marked] = ["one-lock", "marked-in-chain"].map((name) => course.lessons.find((lesson) => lesson.name === name));
   const first = [own(waits, "go 0 1\n", "go 0 2\n"), own(marked, "go 0 3\n", "go 0 1\ngo 0 2\n")];
+  const grouped = [first[0], own(marked, "go 0 3\n", "go 0 2\ngo 0 1\n")];
   const many = ["Bo", "Cy", "Di", "Ed", "Flo"].map((name) => text(name, [], [BROKEN_OWN]));
-  const group = said(folder, text("Ada", first, [BROKEN_OWN]), text("Dee", first, [BROKEN_OWN]), ...many).lines;
+  const group = said(folder, text("Ada", first, [BROKEN_OWN]), text("Dee", grouped, [BROKEN_OWN]), ...many).lines;
   const copies = group.filter((line) => line.includes("same schedules: "));
   const due = ["Ada: same schedules: 3 of 3 with Dee", "Dee: same schedules: 3 of 3 with Ada"];
   check(`the same schedules: ${copies}`, same(copies.slice(0, 2), due) && copies.length === 3 && copies[2].includes("left out"));

@@ -74,7 +74,7 @@ function judgePart(own, lessons, line, tasks, odd) {
   if (tasks !== null && task !== null && !tasks.some(({ id }) => id === task)) return void odd.others.add(task);
   const title = task === null ? line.slice(0, 40) : (tasks?.find(({ id }) => id === task)?.title ?? titleOf(task, [{ lessons }]));
   const isOwn = verdict.schedule !== undefined && !verdict.isVeryAnswer; // what two may have in common only by copying
-  if (verdict.isSolved) own.solved.set(task, isOwn ? verdict.schedule : null);
+  if (verdict.isSolved) own.solved.set(task, isOwn ? oneByOne(verdict.schedule) : null);
   else {
     if (task === null) own.faults++;
     else own.wrong.add(task);
@@ -106,7 +106,10 @@ function notesOnNames(row, rows) {
   return notes.filter(([some]) => some.length > 1).map(([, note]) => note);
 }
 
-// Of each row with whom it shares schedules, to the byte: { count, of, isTold, rows }. Schedules that many have are no sign, and named; one
+// The steps of a schedule, one a line, however its text groups them.
+const oneByOne = (schedule) => schedule.replace(/^go (\d+) (\d+)$/gm, (_, thread, count) => Array(Number(count)).fill(`go ${thread}`).join("\n"));
+
+// Of each row with whom it shares schedules, step by step: { count, of, isTold, rows }. Schedules that many have are no sign, and named; one
 // other alone may be chance, and is not told where there could be more.
 function noteCopies(rows) {
   const byText = new Map();
