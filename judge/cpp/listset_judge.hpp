@@ -58,7 +58,7 @@ struct options {
     unsigned calls = 0;    // of each thread: 1 or more, and 1,000,000,000 at most of all, which rest after each 20,000 until these are written
     unsigned keys = 0;     // calls are on the keys of the numbers below this: 1 to 1,048,576; half of them on the first four
     unsigned pauses = 20;  // before how many of 100 calls a thread pauses, for some microseconds at most: 0 to 100
-    unsigned runs = 20;    // sets that are called, or rows of a hundred sets: 1 to 1,000,000
+    unsigned runs = 20;    // sets that are called, or rows of fresh sets: 1 to 1,000,000
     unsigned seed = 1;     // what the calls, keys and pauses of the first run are drawn from; the next run has the next seed
     unsigned seconds = 10;   // a run in which no call begins or ends for so long is ended: 1 to 3,600
     unsigned at_least = 0;   // the verdict is not ok if fewer of 100 calls overlap a change of their key
