@@ -1,19 +1,23 @@
--- The calls of a log: what holds of each call, of two calls, and which calls there are, at every moment of an account.
-use Rattle.std.proofs.Common.{rules, ◌≡◌, ◌≢◌, ℕ, suc, ◌<◌, ◌≤◌, Bool, true, false, inl, inr, List, [], ◌∷◌, ◌++◌, sym, refl}
-use Rattle.std.proofs.Common.{subst, ap, ◌∙◌, arith}
-use Rattle.std.specs.Prelude.{◌==◌, Option, Some, None, is_some, IsSomeAnd}
-use Rattle.std.specs.List.{AllByRecursion}
+-- The calls of a log: facts of each call and of each pair of calls, and which calls exist, at every moment of an account.
+use Rattle.std.proofs.Common.{rules, ◌≡◌, ◌≢◌, ℕ, zero, suc, ◌<◌, ◌≤◌, ◌⊎◌, Bool, true, false, ◌||◌, inl, inr, List, [], ◌∷◌, ◌++◌, map, length}
+use Rattle.std.proofs.Common.{sym, refl, ap, ◌∙◌, arith}
+use Rattle.std.specs.Prelude.{slice_index_or, Option, Some, None, is_some, IfSome, IsSomeAnd, All, AllPairs, if◌then◌else◌}
+use Rattle.std.proofs.lemmas.Bool.{cases_Bool}
+use Rattle.std.proofs.lemmas.Bool.Decides.{nat_tests}
+use Rattle.std.proofs.lemmas.List.{length-append, length-map, get_or-map, get_or_append_left, get_or_push}
+use Rattle.std.proofs.lemmas.List.Elements.{All-push, All-map, All-weaker}
+use Rattle.std.proofs.lemmas.List.Quantifiers.{all_pairs_push}
 use Rattle.lset_words.specs.declared.Call.{Call}
 use Rattle.lset_words.specs.declared.Reply.{Reply}
-use Rattle.lset_words.specs.declared.Reply.TheVariants.{True}
-use Rattle.lset_words.specs.Log.{Log, Entry, Change, TracedCall, last_call, begun_at, is_open, has_changed, call_after}
-use Rattle.lset_words.specs.Log.{begun_after, open_after, changed_after}
+use Rattle.lset_words.specs.Log.{Log, Entry, Change, TracedCall, last_call, begun_at, is_open, has_changed, is_change, calls_at}
+use Rattle.lset_words.specs.Log.{calls_after, open_after, changed_after, is_under_way, traced_on, changed_by, ended_by}
 use Rattle.lset_words.specs.Log.Entry.{began, stepped}
-use Rattle.lset_words.specs.Account.{Contents, Counts, FitsSometime, MayChange}
+use Rattle.lset_words.specs.Account.{Contents, Counts, MayChange, RightReply, Enters, Account}
+use Rattle.lset_history.specs.Placement.{traced_at, no_traced}
+use Rattle.lset_words.specs.Words.{Opening}
 use Rattle.lset_words.proofs.Numbers.{equal_test, unequal_test, same_or_not}
-use Rattle.lset_history.proofs.Lists.{Pairs, SomeOf, all_imply, all-append, pairs_last, some_first, some_last}
 
--- A RUN, as an account of it tells
+-- A RUN: its log, its contents and its counts
 pub record Run : Type 1 where
   pub threads : ℕ
   pub quota : ℕ
@@ -21,13 +25,17 @@ pub record Run : Type 1 where
   pub contents : Contents
   pub counts : Counts
 
--- the entry after which a call begins
+abbrev pub run_of : ℕ → ℕ → Log → Contents → Counts → Run
+run_of threads quota log contents counts =
+    record { threads = threads; quota = quota; log = log; contents = contents; counts = counts }
+
+-- The entry that begins a call
 pub record Beginning (r : Run) (thread : ℕ) (call : Call) (begun : ℕ) : Type 0 where
   pub before : ℕ
   pub is : begun ≡ suc before
   pub entry : r.log before ≡ began thread call
 
--- the entry that makes the call's change
+-- The entry that makes the change of a call
 pub record ChangeAt (r : Run) (thread : ℕ) (call : Call) (begun changed : ℕ) : Type 0 where
   pub before : ℕ
   pub is : changed ≡ suc before
@@ -37,44 +45,34 @@ pub record ChangeAt (r : Run) (thread : ℕ) (call : Call) (begun changed : ℕ)
   pub entry : r.log before ≡ stepped thread (Some change) reply
   pub may : MayChange r.quota (r.counts before thread) call false (Some change)
 
-abbrev pub ChangedBy : Run → ℕ → ℕ → Call → ℕ → Option ℕ → Type 0
-ChangedBy r k thread call begun None = Unit {0}
-ChangedBy r k thread call begun (Some changed) = (changed ≤ k) × ChangeAt r thread call begun changed
-
--- the reply of an ended call
-abbrev pub ReplyOf : Run → ℕ → Call → ℕ → Option ℕ → ℕ → Reply → Type 0
-ReplyOf r thread call begun None end reply = FitsSometime r.quota r.contents r.counts begun end thread call reply
-ReplyOf r thread call begun (Some changed) end reply = (changed ≤ end) × (reply ≡ True)
-
--- the entry that ends the call
+-- The entry that ends a call, after the call's change, with a correct reply
 pub record EndAt (r : Run) (thread : ℕ) (call : Call) (begun : ℕ) (changed : Option ℕ) (end : ℕ) (reply : Reply) : Type 0 where
   pub before : ℕ
   pub is : end ≡ suc before
   pub later : begun < end
   pub change : Option Change
   pub entry : r.log before ≡ stepped thread change (Some reply)
-  pub right : ReplyOf r thread call begun changed end reply
+  pub after_change : (m : ℕ) → changed ≡ Some m → m ≤ end
+  pub right : RightReply (is_some changed) r.quota r.contents r.counts begun end thread call (Some reply)
 
--- what the log's recursions say of an open call
+-- The values of the log's recursions for a pending call
 pub record OpenAt (r : Run) (k thread : ℕ) (call : Call) (begun : ℕ) (changed : Option ℕ) : Type 0 where
   pub is : is_open r.log thread k ≡ true
   pub call_is : last_call r.log thread k ≡ call
   pub begun_is : begun_at r.log thread k ≡ begun
   pub changed_is : has_changed r.log thread k ≡ is_some changed
 
-abbrev pub EndedBy : Run → ℕ → ℕ → Call → ℕ → Option ℕ → Option (ℕ × Reply) → Type 0
-EndedBy r k thread call begun changed None = OpenAt r k thread call begun changed
-EndedBy r k thread call begun changed (Some end) = (end.0 ≤ k) × EndAt r thread call begun changed end.0 end.1
-
--- WHAT HOLDS OF EACH CALL at moment k
+-- THE FACTS OF EACH CALL at moment k
 pub record Traced (r : Run) (k : ℕ) (x : TracedCall) : Type 0 where
   pub of_a_thread : x.thread < r.threads
   pub begins : Beginning r x.thread x.call x.begun
   pub already : x.begun ≤ k
-  pub changes : ChangedBy r k x.thread x.call x.begun x.changed
-  pub ends : EndedBy r k x.thread x.call x.begun x.changed x.ended
+  pub changes : (m : ℕ) → x.changed ≡ Some m → (m ≤ k) × ChangeAt r x.thread x.call x.begun m
+  pub is_open : x.ended ≡ None → OpenAt r k x.thread x.call x.begun x.changed
+  pub ends : (m : ℕ) (reply : Reply) → x.ended ≡ Some (m, reply)
+      → (m ≤ k) × EndAt r x.thread x.call x.begun x.changed m reply
 
--- AND OF TWO, the first with the smaller number
+-- THE FACTS OF TWO CALLS, the first with the smaller number
 pub record Later (x y : TracedCall) : Type 0 where
   pub begins : x.begun < y.begun
   pub one_thread : x.thread ≡ y.thread → IsSomeAnd x.ended (λ (e : ℕ × Reply). e.0 < y.begun)
@@ -82,139 +80,282 @@ pub record Later (x y : TracedCall) : Type 0 where
 abbrev pub IsOpenOf : ℕ → TracedCall → Type 0
 IsOpenOf t x = (x.thread ≡ t) × (x.ended ≡ None)
 
-abbrev pub ChangesAt : ℕ → TracedCall → Type 0
-ChangesAt m x = x.changed ≡ Some m
+-- Some call of the list satisfies the predicate.
+abbrev pub SomeCall : (TracedCall → Type 0) → List TracedCall → Type 0
+SomeCall P xs = (i : ℕ) × (i < length xs) × P (traced_at xs i)
 
--- AND WHICH THERE ARE
+-- A fact of the value of an option, from the fact for each value that it can have
+pub if_some : {A : Type 0} (o : Option A) (P : A → Type 0) → ((x : A) → o ≡ Some x → P x) → IfSome o P
+if_some None P f = tt
+if_some (Some x) P f = f x refl
+
+-- THE CALLS THAT EXIST at moment k
 pub record Calls (r : Run) (k : ℕ) (xs : List TracedCall) : Type 0 where
-  pub each : AllByRecursion (Traced r k) xs
-  pub pairs : Pairs Later xs
-  -- the open calls of the log,
-  pub opens : (t : ℕ) → is_open r.log t k ≡ true → SomeOf (IsOpenOf t) xs
-  -- and one for each change
+  pub each : All (Traced r k) xs
+  pub pairs : AllPairs Later xs
+  -- each pending call of the log is in the list,
+  pub opens : (t : ℕ) → is_open r.log t k ≡ true → SomeCall (IsOpenOf t) xs
+  -- and for each change the call that made it
   pub changers : (j t : ℕ) (change : Change) (reply : Option Reply) → j < k → r.log j ≡ stepped t (Some change) reply
-      → SomeOf (ChangesAt (suc j)) xs
+      → SomeCall (λ x. x.changed ≡ Some (suc j)) xs
 
 -- THE LOG'S RECURSIONS at one entry
-module _ (log : Log) (k : ℕ) (e : Entry) (at : log k ≡ e) (t : ℕ) where
-  pub open_is : is_open log t (suc k) ≡ open_after e t (is_open log t k)
-  open_is = ap (λ z. open_after z t (is_open log t k)) at
+pub open_is : (log : Log) (k : ℕ) (e : Entry) → log k ≡ e → (t : ℕ) → is_open log t (suc k) ≡ open_after e t (is_open log t k)
+open_is log k e at t = rw at refl
 
-  pub call_is : last_call log t (suc k) ≡ call_after e t (last_call log t k)
-  call_is = ap (λ z. call_after z t (last_call log t k)) at
+pub changed_is : (log : Log) (k : ℕ) (e : Entry) → log k ≡ e → (t : ℕ)
+    → has_changed log t (suc k) ≡ changed_after e t (has_changed log t k)
+changed_is log k e at t = rw at refl
 
-  pub begun_is : begun_at log t (suc k) ≡ begun_after (suc k) e t (begun_at log t k)
-  begun_is = ap (λ z. begun_after (suc k) z t (begun_at log t k)) at
+-- AN ENTRY OF ANOTHER THREAD does not change a pending call.
+abbrev thread_of : Entry → ℕ
+thread_of (began t call) = t
+thread_of (stepped t change reply) = t
 
-  pub changed_is : has_changed log t (suc k) ≡ changed_after e t (has_changed log t k)
-  changed_is = ap (λ z. changed_after z t (has_changed log t k)) at
+stays_open : {r : Run} {k t begun : ℕ} {call : Call} {changed : Option ℕ} (e : Entry) → r.log k ≡ e → thread_of e ≢ t
+    → OpenAt r k t call begun changed → OpenAt r (suc k) t call begun changed
+stays_open e at other o = grind (arith, nat_tests)
 
--- AN ENTRY OF ANOTHER THREAD leaves an open call as it is
-stays_begun : (r : Run) (k u thread : ℕ) (call here : Call) (begun : ℕ) (changed : Option ℕ) → r.log k ≡ began u here → u ≢ thread
-    → OpenAt r k thread call begun changed → OpenAt r (suc k) thread call begun changed
-stays_begun r k u thread call here begun changed e n o =
-    let f : (u == thread) ≡ false = unequal_test u thread n in
-    record {
-      is = open_is r.log k (began u here) e thread ∙ (rw f o.is);
-      call_is = call_is r.log k (began u here) e thread ∙ (rw f o.call_is);
-      begun_is = begun_is r.log k (began u here) e thread ∙ (rw f o.begun_is);
-      changed_is = changed_is r.log k (began u here) e thread ∙ (rw f o.changed_is);
-    }
-
-open_stays : (u t : ℕ) (change : Option Change) (reply : Option Reply) (b : Bool) → (u == t) ≡ false
-    → open_after (stepped u change reply) t b ≡ b
-open_stays u t change None b f = refl
-open_stays u t change (Some reply) b f = rw f refl
-
-pub stays_stepped : (r : Run) (k u thread : ℕ) (call : Call) (begun : ℕ) (changed : Option ℕ) (change : Option Change)
-    (reply : Option Reply) → r.log k ≡ stepped u change reply → u ≢ thread → OpenAt r k thread call begun changed
-    → OpenAt r (suc k) thread call begun changed
-stays_stepped r k u thread call begun changed change reply e n o =
-    let f : (u == thread) ≡ false = unequal_test u thread n in
-    record {
-      is = open_is r.log k (stepped u change reply) e thread ∙ open_stays u thread change reply (is_open r.log thread k) f ∙ o.is;
-      call_is = call_is r.log k (stepped u change reply) e thread ∙ o.call_is;
-      begun_is = begun_is r.log k (stepped u change reply) e thread ∙ o.begun_is;
-      changed_is = changed_is r.log k (stepped u change reply) e thread ∙ (rw f o.changed_is);
-    }
-
--- time goes on for what has happened
-pub changed_on : (r : Run) (k thread : ℕ) (call : Call) (begun : ℕ) (changed : Option ℕ) → ChangedBy r k thread call begun changed
-    → ChangedBy r (suc k) thread call begun changed
-changed_on r k thread call begun None c = tt
-changed_on r k thread call begun (Some m) c = let a : m ≤ k = c.0 in (omega arith, c.1)
-
--- A BEGINNING
-ended_began : (r : Run) (k u thread : ℕ) (here call : Call) (begun : ℕ) (changed : Option ℕ) (ended : Option (ℕ × Reply))
-    → r.log k ≡ began u here → is_open r.log u k ≡ false → EndedBy r k thread call begun changed ended
-    → EndedBy r (suc k) thread call begun changed ended
-ended_began r k u thread here call begun changed None e shut o = stays_begun r k u thread call here begun changed e n o
-  where
-    n : u ≢ thread
-    n i = cc
-ended_began r k u thread here call begun changed (Some end) e shut o = let a : end.0 ≤ k = o.0 in (omega arith, o.1)
-
-traced_began : (r : Run) (k u : ℕ) (here : Call) (x : TracedCall) → r.log k ≡ began u here → is_open r.log u k ≡ false
-    → Traced r k x → Traced r (suc k) x
-traced_began r k u here x e shut t = let a : x.begun ≤ k = t.already in record {
+-- An entry of any thread does not change a completed call.
+waits : {r : Run} {k : ℕ} {x : TracedCall} → (x.ended ≡ None → thread_of (r.log k) ≢ x.thread) → Traced r k x
+    → Traced r (suc k) x
+waits other t = record {
   of_a_thread = t.of_a_thread;
   begins = t.begins;
   already = omega arith;
-  changes = changed_on r k x.thread x.call x.begun x.changed t.changes;
-  ends = ended_began r k u x.thread here x.call x.begun x.changed x.ended e shut t.ends;
+  changes = λ m e. (omega (arith, t.changes m e), (t.changes m e).1);
+  is_open = λ e. stays_open _ refl (other e) (t.is_open e);
+  ends = λ m y e. (omega (arith, t.ends m y e), (t.ends m y e).1);
 }
 
--- the call that begins
+-- THE BEGIN OF A CALL
 abbrev pub new_call : ℕ → ℕ → Call → TracedCall
 new_call k t call = record { thread = t; call = call; begun = suc k; changed = None; ended = None }
 
-traced_new : (r : Run) (k t : ℕ) (call : Call) → r.log k ≡ began t call → t < r.threads → Traced r (suc k) (new_call k t call)
-traced_new r k t call e l =
-    let f : (t == t) ≡ true = equal_test t t refl in
+begins : {r : Run} {k t : ℕ} {call : Call} → r.log k ≡ began t call → t < r.threads → Traced r (suc k) (new_call k t call)
+begins {k = k} {t = t} e l =
+    let f = equal_test t t refl in
     record {
       of_a_thread = l;
       begins = record { before = k; is = refl; entry = e };
       already = omega arith;
-      changes = tt;
-      ends = record {
-        is = open_is r.log k (began t call) e t ∙ (rw f refl);
-        call_is = call_is r.log k (began t call) e t ∙ (rw f refl);
-        begun_is = begun_is r.log k (began t call) e t ∙ (rw f refl);
-        changed_is = changed_is r.log k (began t call) e t ∙ (rw f refl);
-      };
+      changes = λ m c. absurd cc;
+      is_open = λ c. record { is = rw (e, f) refl; call_is = rw (e, f) refl; begun_is = rw (e, f) refl; changed_is = rw (e, f) refl };
+      ends = λ m y c. absurd cc;
     }
 
-later_new : (r : Run) (k t : ℕ) (call : Call) (x : TracedCall) → is_open r.log t k ≡ false → Traced r k x
-    → Later x (new_call k t call)
-later_new r k t call x shut p = let a : x.begun ≤ k = p.already in
-    record { begins = omega arith; one_thread = λ e. over x.ended p.ends e }
+-- Two calls of a thread do not overlap: the earlier one has ended before the later one begins.
+starts : {r : Run} {k t : ℕ} {call : Call} {x : TracedCall} → is_open r.log t k ≡ false → Traced r k x → Later x (new_call k t call)
+starts {k = k} {t = t} {x = x} shut p = record { begins = omega arith; one_thread = λ same. ended x.ended refl same }
   where
-    over : (ended : Option (ℕ × Reply)) → EndedBy r k x.thread x.call x.begun x.changed ended → x.thread ≡ t
-        → IsSomeAnd ended (λ (e : ℕ × Reply). e.0 < suc k)
-    over None o e = let b : is_open r.log x.thread k ≡ true = o.is in
-        let c : is_open r.log x.thread k ≡ false = subst (λ z. is_open r.log z k ≡ false) (sym e) shut in absurd (cc)
-    over (Some end) o e = let b : end.0 ≤ k = o.0 in omega arith
+    ended : (o : Option (ℕ × Reply)) → x.ended ≡ o → x.thread ≡ t → IsSomeAnd o (λ (e : ℕ × Reply). e.0 < suc k)
+    ended None e same = let still = (p.is_open e).is in absurd (let shut' = rw (← same) at shut in cc)
+    ended (Some (m, y)) e same = omega (arith, p.ends m y e)
 
-pub after_beginning : (r : Run) (k t : ℕ) (call : Call) (xs : List TracedCall) → r.log k ≡ began t call → t < r.threads
+pub after_beginning : {r : Run} {k t : ℕ} {call : Call} {xs : List TracedCall} → r.log k ≡ began t call → t < r.threads
     → is_open r.log t k ≡ false → Calls r k xs → Calls r (suc k) (xs ++ new_call k t call ∷ [])
-after_beginning r k t call xs e l shut h = record {
-  each = all-append (Traced r (suc k)) xs (new_call k t call ∷ [])
-      (all_imply (Traced r k) (Traced r (suc k)) (λ x p. traced_began r k t call x e shut p) xs h.each)
-      (traced_new r k t call e l, tt);
-  pairs = pairs_last Later xs (new_call k t call) h.pairs
-      (all_imply (Traced r k) (λ x. Later x (new_call k t call)) (λ x p. later_new r k t call x shut p) xs h.each);
-  opens = opens;
-  changers = λ j u change reply m f. some_first (ChangesAt (suc j)) xs (new_call k t call ∷ [])
-      (h.changers j u change reply (before j u change reply m f) f);
+after_beginning {r} {k} {t} {call} {xs} e l shut h = record {
+  each = All-push (Traced r (suc k)) xs (new_call k t call) (All-weaker (Traced r k) (Traced r (suc k)) still xs h.each) (begins e l);
+  pairs = all_pairs_push Later xs (new_call k t call) h.pairs (λ i d m. starts shut (h.each i d m));
+  opens = λ u o. elim (same_or_not t u) [
+    | inl same ↦ (length xs, omega (arith, long), rw last (same, refl))
+    | inr other ↦ kept (IsOpenOf u) (h.opens u (rw (e, unequal_test t u other) at o))
+  ];
+  changers = λ j u change reply m f. kept (λ x. x.changed ≡ Some (suc j)) (h.changers j u change reply (before m f) f);
 }
   where
-    opens : (u : ℕ) → is_open r.log u (suc k) ≡ true → SomeOf (IsOpenOf u) (xs ++ new_call k t call ∷ [])
-    opens u o = elim (same_or_not t u) [
-      | inl i ↦ some_last (IsOpenOf u) xs (new_call k t call) (i, refl)
-      | inr n ↦ (let f : (t == u) ≡ false = unequal_test t u n in
-          let g : is_open r.log u k ≡ true = (rw f at (sym (open_is r.log k (began t call) e u) ∙ o)) in
-          some_first (IsOpenOf u) xs (new_call k t call ∷ []) (h.opens u g))
-    ]
+    new : TracedCall
+    new = new_call k t call
 
-    before : (j u : ℕ) (change : Change) (reply : Option Reply) → j < suc k → r.log j ≡ stepped u (Some change) reply → j < k
-    before j u change reply m f = search rules
+    long : length (xs ++ new ∷ []) ≡ suc (length xs)
+    long = omega (arith, length-append xs (new ∷ []))
+
+    last : traced_at (xs ++ new ∷ []) (length xs) ≡ new
+    last = get_or_push xs new no_traced (length xs) refl
+
+    still : (x : TracedCall) → Traced r k x → Traced r (suc k) x
+    still x p = waits (λ none same. let still = (p.is_open none).is in cc) p
+
+    kept : (P : TracedCall → Type 0) → SomeCall P xs → SomeCall P (xs ++ new ∷ [])
+    kept P s = (s.0, omega (arith, long, s.1), rw (get_or_append_left xs (new ∷ []) no_traced s.0 s.1) s.2)
+
+    before : {j u : ℕ} {change : Change} {reply : Option Reply} → j < suc k → r.log j ≡ stepped u (Some change) reply → j < k
+    before m f = search rules
+
+-- A STEP
+pub record Stepping (r : Run) (k t : ℕ) (change : Option Change) (reply : Option Reply) : Type 0 where
+  pub entry : r.log k ≡ stepped t change reply
+  pub of_a_thread : t < r.threads
+  pub under_way : is_open r.log t k ≡ true
+  pub may : MayChange r.quota (r.counts k t) (last_call r.log t k) (has_changed r.log t k) change
+  pub right : RightReply (has_changed r.log t (suc k)) r.quota r.contents r.counts (begun_at r.log t k) (suc k) t
+      (last_call r.log t k) reply
+
+abbrev pub step_of : ℕ → ℕ → Option Change → Option Reply → TracedCall → TracedCall
+step_of k t change reply x = if is_under_way t x then traced_on (suc k) change reply x else x
+
+-- A call that is under way is pending and of the thread.
+pub way_of : (t : ℕ) (x : TracedCall) → is_under_way t x ≡ true → (t ≡ x.thread) × (x.ended ≡ None)
+way_of t x u = (grind (arith, nat_tests), grind (arith, nat_tests))
+
+pub is_way : (t : ℕ) (x : TracedCall) → x.thread ≡ t → x.ended ≡ None → is_under_way t x ≡ true
+is_way t x e n = rw (equal_test x.thread t e, n) refl
+
+-- The change and the end of a call after its step
+changed_as : (m n : ℕ) (change : Option Change) (before : Option ℕ) → changed_by m change before ≡ Some n
+    → ((change ≡ None) × (before ≡ Some n)) ⊎ ((c : Change) × (change ≡ Some c) × (n ≡ m))
+changed_as m n None before e = inl (refl, e)
+changed_as m n (Some c) before e = inr (c, refl, cc)
+
+ended_as : (m n : ℕ) (reply : Option Reply) (y : Reply) → ended_by m reply ≡ Some (n, y) → (reply ≡ Some y) × (n ≡ m)
+ended_as m n reply y e = (grind arith, grind arith)
+
+not_ended : (m : ℕ) (reply : Option Reply) → ended_by m reply ≡ None → reply ≡ None
+not_ended m reply e = grind arith
+
+has_now : (m : ℕ) (change : Option Change) (changed : Option ℕ)
+    → (is_some changed || is_change change) ≡ is_some (changed_by m change changed)
+has_now m change changed = grind arith
+
+may_be : (quota count : ℕ) (call here : Call) (b : Bool) (c : Change) → here ≡ call → MayChange quota count here b (Some c)
+    → MayChange quota count call false (Some c)
+may_be quota count call here b (key, true) e m = (sym e ∙ m.0, refl, m.2)
+may_be quota count call here b (key, false) e m = (sym e ∙ m.0, refl)
+
+-- The pending call of the thread makes the step.
+module _ {r : Run} {k : ℕ} {change : Option Change} {reply : Option Reply} {x : TracedCall} (s : Stepping r k x.thread change reply)
+    (none : x.ended ≡ None) (p : Traced r k x) where
+  here : OpenAt r k x.thread x.call x.begun x.changed
+  here = p.is_open none
+
+  now : has_changed r.log x.thread (suc k) ≡ is_some (changed_by (suc k) change x.changed)
+  now = rw (s.entry, equal_test x.thread x.thread refl, here.changed_is) (has_now (suc k) change x.changed)
+
+  changes : (m : ℕ) → changed_by (suc k) change x.changed ≡ Some m → (m ≤ suc k) × ChangeAt r x.thread x.call x.begun m
+  changes m e = elim (changed_as (suc k) m change x.changed e) [
+    | inl o ↦ (omega (arith, p.changes m o.1), (p.changes m o.1).1)
+    | inr o ↦ rw o.2 (
+      omega arith,
+      record {
+        before = k;
+        is = refl;
+        later = omega (arith, p.already);
+        change = o.0;
+        reply = reply;
+        entry = rw o.1 at s.entry;
+        may = may_be _ _ _ _ _ o.0 here.call_is (rw o.1 at s.may);
+      },
+    )
+  ]
+
+  steps : Traced r (suc k) (traced_on (suc k) change reply x)
+  steps = record {
+    of_a_thread = p.of_a_thread;
+    begins = p.begins;
+    already = omega (arith, p.already);
+    changes = changes;
+    is_open = λ e. record {
+      is = rw (s.entry, not_ended (suc k) reply e) here.is;
+      call_is = rw s.entry here.call_is;
+      begun_is = rw s.entry here.begun_is;
+      changed_is = now;
+    };
+    ends = λ m y e. let w = ended_as (suc k) m reply y e in rw w.1 (
+      omega arith,
+      record {
+        before = k;
+        is = refl;
+        later = omega (arith, p.already);
+        change = change;
+        entry = rw w.0 at s.entry;
+        after_change = λ n c. (changes n c).0;
+        right = rw (w.0, now, here.begun_is, here.call_is) at s.right;
+      },
+    );
+  }
+
+module _ {r : Run} {k t : ℕ} {change : Option Change} {reply : Option Reply} (s : Stepping r k t change reply) where
+  traced_step : (x : TracedCall) → Traced r k x → Traced r (suc k) (step_of k t change reply x)
+  traced_step x p = elim (cases_Bool (is_under_way t x)) [
+    | inl u ↦ rw u (let w = way_of t x u in steps (rw w.0 at s) w.1 p)
+    | inr u ↦ rw u (waits (λ none. rw s.entry (λ same. let way = is_way t x (sym same) none in cc)) p)
+  ]
+
+  later_step : (x y : TracedCall) → Later x y → Later (step_of k t change reply x) (step_of k t change reply y)
+  later_step x y p = elim (cases_Bool (is_under_way t x)) [
+    | inl u ↦ elim (cases_Bool (is_under_way t y)) [
+      | inl v ↦ rw (u, v) (record { begins = p.begins; one_thread = λ e. absurd (never u e) })
+      | inr v ↦ rw (u, v) (record { begins = p.begins; one_thread = λ e. absurd (never u e) })
+    ]
+    | inr u ↦ elim (cases_Bool (is_under_way t y)) [
+      | inl v ↦ rw (u, v) (record { begins = p.begins; one_thread = p.one_thread })
+      | inr v ↦ rw (u, v) p
+    ]
+  ]
+    where
+      never : is_under_way t x ≡ true → x.thread ≡ y.thread → ⊥
+      never u e = rw (way_of t x u).1 at (p.one_thread e)
+
+  open_step : (u : ℕ) (x : TracedCall) → (t ≡ u → reply ≡ None) → IsOpenOf u x → IsOpenOf u (step_of k t change reply x)
+  open_step u x none p = elim (cases_Bool (is_under_way t x)) [
+    | inl b ↦ rw b (p.0, rw (none ((way_of t x b).0 ∙ p.0)) refl)
+    | inr b ↦ rw b p
+  ]
+
+  changer_stays : (m : ℕ) (x : TracedCall) → Traced r k x → x.changed ≡ Some m → (step_of k t change reply x).changed ≡ Some m
+  changer_stays m x p c = elim (cases_Bool (is_under_way t x)) [
+    | inl b ↦ rw b (let w = way_of t x b in let o = p.is_open w.1 in unchanged change (rw (w.0, o.changed_is, c) at s.may))
+    | inr b ↦ rw b c
+  ]
+    where
+      unchanged : (h : Option Change) → MayChange r.quota (r.counts k x.thread) (last_call r.log x.thread k) true h → changed_by (suc k) h x.changed ≡ Some m
+      unchanged None may = c
+      unchanged (Some (key, true)) may = absurd cc
+      unchanged (Some (key, false)) may = absurd cc
+
+  now_changes : (j u : ℕ) (here : Change) (told : Option Reply) → j ≡ k → r.log j ≡ stepped u (Some here) told → (x : TracedCall)
+      → IsOpenOf t x → (step_of k t change reply x).changed ≡ Some (suc j)
+  now_changes j u here told is e x p =
+      let c : change ≡ Some here = cc in rw (is_way t x p.0 p.1, c) (ap (λ z. Some (suc z)) (sym is))
+
+  after_step : {xs : List TracedCall} → Calls r k xs → Calls r (suc k) (map (step_of k t change reply) xs)
+  after_step {xs} h = record {
+    each = All-map (Traced r (suc k)) f xs (All-weaker (Traced r k) (λ x. Traced r (suc k) (f x)) traced_step xs h.each);
+    pairs = λ i j d l m. rw (at i d (omega (arith, length-map xs f)), at j d (omega (arith, length-map xs f)))
+        (later_step _ _ (h.pairs i j d l (omega (arith, length-map xs f))));
+    opens = λ u o. let w = opens_as u reply (is_open r.log u k) (rw s.entry at o) in let c = h.opens u w.0 in
+        mapped (IsOpenOf u) c.0 c.1 (open_step u _ w.1 c.2);
+    changers = λ j u here told l e. elim (same_or_not j k) [
+      | inl now ↦ (let c = h.opens t s.under_way in
+          mapped (λ x. x.changed ≡ Some (suc j)) c.0 c.1 (now_changes j u here told now e _ c.2))
+      | inr past ↦ (let c = h.changers j u here told (omega arith) e in
+          mapped (λ x. x.changed ≡ Some (suc j)) c.0 c.1 (changer_stays (suc j) _ (h.each c.0 no_traced c.1) c.2))
+    ];
+  }
+    where
+      f : TracedCall → TracedCall
+      f = step_of k t change reply
+
+      at : (i : ℕ) (d : TracedCall) → i < length xs → slice_index_or (map f xs) i d ≡ f (slice_index_or xs i d)
+      at i d l = get_or-map f xs i d d l
+
+      mapped : (P : TracedCall → Type 0) (i : ℕ) → i < length xs → P (f (traced_at xs i)) → SomeCall P (map f xs)
+      mapped P i l p = (i, omega (arith, length-map xs f), rw (at i no_traced l) p)
+
+      opens_as : (u : ℕ) (y : Option Reply) (b : Bool) → open_after (stepped t change y) u b ≡ true → (b ≡ true) × (t ≡ u → y ≡ None)
+      opens_as u y b o = (grind (arith, nat_tests), grind (arith, nat_tests))
+
+-- AT EVERY MOMENT
+pub calls_of : (op : Opening) (last : ℕ) (log : Log) (contents : Contents) (counts : Counts)
+    → Account op last log contents counts
+    → (k : ℕ) → k ≤ last → Calls (run_of op.threads op.quota log contents counts) k (calls_at log k)
+calls_of op last log contents counts a zero l = grind arith
+calls_of op last log contents counts a (suc k) l = enter (log k) refl (a.enters k (omega arith))
+    (calls_of op last log contents counts a k (omega arith))
+  where
+    enter : (e : Entry) → log k ≡ e → Enters op.threads op.quota log contents counts k e
+        → Calls (run_of op.threads op.quota log contents counts) k (calls_at log k)
+        → Calls (run_of op.threads op.quota log contents counts) (suc k) (calls_after (suc k) e (calls_at log k))
+    enter (began t call) e h c = after_beginning e h.of_a_thread h.idle c
+    enter (stepped t change reply) e h c =
+        after_step (record { entry = e; of_a_thread = h.of_a_thread; under_way = h.under_way; may = h.may; right = h.right }) c

@@ -1,4 +1,5 @@
--- A search for the first moment at which a key, or none, is the smallest one at or above another: from note to note, and at the end.
+-- The search for the first moment at which a key is the smallest at or above another key: from one recorded change to the next,
+-- and after the last one.
 use Rattle.std.proofs.Common.{rules, ◌≡◌, ◌≢◌, ℕ, ◌+◌, ◌<◌, ◌≤◌, inl, inr, Bool, true, false, not, List, [], ◌∷◌, sym, refl}
 use Rattle.std.proofs.Common.{subst, ap, ◌∙◌, arith}
 use Rattle.std.specs.Prelude.{Option, Some, None, All, IsTrue, ◌==◌, nat_lt, if◌then◌else◌}
@@ -14,7 +15,7 @@ use Rattle.lset_history.proofs.ChangeLaws.{present_past}
 abbrev pub CeilingAt : (ℕ → List ℕ) → ℕ → Option ℕ → ℕ → Type 0
 CeilingAt changes key found m = IsCeiling (λ j. is_present changes j m ≡ true) key found
 
--- no change lies above a moment and not above a later one
+-- No change is after one moment and at or before another.
 abbrev IsQuiet : List ℕ → ℕ → ℕ → Type 0
 IsQuiet ms a b = All (λ m. a < m → m ≤ b → ⊥) ms
 
@@ -42,7 +43,7 @@ module _ (changes : ℕ → List ℕ) (key : ℕ) (found : Option ℕ) where
       j a
   quiet_against j a b l q = against_same found j a b (quiet_state false (changes j) a b l q)
 
-  -- ---- from note to note
+  -- ---- from one recorded change to the next
 
   module _ (last : ℕ) (note : ℕ × ℕ) (next : IsNextNote changes last (Some note)) where
     before_note : (j m : ℕ) → last ≤ m → m < note.0 → is_against changes key found j m ≡ is_against changes key found j last
@@ -116,9 +117,9 @@ module _ (changes : ℕ → List ℕ) (key : ℕ) (found : Option ℕ) where
     ];
   }
 
--- ---- at the end
+-- ---- after the last change
 
--- which keys speak against it
+-- The keys that refute `found`
 against_below : (changes : ℕ → List ℕ) (key : ℕ) (o : Option ℕ) (j m : ℕ) → key ≤ j → IsBelow j o
     → is_against changes key o j m ≡ is_present changes j m
 against_below changes key None j m l u = if_not_below j key l false (is_present changes j m)
@@ -137,7 +138,7 @@ against_is_not : (changes : ℕ → List ℕ) (key : ℕ) (o : Option ℕ) (j m 
 against_is_not changes key None j m e h = search rules
 against_is_not changes key (Some x) j m e h = search rules
 
--- a moment that no change is past
+-- A moment such that no change of the key is later
 upto : (ms : List ℕ) → (last : ℕ) × All (λ m. m ≤ last) ms
 upto [] = (0, All-nil (λ m. m ≤ 0))
 upto (x ∷ ms) = (
@@ -166,7 +167,7 @@ module _ (changes : ℕ → List ℕ) (key : ℕ) (found : Option ℕ) (from mom
     | inr g ↦ against_is_not changes key found j m ((s m g).stays j m e g (omega arith)) h
   ]
 
-  -- the answers
+  -- The results of the search
   pub past_the_end : (to : ℕ) → to < moment → IsFirst (CeilingAt changes key found) from to None
   past_the_end to l = λ m a b h. let k = (s moment (omega arith)).before m a (omega arith) in
       against_is_not changes key found k.0 m k.1 h
@@ -206,13 +207,13 @@ module _ (changes : ℕ → List ℕ) (key : ℕ) (found : Option ℕ) (from mom
   it_is_too_low to x e l = subst (λ o. IsFirst (CeilingAt changes key o) from to None) (sym e) (λ m a b h. let g : key ≤ x = h.0
       in omega arith)
 
--- ---- the keys that are there now
+-- ---- the keys that are present now
 
 abbrev pub IsFrom : ℕ → Option ℕ → Type 0
 IsFrom key None = Unit {0}
 IsFrom key (Some k) = key ≤ k
 
--- those below a key, and below the end
+-- The keys below a key and below the end
 abbrev pub CameUpTo : (ℕ → List ℕ) → ℕ → Option ℕ → Option ℕ → ℕ → Type 0
 CameUpTo changes key next end moment =
     (j : ℕ) → key ≤ j → IsBelow j next → IsBelow j end → is_present_now changes j ≡ true → is_present changes j moment ≡ false

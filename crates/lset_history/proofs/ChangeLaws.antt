@@ -1,6 +1,6 @@
--- What one more change of a key makes of whether keys are there.
+-- The effect of a further change of a key on whether keys are present.
 use Rattle.std.proofs.lemmas.Grind.{common_steps}
-use Rattle.std.proofs.Common.{◌≡◌, ◌≢◌, ℕ, zero, suc, ◌+◌, ◌<◌, ◌≤◌, Bool, true, false, not, List, [], ◌∷◌, ◌++◌, length, get_or}
+use Rattle.std.proofs.Common.{◌≡◌, ◌≢◌, ℕ, zero, suc, ◌<◌, ◌≤◌, Bool, true, false, not, List, [], ◌∷◌, ◌++◌, length, get_or}
 use Rattle.std.proofs.Common.{sym, refl, ap, ◌∙◌, arith}
 use Rattle.std.specs.Prelude.{All, ◌==◌, nat_lt, if◌then◌else◌}
 use Rattle.std.proofs.lemmas.Bool.{lt-ltb, le-ltb}
@@ -8,12 +8,12 @@ use Rattle.std.proofs.lemmas.List.Elements.{All-get_or, All-from_get_or}
 use Rattle.lset_words.proofs.Numbers.{equal_test, unequal_test}
 use Rattle.lset_history.specs.Changes.{ChangesValue, moments_of, state_at, state_after, is_present, is_present_now, with_change}
 
--- turned so many times
+-- A Bool, negated n times
 abbrev pub turned : ℕ → Bool → Bool
 turned zero b = b
 turned (suc i) b = turned i (not b)
 
--- the state at a moment, where the first i changes are not above it and the others are
+-- The state at a moment m, if the first i changes are at most m and the others are above m
 pub state_between : (b : Bool) (ms : List ℕ) (i m : ℕ) → i ≤ length ms → ((j : ℕ) → j < i → get_or ms j 0 ≤ m)
     → (i < length ms → m < get_or ms i 0) → state_at b ms m ≡ turned i b
 state_between b [] zero m l f g = refl
@@ -28,7 +28,7 @@ state_past b [] m f = refl
 state_past b (x ∷ ms) m f = rw (le-ltb m x (f 0 (omega arith)))
     (state_past (not b) ms m (λ j n. f (suc j) (omega arith)))
 
--- one more change, later than the others
+-- A further change, later than the others
 pub state_before_change : (b : Bool) (ms : List ℕ) (at m : ℕ) → m < at → state_at b (ms ++ at ∷ []) m ≡ state_at b ms m
 state_before_change b [] at m l = rw (lt-ltb m at l) refl
 state_before_change b (x ∷ ms) at m l = ap (λ z. if nat_lt m x then b else z) (state_before_change (not b) ms at m l)
@@ -56,12 +56,12 @@ module _ (changes : ℕ → List ℕ) (key at : ℕ) where
       (state_from_change false (changes key) at at (λ j n. let a : get_or (changes key) j 0 < at =
       All-get_or (λ x. x < at) (changes key) j 0 n h in omega arith) (omega arith))
 
--- past all changes
+-- The state after all changes
 pub present_past : (changes : ℕ → List ℕ) (k m : ℕ) → All (λ x. x ≤ m) (changes k)
     → is_present changes k m ≡ is_present_now changes k
 present_past changes k m h = state_past false (changes k) m (λ j n. All-get_or (λ x. x ≤ m) (changes k) j 0 n h)
 
--- all changes up to a moment, and one more
+-- All changes are up to a moment, and so they are with a further one.
 all_pushed : (ms : List ℕ) (k at : ℕ) → All (λ x. x ≤ k) ms → k ≤ at → All (λ x. x ≤ at) (ms ++ at ∷ [])
 all_pushed ms k at h l = grind (arith, common_steps)
 
@@ -81,7 +81,7 @@ all_upto_change changes key k at j h l = by_test (j == key)
     by_test true = all_pushed (changes j) k at h l
     by_test false = all_upto_later (changes j) k at l h
 
--- one more note of a key, seen from one to the next
+-- A further change of a key negates its state.
 state_after_change : (b : Bool) (ms : List ℕ) (at : ℕ) → state_after b (ms ++ at ∷ []) ≡ not (state_after b ms)
 state_after_change b [] at = refl
 state_after_change b (m ∷ ms) at = state_after_change (not b) ms at

@@ -1,5 +1,5 @@
--- Places of an order: which calls stand at the earlier ones, and what their replies come to.
-use Rattle.std.proofs.Common.{◌⊎◌, ◌≡◌, ◌≢◌, ℕ, zero, suc, ◌<◌, ◌≤◌, ◌+◌, ◌==◌, ◌||◌, Bool, true, false, List, [], ◌∷◌, length}
+-- The calls at the first i places of an order, and their replies.
+use Rattle.std.proofs.Common.{◌≡◌, ◌≢◌, ℕ, zero, suc, ◌<◌, ◌≤◌, ◌+◌, ◌==◌, ◌||◌, Bool, true, false, List, [], ◌∷◌, length}
 use Rattle.std.proofs.Common.{get_or, take, map, Option, Some, None, refl, sym, ap, ◌∙◌, subst, inl, inr, arith, add-one}
 use Rattle.std.specs.Prelude.{set}
 use Rattle.std.proofs.lemmas.List.{take-take, get_or-take, length-take, get_or-set_same, get_or-set_other}
@@ -17,8 +17,8 @@ use Rattle.lset_history.specs.Faults.{HasWrongReply, Passes, place_at, placed_ca
 use Rattle.lset_history.specs.Checks.{stands, MarksCalls, HasReply, HasOtherReply, HasReplies, after_order, after_reply}
 use Rattle.lset_history.specs.Oracle.{OracleValue}
 
--- THE CALLS THAT STAND
--- a call that stands among the first i places stands at one of them
+-- THE CALLS OF THE FIRST PLACES
+-- A call among the first i places is at one of these places.
 pub stands_earlier : (order : List Placed) (i n : ℕ) → stands (take i order) n ≡ true
     → (k : ℕ) × (k < i) × (k < length order) × ((place_at order k).call ≡ n)
 stands_earlier [] zero n h = absurd (false≢true h)
@@ -40,7 +40,7 @@ stands_nowhere (p ∷ ps) (suc i) n h zero low inside = λ e.
 stands_nowhere (p ∷ ps) (suc i) n h (suc k) low inside =
     let parts = or_parts (p.call == n) (stands (take i ps) n) h in stands_nowhere ps i n parts.1 k (omega arith) (omega arith)
 
--- one more place, whose call gets its mark
+-- A further place: the mark of its call is set.
 pub marks_more : (marks : List Bool) (order : List Placed) (i : ℕ) → i < length order
     → (place_at order i).call < length marks → MarksCalls marks (take i order)
     → MarksCalls (set marks (place_at order i).call true) (take (i + 1) order)
@@ -55,13 +55,13 @@ marks_more marks order i inside low holds q =
     ]
 
 -- THE REPLIES
--- the reply of the set after the earlier places
+-- The set returns the place's reply, after the earlier places.
 abbrev GivesReply : ℕ → List CallRecord → List Placed → ℕ → SetState → Type 0
 GivesReply quota calls order i s =
     reply_to quota (set_left_by s calls (take i order)) (placed_call calls order i).thread (placed_call calls order i).call
     ≡ (place_at order i).reply
 
--- the set after one more place
+-- The set after a further place
 abbrev after_place : List CallRecord → List Placed → ℕ → SetState → SetState
 after_place calls order i s = after_call s (placed_call calls order i).thread (placed_call calls order i).call
     (place_at order i).reply
@@ -89,14 +89,14 @@ pub legal_more : (quota : ℕ) (calls : List CallRecord) (order : List Placed) (
     → IsLegal quota s (map (answered calls) (take (i + 1) order))
 legal_more quota calls order i s inside h e = rw add-one (legal_suc quota calls order i s inside h e)
 
--- in a legal order each place has the reply of the set after the earlier ones
+-- In a legal order, each place has the reply of the set after the earlier places.
 pub legal_at : (quota : ℕ) (calls : List CallRecord) (order : List Placed) (i : ℕ) (s : SetState) → i < length order
     → IsLegal quota s (map (answered calls) order) → GivesReply quota calls order i s
 legal_at quota calls [] i s inside h = absurd (omega arith)
 legal_at quota calls (p ∷ ps) zero s inside h = h.0
 legal_at quota calls (p ∷ ps) (suc i) s inside h = legal_at quota calls ps i (after_place calls (p ∷ ps) 0 s) (omega arith) h.1
 
--- one more place with its reply
+-- A further place with a correct reply
 pub replies_more : (o : OracleValue) (calls : List CallRecord) (order : List Placed) (i : ℕ) → i < length order
     → HasReplies o calls (take i order)
     → HasReply (after_order o calls (take i order)) (placed_call calls order i) (place_at order i).reply
@@ -114,7 +114,7 @@ order_more o calls order i inside =
     ap (λ (s : SetState). let v : OracleValue = record { threads = o.threads; quota = o.quota; state = s } in v)
     (left_more calls order i o.state inside)
 
--- what the loop over the places knows of one place, whose call it reads as x
+-- The facts that the loop over the places has of one place; x is its call.
 pub reply_there : (o now : OracleValue) (calls : List CallRecord) (order : List Placed) (i : ℕ) (x : CallRecord)
     → now ≡ after_order o calls (take i order) → x ≡ placed_call calls order i → HasReply now x (place_at order i).reply
     → HasReply (after_order o calls (take i order)) (placed_call calls order i) (place_at order i).reply
@@ -130,7 +130,7 @@ pub goes_on_there : (o now : OracleValue) (calls : List CallRecord) (order : Lis
     → after_reply now x (place_at order i).reply ≡ after_order o calls (take (i + 1) order)
 goes_on_there o now calls order i x inside e f = rw (e, f) (sym (order_more o calls order i inside))
 
--- no wrong reply
+-- No place has a wrong reply.
 other_end : (o : Option (ℕ × Reply)) (reply : Reply) → IfSome o (λ (end : ℕ × Reply). end.1 ≡ reply)
     → IsSomeAnd o (λ (end : ℕ × Reply). end.1 ≢ reply) → ⊥
 other_end None reply h w = w
@@ -141,7 +141,7 @@ pub passes_replies : (o : OracleValue) (calls : List CallRecord) (order : List P
 passes_replies o calls order h place low (inl w) = other_end _ _ (h.recorded place (place_at [] 0) low) w
 passes_replies o calls order h place low (inr w) = w (legal_at o.quota calls order place o.state low h.legal)
 
--- a wrong reply of an earlier place shows in the first i places alone
+-- A wrong reply of an earlier place is a wrong reply of the first i places.
 wrong_in_front : (quota : ℕ) (s : SetState) (calls : List CallRecord) (order : List Placed) (i k : ℕ) → k < i
     → HasWrongReply quota s calls order k → HasWrongReply quota s calls (take i order) k
 wrong_in_front quota s calls order i k low w =

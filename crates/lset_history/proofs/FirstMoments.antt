@@ -1,4 +1,4 @@
--- The first moment of a call at which a fact holds, kept from moment to moment.
+-- The first moment at which a predicate holds, as the last moment grows.
 use Rattle.std.proofs.Common.{◌≡◌, ℕ, zero, suc, ◌+◌, ◌<◌, ◌≤◌, ◌⊎◌, inl, inr, Bool, true, false, refl, ap, subst, arith}
 use Rattle.std.specs.Prelude.{Option, Some, None}
 use Rattle.lset_history.specs.Changes.{IsFirst, is_same, first_passing}
@@ -33,13 +33,13 @@ first_passing_is asked f first (suc n) last e = elim (same_or_not asked (f first
       (first_passing_is asked f (suc first) n last (omega arith)))
 ]
 
--- of a fact that says the same
+-- Equivalent predicates have the same first moment.
 pub first_same : (P Q : ℕ → Type 0) → ((m : ℕ) → P m → Q m) → ((m : ℕ) → Q m → P m) → (first last : ℕ) (o : Option ℕ)
     → IsFirst P first last o → IsFirst Q first last o
 first_same P Q to from first last None h = λ m a b q. h m a b (from m q)
 first_same P Q to from first last (Some k) h = (h.0, h.1, to k h.2, λ m a b q. h.3 m a b (from m q))
 
--- there is one first moment
+-- The first moment is unique.
 pub one_first : (P : ℕ → Type 0) (first last : ℕ) (o p : Option ℕ) → IsFirst P first last o → IsFirst P first last p → o ≡ p
 one_first P first last None None h g = refl
 one_first P first last None (Some k) h g = absurd (h k g.0 g.1 g.2)

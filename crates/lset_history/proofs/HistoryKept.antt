@@ -1,6 +1,6 @@
--- What a history keeps of itself through a beginning and an end.
+-- The begin and the end of a call keep the invariant of a history.
 use Rattle.std.proofs.Common.{◌≡◌, ℕ, suc, zero, ◌<◌, ◌≤◌, ◌^◌, ◌≢◌, ◌==◌, ◌&&◌, ◌||◌, Bool, true, false, List, [], ◌∷◌, ◌++◌}
-use Rattle.std.proofs.Common.{length, get_or, ◌+◌, max, Option, Some, None, is_none, is_some, not, refl, sym, ap, ◌∙◌, subst}
+use Rattle.std.proofs.Common.{length, get_or, max, Option, Some, None, is_none, is_some, not, refl, sym, ap, ◌∙◌, subst}
 use Rattle.std.proofs.Common.{arith, inl, inr, ◌⊎◌, replicate}
 use Rattle.std.proofs.Math.Bool.{or-false}
 use Rattle.lset_words.specs.declared.TheConstants.{MOST_THREADS}
@@ -14,11 +14,10 @@ use Rattle.std.proofs.lemmas.List.Elements.{All-tail}
 use Rattle.std.proofs.lemmas.Bool.{cases_eq, cases_order, ne_eqb, eq-eqb, true≢false, and_left, and_right, or_parts}
 use Rattle.lset_words.specs.declared.Reply.{Reply}
 use Rattle.lset_words.specs.declared.history.CallRecord.{CallRecord}
-use Rattle.lset_words.specs.History.{IsHistory, MayFollow, call_numbered, no_call}
+use Rattle.lset_words.specs.History.{IsCall, Follows, IsHistory, MayFollow, call_numbered, no_call}
 use Rattle.lset_history.specs.History.{HistoryValue, IsLater, IsOpen, ended_with, has_open, latest_moment, last_moment, moment_of}
 use Rattle.lset_history.specs.History.{MayBegin, MayEnd, IsKept, with_begun, with_ended}
-use Rattle.lset_history.proofs.CallByCall.{may_follow, call_of, follows_of, IsCall, Follows, history_begun, history_ended}
-use Rattle.lset_history.proofs.CallByCall.{calls_of, pairs_of, never_ended}
+use Rattle.lset_history.proofs.CallByCall.{empty_history, history_begun, history_ended, never_ended}
 use Rattle.lset_history.proofs.Pairs.{read_written, read_other}
 
 -- THE LATEST MOMENT
@@ -69,7 +68,7 @@ latest_ended [] n at z inside b e h = absurd (omega arith)
 latest_ended (y ∷ ys) zero at z inside b e h = omega arith
 latest_ended (y ∷ ys) (suc n) at z inside b e h = let rest = latest_ended ys n at z (omega arith) b e (omega arith) in omega arith
 
--- THE THREADS WITH AN OPEN CALL
+-- THE THREADS WITH A PENDING CALL
 abbrev is_open_of : ℕ → CallRecord → Bool
 is_open_of t x = x.thread == t && is_none x.ended
 
@@ -97,16 +96,16 @@ none_left (Some x) P h = refl
 -- A CALL BEGINS
 pub begun_follows : (h : HistoryValue) (x : CallRecord) → MayBegin h x.thread x.begun → x.ended ≡ None
     → MayFollow h.opening.threads h.calls x
-begun_follows h x may e =
-    may_follow h.opening.threads h.calls x
-    (record { of_a_thread = may.of_a_thread; counted = may.later.counted; ends_later = no_end x.ended _ e })
-    (λ k d b. record {
-      increasing = may.later.begins k d b;
-      begins_alone = not_at (get_or h.calls k d).ended x.begun (may.later.ends k d b);
-      ends_alone = no_end x.ended _ e;
-      none_open = λ same. ended_if_idle ((get_or h.calls k d).thread == x.thread) (get_or h.calls k d).ended _ (eq-eqb _ _ same)
-          (idle_before h.calls x.thread may.idle k d b) (may.later.ends k d b);
-    })
+begun_follows h x may e = record {
+  call = record { of_a_thread = may.of_a_thread; counted = may.later.counted; ends_later = no_end x.ended _ e };
+  follows = λ k d b. record {
+    increasing = may.later.begins k d b;
+    begins_alone = not_at (get_or h.calls k d).ended x.begun (may.later.ends k d b);
+    ends_alone = no_end x.ended _ e;
+    none_open = λ same. ended_if_idle ((get_or h.calls k d).thread == x.thread) (get_or h.calls k d).ended _ (eq-eqb _ _ same)
+        (idle_before h.calls x.thread may.idle k d b) (may.later.ends k d b);
+  };
+}
   where
     no_end : (o : Option (ℕ × Reply)) (P : ℕ × Reply → Type 0) → o ≡ None → IfSome o P
     no_end None P e = tt
@@ -116,10 +115,10 @@ begun_follows h x may e =
     not_at None at h = tt
     not_at (Some z) at h = λ same. omega arith
 
--- the calls of a thread that may begin another have ended
+-- If a thread can begin a call, its earlier calls have ended.
 idle_thread : (threads : ℕ) (calls : List CallRecord) (x : CallRecord) → MayFollow threads calls x → has_open calls x.thread ≡ false
 idle_thread threads calls x may = list_any_none (is_open_of x.thread) calls (λ k d b. elim (cases_eq (get_or calls k d).thread x.thread) [
-  | inl same ↦ and_right _ _ (none_left _ _ (may.none_open k d b same))
+  | inl same ↦ and_right _ _ (none_left _ _ ((may.follows k d b).none_open same))
   | inr other ↦ and_left _ _ (ne_eqb _ x.thread other)
 ])
 
@@ -137,7 +136,7 @@ others_begun calls x t other =
     (and_left (x.thread == t) (is_none x.ended) (ne_eqb x.thread t (λ same. other (sym same))))
     ∙ or-false (has_open calls t)
 
--- what the fields tell of the call that is to begin
+-- The facts of a call that begins, from the fields of the history
 pub may_begin : (h : HistoryValue) (busy : List Bool) (latest thread at : ℕ)
     → IsKept h busy latest → thread < h.opening.threads → get_or busy thread false ≡ false → latest < at → MayBegin h thread at
 may_begin h busy latest thread at kept low idle above = record {
@@ -150,12 +149,14 @@ pub too_early : (h : HistoryValue) (busy : List Bool) (latest at : ℕ) → IsKe
     → IsLater h.calls at → ⊥
 too_early h busy latest at kept low = not_later h.calls at (let l = kept.latest_is in omega arith)
 
--- each moment of a beginning is above the call's number
+-- The begin of each call is above its number.
 above_number : (threads : ℕ) (calls : List CallRecord) → IsHistory threads calls → (k : ℕ) → k < length calls
     → k < (call_numbered calls k).begun
 above_number threads calls h zero low =
-    let c : IsCall threads (call_numbered calls 0) = calls_of threads calls h 0 no_call low in c.counted
-above_number threads calls h (suc k) low = grind (arith, pairs_of, above_number threads calls h k (omega arith))
+    (h.each 0 no_call low).counted
+above_number threads calls h (suc k) low =
+    let f : Follows (call_numbered calls k) (call_numbered calls (suc k)) = h.pairs k (suc k) no_call (omega arith) low in
+    omega (arith, above_number threads calls h k (omega arith), f.increasing)
 
 few_calls : (threads : ℕ) (calls : List CallRecord) → IsHistory threads calls → length calls ≤ latest_moment calls
 few_calls threads [] h = omega arith
@@ -184,8 +185,7 @@ kept_pushed h busy latest x kept may fits = record {
 }
   where
     history : IsHistory h.opening.threads (h.calls ++ x ∷ [])
-    history = history_begun h.opening.threads h.calls x kept.history (call_of h.opening.threads h.calls x may)
-        (follows_of h.opening.threads h.calls x may)
+    history = history_begun h.opening.threads h.calls x kept.history may
 
     latest_is : max latest (last_moment x) ≡ latest_moment (h.calls ++ x ∷ [])
     latest_is = let l = kept.latest_is in let p = latest_pushed h.calls x in omega arith
@@ -195,7 +195,7 @@ flag_is None false e = e
 flag_is (Some x) true e = e
 flag_is o b e = refl
 
--- the same calls, of a set that opens with other keys
+-- The same calls with other opening keys
 pub kept_reopened : (h : HistoryValue) (busy : List Bool) (latest : ℕ) (keys : List ℕ) → IsKept h busy latest
     → Opens (record h.opening { keys = keys }) → IsKept (record h { opening = record h.opening { keys = keys } }) busy latest
 kept_reopened h busy latest keys kept opens = record {
@@ -209,15 +209,15 @@ kept_reopened h busy latest keys kept opens = record {
 }
 
 -- A CALL ENDS
--- the other calls of its thread have ended
+-- The other calls of its thread have ended.
 alone : (threads : ℕ) (calls : List CallRecord) (n k : ℕ) → IsHistory threads calls → IsOpen calls n → (k < n) ⊎ (n < k)
     → k < length calls
     → (call_numbered calls k).thread ≡ (call_numbered calls n).thread → is_none (call_numbered calls k).ended ≡ false
 alone threads calls n k h still (inl b) low same =
-    let f : Follows (call_numbered calls k) (call_numbered calls n) = pairs_of threads calls h k n no_call b still.known in
+    let f : Follows (call_numbered calls k) (call_numbered calls n) = h.pairs k n no_call b still.known in
     none_left _ _ (f.none_open same)
 alone threads calls n k h still (inr b) low same =
-    let f : Follows (call_numbered calls n) (call_numbered calls k) = pairs_of threads calls h n k no_call b low in
+    let f : Follows (call_numbered calls n) (call_numbered calls k) = h.pairs n k no_call b low in
     absurd (never_ended (call_numbered calls n).ended _ still.not_ended (f.none_open (sym same)))
 
 idle_ended : (threads : ℕ) (calls : List CallRecord) (n t at : ℕ) (reply : Reply) → IsHistory threads calls → IsOpen calls n
@@ -278,12 +278,13 @@ kept_ended h busy latest n at reply kept still above fits = record {
     here : (t : ℕ) → t < h.opening.threads → t ≡ x.thread → x.thread < length busy
     here t low same = let f = kept.flags in omega arith
 
--- the thread of a call is one of the threads that a history may have
+-- The thread of a call is below the maximum number of threads.
 thread_of_call : (h : HistoryValue) (busy : List Bool) (latest n : ℕ) → IsKept h busy latest → n < length h.calls
     → (call_numbered h.calls n).thread < MOST_THREADS
-thread_of_call h busy latest n kept inside = grind (arith, calls_of)
+thread_of_call h busy latest n kept inside =
+    let c : IsCall h.opening.threads (call_numbered h.calls n) = kept.history.each n no_call inside in omega (arith, c.of_a_thread, kept.opens.within.few)
 
--- what the fields tell of the call that is to end
+-- The facts of a call that ends, from the fields of the history
 pub call_read : (calls : List CallRecord) (n : ℕ) (x : CallRecord) → n < length calls → x ≡ get_or calls n x
     → x ≡ call_numbered calls n
 call_read calls n x inside e = e ∙ get_or_default calls n x no_call inside
@@ -316,11 +317,11 @@ pub thread_read : (h : HistoryValue) (busy : List Bool) (latest n : ℕ) (x : Ca
     → IsKept h busy latest → n < length h.calls → x ≡ call_numbered h.calls n → x.thread < MOST_THREADS
 thread_read h busy latest n x kept inside e = rw e (thread_of_call h busy latest n kept inside)
 
--- a history without calls
+-- A history without calls
 pub kept_new : (op : Opening) → Opens op → IsKept (record { opening = op; calls = [] }) (replicate MOST_THREADS false) 0
 kept_new op o = record {
   opens = o;
-  history = tt;
+  history = empty_history op.threads;
   flags = let f = o.within.few in omega arith;
   busy_if_open = λ t low. let f = o.within.few in get_or-replicate MOST_THREADS t false false (omega arith);
   latest_is = refl;

@@ -1,4 +1,3 @@
-pub mod CallSteps
 pub mod Calls
 pub mod FirstMoments
 pub mod SetFitting

@@ -1,18 +1,19 @@
--- Lists, by recursion: facts of each element, of each pair in the order of the list, of some element.
+-- Facts of lists by recursion: of each element, of each pair in the order of the list, of some element.
 use Rattle.std.proofs.Common.{◌≡◌, ℕ, zero, suc, ◌<◌, ◌⊎◌, Bool, true, false, inl, inr, List, [], ◌∷◌, ◌++◌, length, get_or, map}
-use Rattle.std.proofs.Common.{refl, arith}
+use Rattle.std.proofs.Common.{refl, subst, ap, ◌∙◌, arith}
+use Rattle.std.proofs.lemmas.List.{length-map, get_or-map}
 use Rattle.std.specs.Prelude.{filter, Contains, AllPairs}
 use Rattle.std.specs.List.{AllByRecursion}
 use Rattle.std.proofs.lemmas.List.Elements.{All-from_recursion, recursion_from_All, filter_passes}
 use Rattle.std.proofs.lemmas.List.Kept.{AllPairs-cons}
 use Rattle.std.proofs.lemmas.Bool.{cases_Bool}
 
--- a fact of each element and each later one
+-- A fact of each element and each later element
 abbrev pub Pairs : {X : Type 0} → (X → X → Type 0) → List X → Type 0
 Pairs R [] = Unit {0}
 Pairs R (x ∷ xs) = AllByRecursion (R x) xs × Pairs R xs
 
--- some element, where it stands
+-- A fact of some element
 abbrev pub SomeOf : {X : Type 0} → (X → Type 0) → List X → Type 0
 SomeOf P [] = ⊥
 SomeOf P (x ∷ xs) = P x ⊎ SomeOf P xs
@@ -73,10 +74,6 @@ module _ {X : Type 0} (P : X → Type 0) where
   some_first (x ∷ xs) ys (inl a) = inl a
   some_first (x ∷ xs) ys (inr a) = inr (some_first xs ys a)
 
-  pub some_second : (xs ys : List X) → SomeOf P ys → SomeOf P (xs ++ ys)
-  some_second [] ys a = a
-  some_second (x ∷ xs) ys a = inr (some_second xs ys a)
-
   pub some_last : (xs : List X) (y : X) → P y → SomeOf P (xs ++ y ∷ [])
   some_last [] y a = inl a
   some_last (x ∷ xs) y a = inr (some_last xs y a)
@@ -94,7 +91,7 @@ module _ {X : Type 0} (P : X → Type 0) where
   all_at (x ∷ xs) d zero l a = a.0
   all_at (x ∷ xs) d (suc i) l a = all_at xs d i (omega arith) a.1
 
--- an element of a list with an equal element
+-- An element that equals some element of the list is in the list.
 pub some_contains : {X : Type 0} (y : X) (xs : List X) → SomeOf (λ x. x ≡ y) xs → Contains xs y
 some_contains y [] a = absurd a
 some_contains y (x ∷ xs) (inl a) = (0, omega arith, a)
@@ -103,13 +100,26 @@ some_contains y (x ∷ xs) (inr a) =
     let l : r.0 < length xs = r.1 in
     (suc r.0, omega arith, r.2)
 
--- a fact of each element of one list with each of another
-pub all_across : {X : Type 0} (P Q : X → Type 0) (R : X → X → Type 0) → ((x y : X) → P x → Q y → R x y) → (xs ys : List X)
-    → AllByRecursion P xs → AllByRecursion Q ys → AllByRecursion (λ x. AllByRecursion (R x) ys) xs
-all_across P Q R f [] ys a b = tt
-all_across P Q R f (x ∷ xs) ys a b = (all_imply Q (R x) (λ y q. f x y a.0 q) ys b, all_across P Q R f xs ys a.1 b)
+pub contains_some : {X : Type 0} (y : X) (xs : List X) → Contains xs y → SomeOf (λ x. x ≡ y) xs
+contains_some y [] (k, l, e) = absurd (omega arith)
+contains_some y (x ∷ xs) (zero, l, e) = inl e
+contains_some y (x ∷ xs) (suc k, l, e) = inr (contains_some y xs (k, omega arith, e))
 
--- from a fact of each and a fact of each pair
+pub contains_map : {X Y : Type 0} (f : X → Y) (xs : List X) (x : X) → Contains xs x → Contains (map f xs) (f x)
+contains_map f xs x (k, l, e) = (k, omega (arith, length-map xs f), get_or-map f xs k x (f x) l ∙ ap f e)
+
+-- The element itself
+pub some_one : {X : Type 0} (P : X → Type 0) (xs : List X) → SomeOf P xs → (z : X) × P z × SomeOf (λ x. x ≡ z) xs
+some_one P [] s = absurd s
+some_one P (x ∷ xs) (inl p) = (x, p, inl refl)
+some_one P (x ∷ xs) (inr s) = let o = some_one P xs s in (o.0, o.1, inr o.2)
+
+pub some_all : {X : Type 0} (P : X → Type 0) (y : X) (xs : List X) → SomeOf (λ x. x ≡ y) xs → AllByRecursion P xs → P y
+some_all P y [] s a = absurd s
+some_all P y (x ∷ xs) (inl e) a = subst P e a.0
+some_all P y (x ∷ xs) (inr s) a = some_all P y xs s a.1
+
+-- A fact of each pair, from a fact of each element and a fact of each pair
 pub pairs_imply : {X : Type 0} (P : X → Type 0) (R S : X → X → Type 0) → ((x y : X) → P x → P y → R x y → S x y) → (xs : List X)
     → AllByRecursion P xs → Pairs R xs → Pairs S xs
 pairs_imply P R S f [] a b = tt
@@ -127,11 +137,6 @@ module _ {X : Type 0} (R : X → X → Type 0) where
     | inr b ↦ rw b (pairs_filter p xs a.1)
   ]
 
-  pub pairs-append : (xs ys : List X) → Pairs R xs → Pairs R ys → AllByRecursion (λ x. AllByRecursion (R x) ys) xs
-      → Pairs R (xs ++ ys)
-  pairs-append [] ys a b c = b
-  pairs-append (x ∷ xs) ys a b c = (all-append (R x) xs ys a.0 c.0, pairs-append xs ys a.1 b c.1)
-
   pub pairs_last : (xs : List X) (y : X) → Pairs R xs → AllByRecursion (λ x. R x y) xs → Pairs R (xs ++ y ∷ [])
   pairs_last [] y a b = (tt, tt)
   pairs_last (x ∷ xs) y a b = (all-append (R x) xs (y ∷ []) a.0 (b.0, tt), pairs_last xs y a.1 b.1)
@@ -140,48 +145,18 @@ module _ {X : Type 0} (R : X → X → Type 0) where
   pairs_std [] a = λ i j d l m. absurd (omega arith)
   pairs_std (x ∷ xs) a = AllPairs-cons R x xs (All-from_recursion (R x) xs a.0) (pairs_std xs a.1)
 
-  -- where the elements that pass exclude each other, and one passes, it alone is left
-  pub one_left : (p : X → Bool) → ((x y : X) → R x y → p x ≡ true → p y ≡ true → ⊥) → (xs : List X) → Pairs R xs
-      → SomeOf (λ x. p x ≡ true) xs → (x : X) × (filter p xs ≡ x ∷ []) × (p x ≡ true)
-  one_left p h [] a s = absurd s
-  one_left p h (x ∷ xs) a (inl s) =
-      let e : filter p xs ≡ [] = none_left p h x s xs a.0 in (x, (rw (s, e) refl), s)
-    where
-      none_left : (p : X → Bool) → ((x y : X) → R x y → p x ≡ true → p y ≡ true → ⊥) → (x : X) → p x ≡ true
-          → (ys : List X) → AllByRecursion (R x) ys → filter p ys ≡ []
-      none_left p h x s [] b = refl
-      none_left p h x s (y ∷ ys) b = elim (cases_Bool (p y)) [
-        | inl t ↦ absurd (h x y b.0 s t)
-        | inr t ↦ rw t (none_left p h x s ys b.1)
-      ]
-  one_left p h (x ∷ xs) a (inr s) =
-      let r : (z : X) × (filter p xs ≡ z ∷ []) × (p z ≡ true) = one_left p h xs a.1 s in
-      elim (cases_Bool (p x)) [
-        | inl t ↦ absurd (clash p h x t xs a.0 s)
-        | inr t ↦ (r.0, rw t r.1, r.2)
-      ]
-    where
-      clash : (p : X → Bool) → ((x y : X) → R x y → p x ≡ true → p y ≡ true → ⊥) → (x : X) → p x ≡ true
-          → (ys : List X) → AllByRecursion (R x) ys → SomeOf (λ y. p y ≡ true) ys → ⊥
-      clash p h x t [] b c = c
-      clash p h x t (y ∷ ys) b (inl c) = h x y b.0 t c
-      clash p h x t (y ∷ ys) b (inr c) = clash p h x t ys b.1 c
+  pub pairs_rec : (xs : List X) → AllPairs R xs → Pairs R xs
+  pairs_rec [] a = tt
+  pairs_rec (x ∷ xs) a = (
+    recursion_from_All (R x) xs (λ j d l. a zero (suc j) d (omega arith) (omega arith)),
+    pairs_rec xs (λ i j d l m. a (suc i) (suc j) d (omega arith) (omega arith)),
+  )
 
--- no element passes
+-- No element passes the test.
 pub filter_none : {X : Type 0} (p : X → Bool) (xs : List X) → AllByRecursion (λ x. p x ≡ false) xs → filter p xs ≡ []
 filter_none p [] a = refl
 filter_none p (x ∷ xs) a = let e : p x ≡ false = a.0 in rw e (filter_none p xs a.1)
 
--- what is left passes
+-- Each element that is left passes the test.
 pub all_left : {X : Type 0} (p : X → Bool) (xs : List X) → AllByRecursion (λ x. p x ≡ true) (filter p xs)
 all_left p xs = recursion_from_All (λ x. p x ≡ true) (filter p xs) (filter_passes p xs)
-
--- an element that passes is left
-pub some_filter : {X : Type 0} (P : X → Type 0) (p : X → Bool) (xs : List X) → SomeOf (λ x. P x × (p x ≡ true)) xs
-    → SomeOf P (filter p xs)
-some_filter P p [] a = a
-some_filter P p (x ∷ xs) (inl a) = let e : p x ≡ true = a.1 in rw e (inl a.0)
-some_filter P p (x ∷ xs) (inr a) = elim (cases_Bool (p x)) [
-  | inl b ↦ rw b (inr (some_filter P p xs a))
-  | inr b ↦ rw b (some_filter P p xs a)
-]

@@ -1,14 +1,15 @@
 -- THE PLACEMENT THEOREM: the order of placement linearizes the history of a run, and leaves its last content.
-use Rattle.std.proofs.Common.{rules, ◌≡◌, ℕ, suc, ◌<◌, true, false, inl, inr, List, [], ◌∷◌, sym, refl, subst, ap, ◌∙◌, arith, ◌≢◌, ◌≤◌, length, map}
-use Rattle.std.specs.Prelude.{◌==◌, Option, Some, None, filter, slice_index, Contains, All, AllPairs}
+use Rattle.std.proofs.Common.{◌≡◌, ◌≢◌, ℕ, zero, suc, ◌<◌, ◌≤◌, true, false, inl, inr, List, [], ◌∷◌, sym, refl, subst, ap}
+use Rattle.std.proofs.Common.{◌∙◌, arith, length, map}
+use Rattle.std.specs.Prelude.{◌==◌, Option, Some, None, IfSome, IsSomeAnd, slice_index, Contains, All, AllPairs}
 use Rattle.std.specs.List.{AllByRecursion}
-use Rattle.std.specs.List.Sorted.{IsStrictlyIncreasing}
+use Rattle.std.specs.List.Sorted.{IsStrictlyIncreasing, IsPermutation}
 use Rattle.std.proofs.lemmas.Bool.Decides.{nat_tests}
-use Rattle.std.proofs.lemmas.Bool.{cases_Bool, false_from_ne_true}
-use Rattle.std.proofs.lemmas.Grind.{common_steps}
+use Rattle.std.proofs.lemmas.Bool.{cases_Bool}
 use Rattle.std.proofs.lemmas.List.{length-map}
 use Rattle.std.proofs.Math.ListN.{get_or-map}
-use Rattle.std.proofs.lemmas.List.Elements.{All-from_recursion}
+use Rattle.std.proofs.lemmas.List.Elements.{All-from_recursion, recursion_from_All}
+use Rattle.std.proofs.lemmas.List.Sorted.{All-permutation, Contains-permutation}
 use Rattle.lset_words.specs.declared.Call.{Call}
 use Rattle.lset_words.specs.declared.Call.TheVariants.{Add, Remove}
 use Rattle.lset_words.specs.declared.Reply.{Reply}
@@ -16,31 +17,45 @@ use Rattle.lset_words.specs.declared.Reply.TheVariants.{True}
 use Rattle.lset_words.specs.SequentialSet.{SetState, Answered, has_key, count_of, reply_to, after_call, opening_set, IsLegal, set_left}
 use Rattle.lset_words.specs.Log.{Entry, Change, TracedCall, Log, calls_at, history_at, record_of}
 use Rattle.lset_words.specs.Log.Entry.{began, stepped}
-use Rattle.lset_words.specs.Account.{Content, Changes, MayChange, Enters, Contents, Counts, Account}
-use Rattle.lset_words.specs.Placement.{Standing, makes_change, reply_by, at_moment, IsPlacement, StandsBy, StandsAt, standing, placed_of, by_moments, no_traced}
-use Rattle.lset_words.specs.Placement.{traced_at, place_at}
-use Rattle.lset_words.proofs.Numbers.{equal_test}
+use Rattle.lset_words.specs.Account.{Content, Changes, MayChange, Contents, Counts, Account}
+use Rattle.lset_history.specs.Placement.{Standing, makes_change, reply_by, ComesBefore, IsPlacement, StandsBy, StandsAt, standing}
+use Rattle.lset_history.specs.Placement.{placed_of, no_traced, traced_at, place_at}
+use Rattle.lset_words.proofs.Numbers.{same_or_not}
 use Rattle.lset_words.proofs.IncreasingLists.{IncreasesFrom, same_increasing, increases_from_increasing}
 use Rattle.lset_words.specs.declared.history.CallRecord.{CallRecord}
 use Rattle.lset_words.specs.declared.history.Placed.{Placed}
 use Rattle.lset_words.specs.History.{call_numbered, Precedes, answered, Linearizes}
 use Rattle.lset_words.specs.Words.{Opening}
-use Rattle.lset_history.proofs.Lists.{Pairs, SomeOf, all_imply, all_both, all_filter, pairs_filter, pairs_imply, one_left, filter_none, some_imply, some_filter}
-use Rattle.lset_history.proofs.Lists.{all_at, all_map, some_at, some_map, some_contains, pairs_map, pairs_std, map_twice}
+use Rattle.lset_history.proofs.Lists.{Pairs, SomeOf, all_imply, some_imply, all_map, some_contains, contains_map, contains_some, some_one}
+use Rattle.lset_history.proofs.Lists.{pairs_map, pairs_std, pairs_rec, pairs_imply, map_twice}
 use Rattle.lset_history.proofs.Keys.{has_true, has_false}
-use Rattle.lset_history.proofs.Calls.{Run, Traced, ChangesAt, Calls}
+use Rattle.lset_history.proofs.Calls.{Run, Later, Calls, run_of, calls_of}
 use Rattle.lset_history.proofs.SetFitting.{SameKeys, increases_for, replies_from_fits}
 use Rattle.lset_history.proofs.SetStates.{Shows, keys_after, counts_after, set_after, set_at, shows_at}
-use Rattle.lset_history.proofs.Standings.{Stood, Follows, Changing, changing, Reading, IsStanding, During, during, ended_place, EndedPlace, reading, stood, follow}
+use Rattle.lset_history.proofs.Standings.{Stood, Changing, changing, Reading, IsStanding, during, ended_place, EndedPlace, reading, stood}
 use Rattle.lset_history.proofs.Standings.{has_place}
-use Rattle.lset_history.proofs.PlacementOrder.{moment_of, Leads, Stays, Ahead, ahead, all_by_moments, some_by_moments, order_leads}
-use Rattle.lset_history.proofs.CallSteps.{run_of, calls_of}
 
--- the call with the reply that it has where it stands
+-- A call, with its reply in the order
 abbrev pub answered_of : Standing → Answered
 answered_of s = record { thread = s.traced.thread; call = s.traced.call; reply = reply_by s.traced.changed s.traced.ended }
 
--- THE SET ANSWERS a call that changes
+-- The set returns the replies in turn, and its state changes from s to t.
+abbrev Leads : ℕ → SetState → SetState → List Standing → Type 0
+Leads quota s t xs = IsLegal quota s (map answered_of xs) × (set_left s (map answered_of xs) ≡ t)
+
+-- The set returns the reply of one call, and its state changes from s to t, or stays.
+abbrev LeadsTo : ℕ → SetState → SetState → Standing → Type 0
+LeadsTo quota s t x = let b = answered_of x in
+    (reply_to quota s b.thread b.call ≡ b.reply) × (after_call s b.thread b.call b.reply ≡ t)
+
+abbrev Stays : ℕ → SetState → Standing → Type 0
+Stays quota s x = LeadsTo quota s s x
+
+leads_first : (quota : ℕ) (s t u : SetState) (x : Standing) (xs : List Standing) → LeadsTo quota s t x → Leads quota t u xs
+    → Leads quota s u (x ∷ xs)
+leads_first quota s t u x xs a b = let c = rw (← a.1) at b in ((a.0, c.0), c.1)
+
+-- THE REPLY OF THE SET to a call that changes the set
 pub change_replies : (threads quota : ℕ) (content after : Content) (counts : ℕ → ℕ) (s : SetState) (t : ℕ) (call : Call)
     (change : Change) → Shows threads content counts s → t < threads → Changes (Some change) content after
     → MayChange quota (counts t) call false (Some change) → (reply_to quota s t call ≡ True)
@@ -61,10 +76,10 @@ change_replies threads quota content after counts s t call (key, false) w l c m 
     let a : has_key key.0 s.keys ≡ true = has_true key.0 s.keys ((w.keys key.0).0 c.0) in
     (rw (e, a) refl, rw e refl)
 
--- AND ONE THAT READS
+-- THE REPLY OF THE SET to a call that changes nothing
 pub reading_stays : (r : Run) (s : Standing) (state : SetState) → Reading r s → SameKeys (r.contents s.moment) state.keys
     → IncreasesFrom 0 state.keys
-    → count_of state s.traced.thread ≡ r.counts s.moment s.traced.thread → Stays r.quota answered_of state s
+    → count_of state s.traced.thread ≡ r.counts s.moment s.traced.thread → Stays r.quota state s
 reading_stays r s state h same increasing n =
     let e : reply_by s.traced.changed s.traced.ended ≡ h.end.1 = replied s.traced.changed s.traced.ended h.no_change h.ended in
     let p : (reply_to r.quota state s.traced.thread s.traced.call ≡ h.end.1)
@@ -77,109 +92,13 @@ reading_stays r s state h same increasing n =
         → reply_by changed ended ≡ h.end.1
     replied changed ended e f = rw (e, f) refl
 
--- a changing call's entry is the moment's
-pub entry_of : (r : Run) (s : Standing) (j : ℕ) (e : Entry) (c : Changing r s) → s.moment ≡ suc j → r.log j ≡ e
-    → (c.change.before ≡ j) × (e ≡ stepped s.traced.thread (Some c.change.change) c.change.reply)
-entry_of r s j e c m l =
-    let b : s.moment ≡ suc c.change.before = c.change.is in
-    let f : c.change.before ≡ j = omega arith in
-    let g : r.log j ≡ stepped s.traced.thread (Some c.change.change) c.change.reply =
-    subst (λ z. r.log z ≡ stepped s.traced.thread (Some c.change.change) c.change.reply) f c.change.entry in
-    (f, sym l ∙ g)
-
-module _ (r : Run) (last : ℕ) (calls : List TracedCall) (places : List (Option ℕ)) (ss : List Standing)
-    (up : AllByRecursion (Stood r last calls places) ss) where
-  abbrev Here : ℕ → Standing → Type 0
-  Here m s = Stood r last calls places s × (s.moment ≡ m)
-
-  here : (m : ℕ) → AllByRecursion (Here m) (at_moment m ss)
-  here m = all_both (Stood r last calls places) (λ s. s.moment ≡ m) (at_moment m ss)
-      (all_filter (Stood r last calls places) (λ s. s.moment == m) ss up) (moment_of m ss)
-
-  pub none_changes : (m : ℕ) → ((s : Standing) → Changing r s → s.moment ≡ m → ⊥) → filter makes_change (at_moment m ss) ≡ []
-  none_changes m h = filter_none makes_change (at_moment m ss)
-      (all_imply (Here m) (λ s. makes_change s ≡ false) each (at_moment m ss) (here m))
-    where
-      each : (s : Standing) → Here m s → makes_change s ≡ false
-      each s a = false_from_ne_true (makes_change s) (λ t. h s (changing r last calls places s a.0 t) a.1)
-
-  -- two calls do not change at one moment
-  clash : (m : ℕ) (s q : Standing) → Here m s → Here m q → Follows s q → makes_change s ≡ true → makes_change q ≡ true → ⊥
-  clash m s q a b f t u = search rules
-
-  pub one_changes : (m : ℕ) → Pairs Follows ss → SomeOf (λ s. (makes_change s ≡ true) × (s.moment ≡ m)) ss
-      → (x : Standing) × (filter makes_change (at_moment m ss) ≡ x ∷ []) × Changing r x × (x.moment ≡ m)
-  one_changes m f h =
-      let o : (x : Standing) × (filter makes_change (at_moment m ss) ≡ x ∷ []) × (makes_change x ≡ true) =
-      one_left Never makes_change (λ x y n. n) (at_moment m ss)
-      (pairs_imply (Here m) Follows Never (λ s q a b c. clash m s q a b c) (at_moment m ss) (here m)
-      (pairs_filter Follows (λ s. s.moment == m) ss f))
-      (some_filter (λ s. makes_change s ≡ true) (λ s. s.moment == m) ss
-      (some_imply (λ s. (makes_change s ≡ true) × (s.moment ≡ m)) (λ s. (makes_change s ≡ true)
-      × ((s.moment == m) ≡ true))
-      (λ s p. (p.0, equal_test s.moment m p.1)) ss h)) in
-      let a : AllByRecursion (Here m) (o.0 ∷ []) = subst (AllByRecursion (Here m)) o.1
-      (all_filter (Here m) makes_change (at_moment m ss) (here m)) in
-      (o.0, o.1, changing r last calls places o.0 a.0.0 o.2, a.0.1)
-    where
-      Never : Standing → Standing → Type 0
-      Never s q = makes_change s ≡ true → makes_change q ≡ true → ⊥
-
-  -- THE SET IS LED ON by the entry
-  pub turns : (j : ℕ) (e : Entry) (s : SetState) → Pairs Follows ss → r.log j ≡ e
-      → Enters r.threads r.quota r.log r.contents r.counts j e → Shows r.threads (r.contents j) (r.counts j) s
-      → ((t : ℕ) (change : Change) (reply : Option Reply) → r.log j ≡ stepped t (Some change) reply
-      → SomeOf (λ q. (makes_change q ≡ true) × (q.moment ≡ suc j)) ss)
-      → Leads r.quota answered_of s (set_after e s) (filter makes_change (at_moment (suc j) ss))
-  turns j (began t call) s f l h w some =
-      subst (Leads r.quota answered_of s s) (sym (none_changes (suc j) never)) (tt, refl)
-    where
-      never : (q : Standing) → Changing r q → q.moment ≡ suc j → ⊥
-      never q c m = cc
-  turns j (stepped t None reply) s f l h w some =
-      subst (Leads r.quota answered_of s s) (sym (none_changes (suc j) never)) (tt, refl)
-    where
-      never : (q : Standing) → Changing r q → q.moment ≡ suc j → ⊥
-      never q c m = cc
-  turns j (stepped t (Some change) reply) s f l h w some =
-      let o : (x : Standing) × (filter makes_change (at_moment (suc j) ss) ≡ x ∷ []) × Changing r x × (x.moment ≡ suc j) =
-      one_changes (suc j) f (some t change reply l) in
-      subst (Leads r.quota answered_of s (set_after (stepped t (Some change) reply) s)) (sym o.1) (leads o.0 o.2 o.3)
-    where
-      leads : (x : Standing) → Changing r x → x.moment ≡ suc j → Leads r.quota answered_of s
-          (set_after (stepped t (Some change) reply) s) (x ∷ [])
-      leads x c m =
-          let i : (c.change.before ≡ j) × (stepped t (Some change) reply ≡ stepped x.traced.thread
-          (Some c.change.change) c.change.reply) =
-          entry_of r x j (stepped t (Some change) reply) c m l in
-          let ei : stepped t (Some change) reply ≡ stepped x.traced.thread (Some c.change.change) c.change.reply = i.1 in
-          let et : x.traced.thread ≡ t = cc in
-          let ec : c.change.change ≡ change = cc in
-          let m0 : MayChange r.quota (r.counts c.change.before x.traced.thread) x.traced.call false (Some c.change.change) =
-          c.change.may in
-          let m1 : MayChange r.quota (r.counts j x.traced.thread) x.traced.call false (Some c.change.change) =
-          subst (λ z. MayChange r.quota (r.counts z x.traced.thread) x.traced.call false (Some c.change.change)) i.0 m0 in
-          let m2 : MayChange r.quota (r.counts j t) x.traced.call false (Some c.change.change) =
-          subst (λ z. MayChange r.quota (r.counts j z) x.traced.call false (Some c.change.change)) et m1 in
-          let m3 : MayChange r.quota (r.counts j t) x.traced.call false (Some change) =
-          subst (λ z. MayChange r.quota (r.counts j t) x.traced.call false (Some z)) ec m2 in
-          let p : (reply_to r.quota s t x.traced.call ≡ True)
-          × (after_call s t x.traced.call True ≡ record {
-            keys = keys_after
-                (Some change) s.keys;
-            counts = counts_after t (Some change) s.counts;
-          }) =
-          change_replies r.threads r.quota (r.contents j) (r.contents (suc j))
-          (r.counts j) s t x.traced.call change w h.of_a_thread h.content m3 in
-          let q : reply_by x.traced.changed x.traced.ended ≡ True = (rw c.is refl) in (
-            (ap (λ z. reply_to r.quota s z x.traced.call) et ∙ p.0 ∙ sym q, tt),
-            ap (λ z. after_call s z x.traced.call (reply_by x.traced.changed x.traced.ended)) et
-                ∙ ap (λ z. after_call s t x.traced.call z) q ∙ p.1,
-          )
-
--- the history does not have the later one first
+-- The call of the later place does not precede the call of the earlier one.
 abbrev InTime : List CallRecord → Placed → Placed → Type 0
 InTime history p q = Precedes (call_numbered history q.call) (call_numbered history p.call) → ⊥
+
+-- A change at moment m
+abbrev ChangesIn : ℕ → Standing → Type 0
+ChangesIn m q = (makes_change q ≡ true) × (q.moment ≡ m)
 
 module _ (op : Opening) (last : ℕ) (log : Log) (contents : Contents) (counts : Counts)
     (a : Account op last log contents counts) (places : List (Option ℕ))
@@ -194,9 +113,6 @@ module _ (op : Opening) (last : ℕ) (log : Log) (contents : Contents) (counts :
   abbrev ss : List Standing
   ss = standing 0 calls places
 
-  abbrev in_order : List Standing
-  in_order = by_moments last ss
-
   abbrev history : List CallRecord
   history = history_at log last
 
@@ -209,16 +125,10 @@ module _ (op : Opening) (last : ℕ) (log : Log) (contents : Contents) (counts :
   all_stood : AllByRecursion Stands ss
   all_stood = stood r last calls places told stands
 
-  followed : Pairs Follows ss
-  followed = follow r last calls places told stands
-
-  placed_stood : AllByRecursion Stands in_order
-  placed_stood = all_by_moments Stands ss all_stood last
-
   shown : (k : ℕ) → k ≤ last → Shows op.threads (contents k) (counts k) (set_at op log k)
   shown = shows_at op last log contents counts a
 
-  -- the history's calls
+  -- The calls of the history
   record_is : (i : ℕ) → call_numbered history i ≡ record_of (traced_at calls i)
   record_is i = get_or-map record_of calls i no_traced
 
@@ -231,141 +141,218 @@ module _ (op : Opening) (last : ℕ) (log : Log) (contents : Contents) (counts :
       answer : CallRecord → Answered
       answer c = record { thread = c.thread; call = c.call; reply = reply_by s.traced.changed s.traced.ended }
 
-  -- LEGAL
-  changer_stands : (j t : ℕ) (change : Change) (reply : Option Reply) → j < last → log j ≡ stepped t (Some change) reply
-      → SomeOf (λ q. (makes_change q ≡ true) × (q.moment ≡ suc j)) ss
-  changer_stands j t change reply l e =
-      let o : (i : ℕ) × (i < length calls) × ChangesAt (suc j) (traced_at calls i) =
-      some_at (ChangesAt (suc j)) calls no_traced (told.changers j t change reply l e) in
+  -- BETWEEN TWO CHANGES the set stays the same.
+  unchanged : (e : Entry) (s : SetState) → ((t : ℕ) (change : Change) (reply : Option Reply) → e ≡ stepped t (Some change) reply → ⊥)
+      → set_after e s ≡ s
+  unchanged (began t call) s none = refl
+  unchanged (stepped t None reply) s none = refl
+  unchanged (stepped t (Some change) reply) s none = absurd (none t change reply refl)
+
+  quiet : (j m : ℕ) → j ≤ m → ((i t : ℕ) (change : Change) (reply : Option Reply) → j ≤ i → i < m → log i ≡ stepped t (Some change) reply → ⊥)
+      → set_at op log m ≡ set_at op log j
+  quiet j zero l none = let e : j ≡ 0 = omega arith in rw e refl
+  quiet j (suc m) l none = elim (same_or_not j (suc m)) [
+    | inl e ↦ rw e refl
+    | inr d ↦ unchanged (log m) (set_at op log m) (λ t change reply e. none m t change reply (omega arith) (omega arith) e)
+        ∙ quiet j m (omega arith) (λ i t change reply from below e. none i t change reply from (omega arith) e)
+  ]
+
+  -- A CALL AT ITS LINEARIZATION POINT
+  changed : (x : Standing) → Stands x → (c : Changing r x) → LeadsTo op.quota (set_at op log c.change.before) (set_at op log x.moment) x
+  changed x h c =
+      let j : ℕ = c.change.before in
+      let m : x.moment ≡ suc j = c.change.is in
+      let u : x.moment ≤ last = (during h).upto in
+      let e = rw c.change.entry at (a.enters j (omega arith)) in
+      let p = change_replies op.threads op.quota (contents j) (contents (suc j)) (counts j) (set_at op log j) x.traced.thread
+      x.traced.call c.change.change (shown j (omega arith)) h.trace.of_a_thread e.content c.change.may in
+      let q : reply_by x.traced.changed x.traced.ended ≡ True = rw c.is refl in
+      (rw q p.0, rw (q, m, c.change.entry) p.1)
+
+  read : (x : Standing) → Stands x → makes_change x ≡ false → Stays op.quota (set_at op log x.moment) x
+  read x h still =
+      let w : Shows op.threads (contents x.moment) (counts x.moment) (set_at op log x.moment) =
+      shown x.moment (during h).upto in
+      reading_stays r x (set_at op log x.moment) (reading h still) w.keys w.increasing
+      (w.numbers x.traced.thread h.trace.of_a_thread)
+
+  -- A call that ends at its point or later does not end before it.
+  no_end : (o : Option (ℕ × Reply)) (moment begun : ℕ) → IfSome o (λ (e : ℕ × Reply). moment ≤ e.0)
+      → IsSomeAnd o (λ (e : ℕ × Reply). e.0 < begun) → begun ≤ moment → ⊥
+  no_end None moment begun f p l = p
+  no_end (Some e) moment begun f p l = omega arith
+
+  -- Two calls do not change the set at one moment.
+  clash : (s q : Standing) → Stands s → Stands q → s.number < q.number → s.moment ≡ q.moment → makes_change s ≡ true
+      → makes_change q ≡ true → ⊥
+  clash s q h i l e f g =
+      let later : Later s.traced q.traced = rw (h.call_is, i.call_is) at (told.pairs s.number q.number no_traced l i.known) in
+      let c = changing h f in let d = changing i g in
+      let before : c.change.before ≡ d.change.before = omega (arith, c.change.is, d.change.is) in
+      let same : s.traced.thread ≡ q.traced.thread = cc (before, c.change.entry, d.change.entry) in
+      no_end s.traced.ended s.moment q.traced.begun (during h).in_call (later.one_thread same) (omega (arith, (during i).from))
+
+  -- TWO CALLS IN THE ORDER
+  comes_on : (s q : Standing) → Stands s → Stands q → ComesBefore s q → (s.moment ≤ q.moment) × (makes_change q ≡ true → s.moment < q.moment)
+  comes_on s q h i b = (moments, later)
+    where
+      moments : s.moment ≤ q.moment
+      moments = grind arith
+
+      later : makes_change q ≡ true → s.moment < q.moment
+      later g = elim (cases_Bool (makes_change s)) [
+        | inl f ↦ elim (same_or_not s.moment q.moment) [
+          | inl e ↦ absurd (let l : s.number < q.number = grind arith in clash s q h i l e f g)
+          | inr d ↦ omega (arith, moments)
+        ]
+        | inr f ↦ grind arith
+      ]
+
+  -- The calls of the list have their points after moment j, or at j without a change.
+  abbrev Late : ℕ → List Standing → Type 0
+  Late m xs = AllByRecursion (λ q. (m ≤ q.moment) × (makes_change q ≡ true → m < q.moment)) xs
+
+  late_from : (x : Standing) → Stands x → (xs : List Standing) → AllByRecursion Stands xs → AllByRecursion (ComesBefore x) xs → Late x.moment xs
+  late_from x h [] s b = tt
+  late_from x h (q ∷ xs) s b = (comes_on x q h s.0 b.0, late_from x h xs s.1 b.1)
+
+  none_due : (m i : ℕ) (xs : List Standing) → Late m xs → suc i ≤ m → SomeOf (ChangesIn (suc i)) xs → ⊥
+  none_due m i [] late l s = s
+  none_due m i (q ∷ xs) late l (inl s) = let b : m < q.moment = late.0.1 s.0 in omega (arith, s.1)
+  none_due m i (q ∷ xs) late l (inr s) = none_due m i xs late.1 l s
+
+  -- Each change after moment j is a call of the list.
+  abbrev Due : ℕ → List Standing → Type 0
+  Due j xs = (i t : ℕ) (change : Change) (reply : Option Reply) → j ≤ i → i < last → log i ≡ stepped t (Some change) reply
+      → SomeOf (ChangesIn (suc i)) xs
+
+  -- LEGAL, from the set at moment j on
+  leads : (xs : List Standing) (j : ℕ) → j ≤ last → AllByRecursion Stands xs → Pairs ComesBefore xs → Late j xs → Due j xs
+      → Leads op.quota (set_at op log j) (set_at op log last) xs
+  leads [] j l s b late due = (tt, sym (quiet j last l due))
+  leads (x ∷ xs) j l s b late due =
+      let u : x.moment ≤ last = (during s.0).upto in
+      let then : Late x.moment xs = late_from x s.0 xs s.1 b.0 in
+      let rest : Leads op.quota (set_at op log x.moment) (set_at op log last) xs = leads xs x.moment u s.1 b.1 then
+      (λ i t change reply from below e. elim (due i t change reply (omega (arith, late.0.0)) below e) [
+        | inl q ↦ absurd (omega (arith, q.1))
+        | inr q ↦ q
+      ]) in
+      elim (cases_Bool (makes_change x)) [
+        | inl f ↦ (let c = changing s.0 f in
+            let m : x.moment ≡ suc c.change.before = c.change.is in
+            let first : j < x.moment = late.0.1 f in
+            subst (λ z. Leads op.quota z (set_at op log last) (x ∷ xs))
+            (quiet j c.change.before (omega arith) (λ i t change reply from below e. elim (due i t change reply from (omega arith) e) [
+              | inl q ↦ omega (arith, q.1)
+              | inr q ↦ none_due x.moment i xs then (omega arith) q
+            ])) (leads_first op.quota _ _ _ x xs (changed x s.0 c) rest))
+        | inr f ↦ subst (λ z. Leads op.quota z (set_at op log last) (x ∷ xs))
+            (quiet j x.moment late.0.0 (λ i t change reply from below e. elim (due i t change reply from (omega arith) e) [
+              | inl q ↦ cc (q.0, f)
+              | inr q ↦ none_due x.moment i xs then (omega arith) q
+            ])) (leads_first op.quota _ _ _ x xs (read x s.0 f) rest)
+      ]
+
+  changer_stands : Due 0 ss
+  changer_stands j t change reply from l e =
+      let o = told.changers j t change reply l e in
       let p : place_at places o.0 ≡ Some (suc j) =
       subst (λ z. StandsBy op.quota contents counts (traced_at calls o.0) z (traced_at calls o.0).ended
       (place_at places o.0)) o.2 (stands o.0 o.1) in
-      some_imply (IsStanding o.0 (traced_at calls o.0) (suc j)) (λ q. (makes_change q ≡ true) × (q.moment ≡ suc j))
+      some_imply (IsStanding o.0 (traced_at calls o.0) (suc j)) (ChangesIn (suc j))
       (λ q h. (let c : q.traced.changed ≡ Some (suc j) = ap (λ (x : TracedCall). x.changed) h.1 ∙ o.2 in rw c refl, h.2))
       ss (has_place r last calls places told stands o.0 (suc j) o.1 p)
 
-  reads_stay : AllByRecursion (λ x. makes_change x ≡ false → Stays op.quota answered_of (set_at op log x.moment) x) ss
-  reads_stay = all_imply Stands (λ x. makes_change x ≡ false → Stays op.quota answered_of (set_at op log x.moment) x) each
-      ss all_stood
-    where
-      each : (x : Standing) → Stands x → makes_change x ≡ false → Stays op.quota answered_of (set_at op log x.moment) x
-      each x h f =
-          let d : During last x.traced.begun x.moment x.traced.ended = during r last calls places x h in
-          let w : Shows op.threads (contents x.moment) (counts x.moment) (set_at op log x.moment) = shown x.moment d.upto in
-          reading_stays r x (set_at op log x.moment) (reading r last calls places x h f) w.keys w.increasing
-          (w.numbers x.traced.thread h.trace.of_a_thread)
+  module _ (sorted : List Standing) (moved : IsPermutation ss sorted) (rises : AllPairs ComesBefore sorted) where
+    placed_stood : AllByRecursion Stands sorted
+    placed_stood = recursion_from_All Stands sorted (All-permutation Stands ss sorted moved (All-from_recursion Stands ss all_stood))
 
-  at_first : Leads op.quota answered_of (opening_set op) (set_at op log 0) (filter makes_change (at_moment 0 ss))
-  at_first = subst (Leads op.quota answered_of (opening_set op) (opening_set op))
-      (sym (none_changes r last calls places ss all_stood 0 (λ s c m. let b : s.moment ≡ suc c.change.before =
-      c.change.is in absurd (omega arith))))
-      (tt, refl)
+    pairs : Pairs ComesBefore sorted
+    pairs = pairs_rec ComesBefore sorted rises
 
-  at_next : (j : ℕ) → j < last
-      → Leads op.quota answered_of (set_at op log j) (set_at op log (suc j)) (filter makes_change (at_moment (suc j) ss))
-  at_next j l = turns r last calls places ss all_stood j (log j) (set_at op log j) followed refl (a.enters j l)
-      (shown j (omega arith))
-      (λ t change reply e. changer_stands j t change reply l e)
+    -- A call with a point is in the sorted list.
+    some_sorted : (P : Standing → Type 0) → SomeOf P ss → (z : Standing) × P z × Contains sorted z
+    some_sorted P s =
+        let o : (z : Standing) × P z × SomeOf (λ x. x ≡ z) ss = some_one P ss s in
+        (o.0, o.1, Contains-permutation ss sorted o.0 moved (some_contains o.0 ss o.2))
 
-  led : Leads op.quota answered_of (opening_set op) (set_at op log last) in_order
-  led = order_leads op.quota answered_of (set_at op log) ss reads_stay (opening_set op) last at_first at_next last
-      (omega arith)
+    led : Leads op.quota (opening_set op) (set_at op log last) sorted
+    led = leads sorted 0 (omega arith) placed_stood pairs (all_imply Stands (λ q. (0 ≤ q.moment) × (makes_change q ≡ true → 0 < q.moment))
+        (λ q h. (omega arith, λ f. omega (arith, (changing h f).change.is))) sorted placed_stood)
+        (λ j t change reply from l e. let o = some_sorted (ChangesIn (suc j)) (changer_stands j t change reply from l e) in
+        some_imply (λ x. x ≡ o.0) (ChangesIn (suc j)) (λ x e. subst (ChangesIn (suc j)) (sym e) o.1) sorted (contains_some o.0 sorted o.2))
 
-  answers_are : map (answered history) (map placed_of in_order) ≡ map answered_of in_order
-  answers_are = map_twice placed_of (answered history) answered_of in_order
-      (all_imply Stands (λ s. answered history (placed_of s) ≡ answered_of s) answered_is in_order placed_stood)
+    answers_are : map (answered history) (map placed_of sorted) ≡ map answered_of sorted
+    answers_are = map_twice placed_of (answered history) answered_of sorted
+        (all_imply Stands (λ s. answered history (placed_of s) ≡ answered_of s) answered_is sorted placed_stood)
 
-  is_legal : IsLegal op.quota (opening_set op) (map (answered history) (map placed_of in_order))
-  is_legal = subst (IsLegal op.quota (opening_set op)) (sym answers_are) led.0
+    is_legal : IsLegal op.quota (opening_set op) (map (answered history) (map placed_of sorted))
+    is_legal = rw answers_are led.0
 
-  leaves : set_left (opening_set op) (map (answered history) (map placed_of in_order)) ≡ set_at op log last
-  leaves = ap (set_left (opening_set op)) answers_are ∙ led.1
+    leaves : set_left (opening_set op) (map (answered history) (map placed_of sorted)) ≡ set_at op log last
+    leaves = rw answers_are led.1
 
-  -- ONCE EACH AND IN TIME
-  pairs : Pairs Ahead in_order
-  pairs = ahead Stands (λ s q h i e. one_moment s q h i e) (λ s q h i e. one_change s q h i e) ss all_stood
-      (pairs_imply Stands Follows (λ s q. s.number < q.number) (λ s q h i f. f.0) ss all_stood followed) last
-    where
-      one_moment : (s q : Standing) → Stands s → Stands q → s.number ≡ q.number → s.moment ≡ q.moment
-      one_moment s q h i e = cc
+    -- EACH CALL ONCE, AND IN REAL-TIME ORDER
+    is_once : AllPairs (λ (p q : Placed). p.call ≢ q.call) (map placed_of sorted)
+    is_once = pairs_std (λ (p q : Placed). p.call ≢ q.call) (map placed_of sorted)
+        (pairs_map placed_of (λ (p q : Placed). p.call ≢ q.call) sorted
+        (pairs_imply Stands ComesBefore (λ s q. s.number ≢ q.number) apart sorted placed_stood pairs))
+      where
+        apart : (s q : Standing) → Stands s → Stands q → ComesBefore s q → s.number ≢ q.number
+        apart s q h i b e =
+            let t : s.traced ≡ q.traced = rw e at (sym h.call_is) ∙ i.call_is in
+            let m : s.moment ≡ q.moment = cc in
+            let c : makes_change s ≡ makes_change q = ap (λ z. makes_change (record { number = 0; traced = z; moment = 0 })) t in
+            grind arith
 
-      one_change : (s q : Standing) → Stands s → Stands q → s.number ≡ q.number → makes_change s ≡ makes_change q
-      one_change s q h i e =
-          let b : traced_at calls q.number ≡ s.traced = subst (λ z. traced_at calls z ≡ s.traced) e h.call_is in
-          let f : s.traced ≡ q.traced = sym b ∙ i.call_is in
-          ap (λ z. makes_change (record { number = 0; traced = z; moment = 0 })) f
+    is_in_time : AllPairs (InTime history) (map placed_of sorted)
+    is_in_time = pairs_std (InTime history) (map placed_of sorted) (pairs_map placed_of (InTime history) sorted
+        (pairs_imply Stands ComesBefore (λ s q. InTime history (placed_of s) (placed_of q)) each sorted placed_stood pairs))
+      where
+        each : (s q : Standing) → Stands s → Stands q → ComesBefore s q → InTime history (placed_of s) (placed_of q)
+        each s q h i b p = no_end q.traced.ended q.moment s.traced.begun (during i).in_call (rw (numbered q i, numbered s h) at p)
+            (omega (arith, (during h).from, (comes_on s q h i b).0))
 
-  is_once : AllPairs (λ (p q : Placed). p.call ≢ q.call) (map placed_of in_order)
-  is_once = pairs_std (λ (p q : Placed). p.call ≢ q.call) (map placed_of in_order)
-      (pairs_map placed_of (λ (p q : Placed). p.call ≢ q.call) in_order
-      (pairs_imply Stands Ahead (λ s q. s.number ≢ q.number) (λ s q h i f. f.0) in_order placed_stood pairs))
+    -- EACH COMPLETED CALL, AND ONLY CALLS OF THE HISTORY
+    is_known : All (λ (p : Placed). p.call < length history) (map placed_of sorted)
+    is_known = All-from_recursion (λ (p : Placed). p.call < length history) (map placed_of sorted)
+        (all_map placed_of (λ (p : Placed). p.call < length history) sorted
+        (all_imply Stands (λ s. s.number < length history) (λ s h. omega (arith, length-map calls record_of, h.known)) sorted placed_stood))
 
-  is_in_time : AllPairs (InTime history) (map placed_of in_order)
-  is_in_time = pairs_std (InTime history) (map placed_of in_order) (pairs_map placed_of (InTime history) in_order
-      (pairs_imply Stands Ahead (λ s q. InTime history (placed_of s) (placed_of q)) each in_order placed_stood pairs))
-    where
-      each : (s q : Standing) → Stands s → Stands q → Ahead s q → InTime history (placed_of s) (placed_of q)
-      each s q h i f p = grind (arith, common_steps)
+    is_ended : (number end : ℕ) (reply : Reply) → number < length history → (call_numbered history number).ended ≡ Some (end, reply)
+        → Contains (map placed_of sorted) (record { call = number; reply = reply })
+    is_ended number end reply l e =
+        let k : number < length calls = omega (arith, length-map calls record_of) in
+        let f : (traced_at calls number).ended ≡ Some (end, reply) = ap (λ (c : CallRecord). c.ended) (sym (record_is number)) ∙ e in
+        let p : EndedPlace (traced_at calls number).changed (traced_at calls number).ended reply (place_at places number) =
+        ended_place r last (traced_at calls number) (end, reply) (place_at places number) f
+        (told.each number no_traced k) (stands number k) in
+        let o = some_sorted (IsStanding number (traced_at calls number) p.moment) (has_place r last calls places told stands number p.moment k p.is) in
+        subst (Contains (map placed_of sorted)) (rw (o.1.0, o.1.1, p.reply_is) refl) (contains_map placed_of sorted o.0 o.2)
 
-  -- ALL THAT MUST STAND, AND NO MORE
-  is_known : All (λ (p : Placed). p.call < length history) (map placed_of in_order)
-  is_known = All-from_recursion (λ (p : Placed). p.call < length history) (map placed_of in_order)
-      (all_map placed_of (λ (p : Placed). p.call < length history) in_order
-      (all_imply Stands (λ s. s.number < length history)
-      (λ s h. subst (λ z. s.number < z) (sym (length-map calls record_of)) h.known) in_order placed_stood))
-
-  is_ended : (number end : ℕ) (reply : Reply) → number < length history → (call_numbered history number).ended ≡ Some (end, reply)
-      → Contains (map placed_of in_order) (record { call = number; reply = reply })
-  is_ended number end reply l e =
-      let k : number < length calls = subst (λ z. number < z) (length-map calls record_of) l in
-      let f : (traced_at calls number).ended ≡ Some (end, reply) = ap (λ (c : CallRecord). c.ended) (sym (record_is number))
-      ∙ e in
-      let p : EndedPlace last (traced_at calls number).changed (traced_at calls number).ended reply (place_at places number) =
-      ended_place r last (traced_at calls number) (end, reply) (place_at places number) f
-      (all_at (Traced r last) calls no_traced number k told.each) (stands number k) in
-      some_contains (record { call = number; reply = reply }) (map placed_of in_order)
-      (some_map placed_of (λ z. z ≡ record { call = number; reply = reply }) in_order
-      (some_by_moments IsIt p.moment last ss p.upto
-      (some_imply (IsStanding number (traced_at calls number) p.moment) (λ z. IsIt z × (z.moment ≡ p.moment))
-      (λ z h. (one z h.0 h.1 p.reply_is, h.2)) ss
-      (has_place r last calls places told stands number p.moment k p.is))))
-    where
-      IsIt : Standing → Type 0
-      IsIt z = placed_of z ≡ record { call = number; reply = reply }
-
-      one : (z : Standing) → z.number ≡ number → z.traced ≡ traced_at calls number
-          → reply_by (traced_at calls number).changed (traced_at calls number).ended ≡ reply → IsIt z
-      one z e f q =
-          let g : reply_by z.traced.changed z.traced.ended ≡ reply = ap (λ (y : TracedCall). reply_by y.changed y.ended) f ∙ q in
-          rw (e, g) refl
-
-  placed_linearizes : Linearizes op.quota (opening_set op) history (map placed_of in_order)
-  placed_linearizes = record { known = is_known; once = is_once; ended = is_ended; legal = is_legal; in_time = is_in_time }
+    placed_linearizes : Linearizes op.quota (opening_set op) history (map placed_of sorted)
+    placed_linearizes = record { known = is_known; once = is_once; ended = is_ended; legal = is_legal; in_time = is_in_time }
 
 -- THE THEOREM
 pub linearizes : (op : Opening) (last : ℕ) (log : Log) (contents : Contents) (counts : Counts) (order : List Placed)
-    → Account op last log contents counts → IsPlacement op.quota last (calls_at log last) contents counts order
+    → Account op last log contents counts → IsPlacement op.quota (calls_at log last) contents counts order
     → Linearizes op.quota (opening_set op) (history_at log last) order
-linearizes op last log contents counts order a p =
-    subst (Linearizes op.quota (opening_set op) (history_at log last)) (sym p.in_order)
-    (placed_linearizes op last log contents counts a p.places p.stands)
+linearizes op last log contents counts order a p = rw p.in_order
+    (placed_linearizes op last log contents counts a p.places p.stands p.sorted p.moved p.rises)
 
--- the set that it leaves shows the last content and counts
+-- The set that the order leaves has the last content and counts.
 pub leaves_set : (op : Opening) (last : ℕ) (log : Log) (contents : Contents) (counts : Counts) (order : List Placed)
-    → Account op last log contents counts → IsPlacement op.quota last (calls_at log last) contents counts order
+    → Account op last log contents counts → IsPlacement op.quota (calls_at log last) contents counts order
     → Shows op.threads (contents last) (counts last) (set_left (opening_set op) (map (answered (history_at log last)) order))
-leaves_set op last log contents counts order a p =
-    let e : set_left (opening_set op) (map (answered (history_at log last))
-    (map placed_of (by_moments last (standing 0 (calls_at log last) p.places))))
-    ≡ set_at op log last = leaves op last log contents counts a p.places p.stands in
-    subst (λ z. Shows op.threads (contents last) (counts last) (set_left (opening_set op)
-    (map (answered (history_at log last)) z))) (sym p.in_order)
-    (subst (Shows op.threads (contents last) (counts last)) (sym e) (shows_at op last log contents counts a last
-    (omega arith)))
+leaves_set op last log contents counts order a p = rw (
+  p.in_order,
+  leaves op last log contents counts a p.places p.stands p.sorted p.moved p.rises,
+) (shows_at op last log contents counts a last (omega arith))
 
--- and its keys are the increasing list of the last content
+-- Its keys are the keys of the last content, in increasing order.
 pub leaves_keys : (op : Opening) (last : ℕ) (log : Log) (contents : Contents) (counts : Counts) (order : List Placed)
-    → Account op last log contents counts → IsPlacement op.quota last (calls_at log last) contents counts order
+    → Account op last log contents counts → IsPlacement op.quota (calls_at log last) contents counts order
     → (keys : List ℕ) → IsStrictlyIncreasing keys
     → ((j : ℕ) → (contents last j → Contains keys j) × (Contains keys j → contents last j))
     → (set_left (opening_set op) (map (answered (history_at log last)) order)).keys ≡ keys

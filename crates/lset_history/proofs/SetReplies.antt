@@ -1,4 +1,4 @@
--- What the sequential set answers, from what its tree of keys and its counts tell.
+-- The replies of the sequential set, from its tree of keys and its counts.
 use Rattle.std.proofs.Common.{rules, ◌≡◌, ℕ, ◌≤◌, ◌<◌, ◌≢◌, ◌==◌, ◌+◌, Bool, true, false, cond, List, [], ◌∷◌, get_or, refl, sym}
 use Rattle.std.proofs.Common.{ap, inl, inr, ◌∙◌, arith}
 use Rattle.std.specs.Prelude.{filter}
@@ -87,7 +87,7 @@ contained o t k false e = record {
   state_is = refl;
 }
 
--- the first key of a range of the tree is the smallest one
+-- The first key of a range of the tree is the smallest.
 abbrev from_on : ℕ → List ℕ → List ℕ
 from_on k keys = filter (range_contains nat_cmp (Included k) Unbounded) keys
 

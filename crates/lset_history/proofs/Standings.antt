@@ -1,16 +1,17 @@
--- The calls of a run that stand in the order of placement: each has its number, its trace and its moment.
+-- The calls of a run with a linearization point: the number, the trace and the point of each.
 use Rattle.std.proofs.Common.{◌≡◌, ℕ, zero, suc, ◌+◌, ◌<◌, ◌≤◌, true, false, inl, inr, List, [], ◌∷◌, length, sym, refl, subst}
-use Rattle.std.proofs.Common.{◌∙◌, arith}
-use Rattle.std.specs.Prelude.{Option, Some, None, IfSome}
+use Rattle.std.proofs.Common.{ap, arith}
+use Rattle.std.specs.Prelude.{◌⊎◌, Option, Some, None, IfSome, is_some}
 use Rattle.std.specs.List.{AllByRecursion}
 use Rattle.lset_words.specs.declared.Reply.{Reply}
 use Rattle.lset_words.specs.Log.{TracedCall}
-use Rattle.lset_words.specs.Placement.{StandsBy, StandsAt, IsSmallestFit, Standing, makes_change, reply_by, standing, traced_at}
-use Rattle.lset_words.specs.Placement.{place_at}
-use Rattle.lset_history.proofs.Lists.{Pairs, SomeOf, all_imply, all_at}
-use Rattle.lset_history.proofs.Calls.{Run, ChangeAt, ChangedBy, EndedBy, Traced, Later, Calls}
+use Rattle.lset_history.specs.Placement.{StandsBy, StandsAt, IsSmallestFit, Standing, makes_change, reply_by, standing, traced_at, no_traced}
+use Rattle.lset_history.specs.Placement.{place_at}
+use Rattle.lset_history.proofs.Lists.{Pairs, SomeOf, all_imply, pairs_rec}
+use Rattle.lset_words.specs.Account.{RightReply}
+use Rattle.lset_history.proofs.Calls.{Run, ChangeAt, Traced, Later, Calls, if_some}
 
--- THE CALLS BESIDE THEIR PLACES
+-- THE CALLS AND THEIR POINTS
 standing_each : (Q : ℕ → TracedCall → Option ℕ → Type 0) (n : ℕ) (xs : List TracedCall) (ps : List (Option ℕ))
     → ((i : ℕ) → i < length xs → Q (n + i) (traced_at xs i) (place_at ps i))
     → AllByRecursion (λ (s : Standing). Q s.number s.traced (Some s.moment)) (standing n xs ps)
@@ -40,7 +41,7 @@ standing_above P n (x ∷ xs) (Some m ∷ ps) a = (
       (standing_above P (suc n) xs ps a.1),
 )
 
--- numbers increase
+-- The numbers increase.
 abbrev pub Follows : Standing → Standing → Type 0
 Follows s r = (s.number < r.number) × Later s.traced r.traced
 
@@ -55,7 +56,7 @@ standing_pairs n (x ∷ xs) (Some m ∷ ps) a = (
   standing_pairs (suc n) xs ps a.1,
 )
 
--- a call with a place stands
+-- A call with a point is in `standing`.
 abbrev pub IsStanding : ℕ → TracedCall → ℕ → Standing → Type 0
 IsStanding number x m s = (s.number ≡ number) × (s.traced ≡ x) × (s.moment ≡ m)
 
@@ -71,7 +72,7 @@ standing_has n (x ∷ xs) (Some p ∷ ps) (suc i) m l e = let f : suc n + i ≡ 
     (standing_has (suc n) xs ps i m (omega arith) e))
 standing_has n xs ps i m l e = absurd cc
 
--- WHAT HOLDS OF A CALL THAT STANDS
+-- THE FACTS OF A CALL WITH A POINT
 pub record Stood (r : Run) (last : ℕ) (calls : List TracedCall) (places : List (Option ℕ)) (s : Standing) : Type 0 where
   pub known : s.number < length calls
   pub call_is : traced_at calls s.number ≡ s.traced
@@ -79,111 +80,79 @@ pub record Stood (r : Run) (last : ℕ) (calls : List TracedCall) (places : List
   pub trace : Traced r last s.traced
   pub stands : StandsAt r.quota r.contents r.counts s.traced (Some s.moment)
 
--- the moment lies between begin and end
-pub record During (last begun moment : ℕ) (ended : Option (ℕ × Reply)) : Type 0 where
-  pub from : begun ≤ moment
-  pub upto : moment ≤ last
-  pub in_call : IfSome ended (λ (e : ℕ × Reply). moment ≤ e.0)
-
-pub during_of : (r : Run) (last m : ℕ) (x : TracedCall) (changed : Option ℕ) (ended : Option (ℕ × Reply))
-    → StandsBy r.quota r.contents r.counts x changed ended (Some m) → ChangedBy r last x.thread x.call x.begun changed
-    → EndedBy r last x.thread x.call x.begun changed ended → During last x.begun m ended
-during_of r last m x (Some c) None s b d =
-    let e : m ≡ c = cc in let l : c ≤ last = b.0 in let k : x.begun < c = b.1.later in
-    record { from = omega arith; upto = omega arith; in_call = tt }
-during_of r last m x (Some c) (Some end) s b d =
-    let e : m ≡ c = cc in let l : c ≤ last = b.0 in let k : x.begun < c = b.1.later in let u : c ≤ end.0 = d.1.right.0 in
-    record { from = omega arith; upto = omega arith; in_call = omega arith }
-during_of r last m x None None s b d = absurd (cc)
-during_of r last m x None (Some end) s b d = grind arith
-
-pub during : (r : Run) (last : ℕ) (calls : List TracedCall) (places : List (Option ℕ)) (s : Standing)
-    → Stood r last calls places s → During last s.traced.begun s.moment s.traced.ended
-during r last calls places s h =
-    during_of r last s.moment s.traced s.traced.changed s.traced.ended h.stands h.trace.changes h.trace.ends
-
--- an ended call has a moment, where it stands with its own reply
-pub record EndedPlace (last : ℕ) (changed : Option ℕ) (ended : Option (ℕ × Reply)) (reply : Reply)
-    (place : Option ℕ) : Type 0 where
-  pub moment : ℕ
-  pub is : place ≡ Some moment
-  pub upto : moment ≤ last
-  pub reply_is : reply_by changed ended ≡ reply
-
-ended_by_change : (r : Run) (last : ℕ) (x : TracedCall) (changed : Option ℕ) (end : ℕ × Reply) (place : Option ℕ)
-    → ChangedBy r last x.thread x.call x.begun changed → EndedBy r last x.thread x.call x.begun changed (Some end)
-    → StandsBy r.quota r.contents r.counts x changed (Some end) place → EndedPlace last changed (Some end) end.1 place
-ended_by_change r last x None end place b d s =
-    let l : s.0 ≤ end.0 = s.2.upto in
-    let k : end.0 ≤ last = d.0 in
-    record { moment = s.0; is = s.1; upto = omega arith; reply_is = refl }
-ended_by_change r last x (Some c) end place b d s = record { moment = c; is = s; upto = b.0; reply_is = sym d.1.right.1 }
-
-pub ended_place : (r : Run) (last : ℕ) (x : TracedCall) (end : ℕ × Reply) (place : Option ℕ) → x.ended ≡ Some end
-    → Traced r last x → StandsAt r.quota r.contents r.counts x place → EndedPlace last x.changed x.ended end.1 place
-ended_place r last x end place e t s =
-    let d : EndedBy r last x.thread x.call x.begun x.changed (Some end) =
-    subst (EndedBy r last x.thread x.call x.begun x.changed) e t.ends in
-    let f : StandsBy r.quota r.contents r.counts x x.changed (Some end) place =
-    subst (λ z. StandsBy r.quota r.contents r.counts x x.changed z place) e s in
-    subst (λ z. EndedPlace last x.changed z end.1 place) (sym e) (ended_by_change r last x x.changed end place t.changes d f)
-
--- a call that stands by its change
+-- A call whose point is its change
 pub record Changing (r : Run) (s : Standing) : Type 0 where
   pub is : s.traced.changed ≡ Some s.moment
   pub change : ChangeAt r s.traced.thread s.traced.call s.traced.begun s.moment
 
-pub changing : (r : Run) (last : ℕ) (calls : List TracedCall) (places : List (Option ℕ)) (s : Standing)
-    → Stood r last calls places s → makes_change s ≡ true → Changing r s
-changing r last calls places s h t = by_cases s.traced.changed refl
-  where
-    by_cases : (o : Option ℕ) → s.traced.changed ≡ o → Changing r s
-    by_cases None e = absurd (let f : false ≡ true = rw e at t in cc)
-    by_cases (Some c) e =
-        let b : (c ≤ last) × ChangeAt r s.traced.thread s.traced.call s.traced.begun c =
-        subst (ChangedBy r last s.traced.thread s.traced.call s.traced.begun) e h.trace.changes in
-        let p : Some s.moment ≡ Some c =
-        subst (λ z. StandsBy r.quota r.contents r.counts s.traced z s.traced.ended (Some s.moment)) e h.stands in
-        record {
-          is = e ∙ sym p;
-          change = subst (ChangeAt r s.traced.thread s.traced.call s.traced.begun)
-              (let q : c ≡ s.moment = cc in q) b.1;
-        }
-
--- and one that stands by its reply
+-- A completed call without a change: its point is the first moment that its reply fits.
 pub record Reading (r : Run) (s : Standing) : Type 0 where
   pub no_change : s.traced.changed ≡ None
   pub end : ℕ × Reply
   pub ended : s.traced.ended ≡ Some end
   pub fit : IsSmallestFit r.quota r.contents r.counts s.traced end.0 end.1 s.moment
 
-pub reading : (r : Run) (last : ℕ) (calls : List TracedCall) (places : List (Option ℕ)) (s : Standing)
-    → Stood r last calls places s → makes_change s ≡ false → Reading r s
-reading r last calls places s h t = by_change s.traced.changed refl
-  where
-    by_end : s.traced.changed ≡ None → (o : Option (ℕ × Reply)) → s.traced.ended ≡ o
-        → StandsBy r.quota r.contents r.counts s.traced None o (Some s.moment) → Reading r s
-    by_end n None e p = absurd (cc)
-    by_end n (Some end) e p = record {
-      no_change = n;
-      end = end;
-      ended = e;
-      fit = subst (IsSmallestFit r.quota r.contents r.counts s.traced end.0 end.1) (sym (some_is s.moment p.0 p.1)) p.2;
+-- The point is between begin and end.
+pub record During (last begun moment : ℕ) (ended : Option (ℕ × Reply)) : Type 0 where
+  pub from : begun ≤ moment
+  pub upto : moment ≤ last
+  pub in_call : IfSome ended (λ (e : ℕ × Reply). moment ≤ e.0)
+
+module _ {r : Run} {last : ℕ} {calls : List TracedCall} {places : List (Option ℕ)} {s : Standing} (h : Stood r last calls places s) where
+  stands_by : (changed : Option ℕ) (ended : Option (ℕ × Reply)) → s.traced.changed ≡ changed → s.traced.ended ≡ ended
+      → StandsBy r.quota r.contents r.counts s.traced changed ended (Some s.moment) → Changing r s ⊎ Reading r s
+  stands_by (Some m) ended c e b = inl (let is : s.traced.changed ≡ Some s.moment = cc in
+      record { is = is; change = (h.trace.changes s.moment is).1 })
+  stands_by None None c e b = absurd cc
+  stands_by None (Some end) c e b = inr (let m : b.0 ≡ s.moment = cc in
+      record { no_change = c; end = end; ended = e; fit = rw m at b.2 })
+
+  how : Changing r s ⊎ Reading r s
+  how = stands_by s.traced.changed s.traced.ended refl refl h.stands
+
+  pub changing : makes_change s ≡ true → Changing r s
+  changing t = elim how [ inl c ↦ c | inr n ↦ absurd (let f : false ≡ true = rw n.no_change at t in cc) ]
+
+  pub reading : makes_change s ≡ false → Reading r s
+  reading t = elim how [ inl c ↦ absurd (let f : true ≡ false = rw c.is at t in cc) | inr n ↦ n ]
+
+  pub during : During last s.traced.begun s.moment s.traced.ended
+  during = elim how [
+    | inl c ↦ record {
+      from = omega (arith, c.change.later);
+      upto = (h.trace.changes s.moment c.is).0;
+      in_call = if_some s.traced.ended (λ e. s.moment ≤ e.0) (λ e i. (h.trace.ends e.0 e.1 i).1.after_change s.moment c.is);
     }
-      where
-        some_is : (a b : ℕ) → Some a ≡ Some b → a ≡ b
-        some_is a b f = cc
+    | inr n ↦ record {
+      from = n.fit.from;
+      upto = omega (arith, n.fit.upto, (h.trace.ends n.end.0 n.end.1 n.ended).0);
+      in_call = rw n.ended n.fit.upto;
+    }
+  ]
 
-    by_change : (o : Option ℕ) → s.traced.changed ≡ o → Reading r s
-    by_change None e = by_end e s.traced.ended refl
-        (subst (λ z. StandsBy r.quota r.contents r.counts s.traced z s.traced.ended (Some s.moment)) e h.stands)
-    by_change (Some c) e = absurd (let f : true ≡ false = rw e at t in cc)
+-- A completed call has a point, and its own reply in the order.
+pub record EndedPlace (changed : Option ℕ) (ended : Option (ℕ × Reply)) (reply : Reply) (place : Option ℕ) : Type 0 where
+  pub moment : ℕ
+  pub is : place ≡ Some moment
+  pub reply_is : reply_by changed ended ≡ reply
 
--- OF ALL THAT STAND
+pub ended_place : (r : Run) (last : ℕ) (x : TracedCall) (end : ℕ × Reply) (place : Option ℕ) → x.ended ≡ Some end
+    → Traced r last x → StandsAt r.quota r.contents r.counts x place → EndedPlace x.changed x.ended end.1 place
+ended_place r last x end place e t s = by_change x.changed x.ended e s (t.ends end.0 end.1 e).1.right
+  where
+    by_change : (changed : Option ℕ) (ended : Option (ℕ × Reply)) → ended ≡ Some end
+        → StandsBy r.quota r.contents r.counts x changed ended place
+        → RightReply (is_some changed) r.quota r.contents r.counts x.begun end.0 x.thread x.call (Some end.1)
+        → EndedPlace changed ended end.1 place
+    by_change (Some m) ended e s right = record { moment = m; is = s; reply_is = sym right }
+    by_change None None e s right = absurd cc
+    by_change None (Some d) e s right = let is : d ≡ end = cc in record { moment = s.0; is = s.1; reply_is = ap (λ z. z.1) is }
+
+-- ALL CALLS WITH A POINT
 module _ (r : Run) (last : ℕ) (calls : List TracedCall) (places : List (Option ℕ)) (h : Calls r last calls)
     (stands : (i : ℕ) → i < length calls → StandsAt r.quota r.contents r.counts (traced_at calls i) (place_at places i)) where
   traced_of : (i : ℕ) → i < length calls → Traced r last (traced_at calls i)
-  traced_of i l = all_at (Traced r last) calls (traced_at [] 0) i l h.each
+  traced_of i l = h.each i no_traced l
 
   pub stood : AllByRecursion (Stood r last calls places) (standing 0 calls places)
   stood = all_imply (λ (s : Standing). OfACall s.number s.traced (Some s.moment)) (Stood r last calls places)
@@ -196,7 +165,7 @@ module _ (r : Run) (last : ℕ) (calls : List TracedCall) (places : List (Option
           × Traced r last x × StandsAt r.quota r.contents r.counts x place
 
   pub follow : Pairs Follows (standing 0 calls places)
-  follow = standing_pairs 0 calls places h.pairs
+  follow = standing_pairs 0 calls places (pairs_rec Later calls h.pairs)
 
   pub has_place : (i m : ℕ) → i < length calls → place_at places i ≡ Some m
       → SomeOf (IsStanding i (traced_at calls i) m) (standing 0 calls places)

@@ -1,4 +1,4 @@
--- What the single checks of an order come to: its faults, and that it explains the history.
+-- From the single checks of an order: the first error, or that the order explains the history.
 use Rattle.std.proofs.Common.{rules, ◌≡◌, ◌≢◌, ℕ, ◌<◌, ◌==◌, Bool, true, false, List, [], length, get_or, Option, Some, None}
 use Rattle.std.proofs.Common.{refl, sym, ap, ◌∙◌, subst, inl, inr, ◌⊎◌, arith}
 use Rattle.std.proofs.lemmas.Grind.{common_steps}
@@ -21,10 +21,9 @@ use Rattle.lset_history.specs.declared.fault.OrderFault.TheVariants.{Memory}
 use Rattle.lset_history.specs.Faults.{Explains, IsFault, Passes, RefusesFirst, MissesNone, MissesFirst, IsMissing, IsUnknown}
 use Rattle.lset_history.specs.Faults.{IsTwice, HasWrongReply, IsTooEarly, place_at, set_left_by}
 use Rattle.lset_history.specs.Checks.{HasKnownCalls, stands, MarksCalls, IsLeftOut, HasReplies, after_order}
-use Rattle.lset_history.proofs.CallByCall.{calls_of}
 use Rattle.lset_history.proofs.EarlierPlaces.{stands_earlier, legal_at, passes_replies}
 
--- a place, read with any default
+-- A place, read with any default
 read_place : (order : List Placed) (i : ℕ) (d : Placed) → i < length order → get_or order i d ≡ place_at order i
 read_place order i d low = get_or_default order i d (place_at [] 0) low
 
@@ -98,16 +97,16 @@ linearizes o calls order known once none replies early = record {
               (reply_of_end _ end reply _ e recorded)),
         )
 
--- THE ANSWERS of the check, from what its single checks tell of the calls that it reads
+-- THE RESULTS of the check, from its single checks
 
--- the calls of the order are known and stand once, and just they have marks
+-- The calls of the order are known and each has one place. These calls have marks, and no others.
 pub record StandsOnce (h : HistoryValue) (calls : List CallRecord) (order : List Placed) (marks : List Bool) : Type 0 where
   pub calls_are : calls ≡ h.calls
   pub known : HasKnownCalls calls order
   pub once : Passes (IsTwice order) order
   pub holds : MarksCalls marks order
 
--- and no ended call is left out, and the sequential set has opened
+-- No completed call is left out, and the sequential set is in its opening state.
 pub record LeavesNoneOut (h : HistoryValue) (calls : List CallRecord) (order : List Placed) (marks : List Bool)
     (oracle : OracleValue) : Type 0 where
   pub stands_once : StandsOnce h calls order marks
@@ -125,11 +124,11 @@ pub leaves_none_out : (h : HistoryValue) (calls : List CallRecord) (order : List
 leaves_none_out h calls order marks oracle once none opens =
     record { stands_once = once; none_out = none; opens = opens }
 
--- the threads of the calls are those of the set
+-- The threads of the calls are threads of the set.
 pub threads_below : (h : HistoryValue) (calls : List CallRecord) (oracle : OracleValue) → calls ≡ h.calls
     → IsHistory h.opening.threads h.calls → oracle ≡ set_opened h.opening
     → All (λ (x : CallRecord). x.thread < oracle.threads) calls
-threads_below h calls oracle e history opens k d low = grind (arith, calls_of)
+threads_below h calls oracle e history opens k d low = let c = history.each k d (rw e at low) in grind arith
 
 none_missing : (h : HistoryValue) (order : List Placed) (marks : List Bool) (oracle : OracleValue)
     → LeavesNoneOut h h.calls order marks oracle → MissesNone h.calls order
@@ -142,7 +141,7 @@ pub missing_fault : (h : HistoryValue) (calls : List CallRecord) (order : List P
 missing_fault h calls order keys marks number s out =
     (passes_known h.calls order (rw s.calls_are at s.known), s.once, misses_first h.calls order marks number s.holds (rw s.calls_are at out))
 
--- the same facts of the calls of the history itself, from the opening of its set
+-- The replies and the earlier checks, for the calls of the history and the opening state of its set
 settled : (h : HistoryValue) (calls : List CallRecord) (order : List Placed) (marks : List Bool) (oracle : OracleValue)
     → LeavesNoneOut h calls order marks oracle → LeavesNoneOut h h.calls order marks (set_opened h.opening)
 settled h calls order marks oracle l =
@@ -176,7 +175,7 @@ too_early_fault h calls order keys marks oracle number l r e =
       rw l.stands_once.calls_are at e,
     )
 
--- the keys that the set has after the order
+-- The keys of the set after the order
 keys_after : (h : HistoryValue) (calls : List CallRecord) (order : List Placed) (marks : List Bool) (oracle : OracleValue)
     → LeavesNoneOut h calls order marks oracle
     → (after_order oracle calls order).state.keys ≡ (set_left_by (opening_set h.opening) h.calls order).keys
@@ -211,7 +210,7 @@ explained h calls order keys marks oracle now l r e after same increasing =
       increasing = subst IsStrictlyIncreasing same increasing;
     }
 
--- A FAULT IS NONE OF AN ORDER THAT EXPLAINS THE HISTORY
+-- AN ORDER WITH AN ERROR DOES NOT EXPLAIN THE HISTORY
 pair_of_places : (R : Placed → Placed → Type 0) (order : List Placed) (i j : ℕ) → AllPairs R order → i < j → j < length order
     → R (place_at order i) (place_at order j)
 pair_of_places R order i j pairs low inside = pairs i j (place_at [] 0) low inside

@@ -1,4 +1,4 @@
--- When keys were put in and taken out, and the first moment at which a key is there, or is not.
+-- The moments at which keys were added and removed, and the first moment at which a key is present or absent.
 use Rattle.std.specs.Prelude.{◌≡◌, ◌^◌, ℕ, zero, suc, ◌-◌, ◌<◌, ◌≤◌, ◌==◌, length, map, slice_index, nat_lt, Bool, true, false}
 use Rattle.std.specs.Prelude.{IsTrue, not, if◌then◌else◌, List, [], ◌∷◌, ◌++◌, All, Option, Some, None, Vec}
 use Rattle.std.specs.declared.alloc.Global.{Global}
@@ -9,8 +9,7 @@ use Rattle.std.specs.BTreeMap.{BTreeMap, get, is_at}
 use Rattle.std.specs.BTreeSet.{BTreeSet, contains}
 use Rattle.lset_words.specs.SequentialSet.{has_key}
 
--- the opening keys; and each key that changed, with the moments above 0 at which it was put in and taken out, in turn, from the
--- earliest on
+-- The opening keys, and for each key the moments above 0 at which it was added and removed, in turn, in increasing order
 pub record ChangesValue : Type 0 where
   pub opening : List ℕ
   pub entries : List (ℕ × List ℕ)
@@ -18,7 +17,7 @@ pub record ChangesValue : Type 0 where
 abbrev pub no_changes : ChangesValue
 no_changes = record { opening = []; entries = [] }
 
--- the changes with which a set opens: its keys go in at moment 0
+-- The changes at the opening: the opening keys are added at moment 0
 abbrev pub opened_moments : List ℕ → ℕ → List ℕ
 opened_moments keys key = if has_key key keys then 0 ∷ [] else []
 
@@ -29,41 +28,42 @@ moments_in (Some ms) = ms
 abbrev pub noted_of : ChangesValue → ℕ → List ℕ
 noted_of c key = moments_in (lookup (is_at (nat_cmp key)) c.entries)
 
--- all moments of a key
+-- All moments of a key, moment 0 included if it is an opening key
 abbrev pub moments_of : ChangesValue → ℕ → List ℕ
 moments_of c key = opened_moments c.opening key ++ noted_of c key
 
--- whether a key is there at a moment, if it was there (`present`) or not before all these changes of it
+-- Whether a key is present at a moment. `present` is whether it was present before all of these moments.
 abbrev pub state_at : Bool → List ℕ → ℕ → Bool
 state_at present [] moment = present
 state_at present (m ∷ ms) moment = if nat_lt moment m then present else state_at (not present) ms moment
 
--- the same after all of them
+-- Whether a key is present after all of these moments. `present` is whether it was present before them.
 abbrev pub state_after : Bool → List ℕ → Bool
 state_after present [] = present
 state_after present (m ∷ ms) = state_after (not present) ms
 
--- by the changes of each key
+-- Whether a key is present at a moment, from the moments of each key
 abbrev pub is_present : (ℕ → List ℕ) → ℕ → ℕ → Bool
 is_present changes key moment = state_at false (changes key) moment
 
 abbrev pub is_present_now : (ℕ → List ℕ) → ℕ → Bool
 is_present_now changes key = state_after false (changes key)
 
--- the moment is above 0 and above every moment noted
+-- The moment is above 0 and above every recorded moment.
 abbrev pub IsLaterThanAll : (ℕ → List ℕ) → ℕ → Type 0
 IsLaterThanAll changes moment = (0 < moment) × ((key : ℕ) → All (λ m. m < moment) (changes key))
 
--- one more change of a key
+-- The moments of each key after a further change of a key
 abbrev pub with_change : (ℕ → List ℕ) → ℕ → ℕ → ℕ → List ℕ
 with_change changes key moment k = if k == key then changes k ++ moment ∷ [] else changes k
 
--- THE FIRST MOMENT from `first` to `last` at which a fact holds, or none
+-- THE FIRST MOMENT from `first` to `last` at which a predicate holds, or None if there is no such moment
 abbrev pub IsFirst : (ℕ → Type 0) → ℕ → ℕ → Option ℕ → Type 0
 IsFirst P first last None = (m : ℕ) → first ≤ m → m ≤ last → P m → ⊥
 IsFirst P first last (Some k) = (first ≤ k) × (k ≤ last) × P k × ((m : ℕ) → first ≤ m → m < k → P m → ⊥)
 
--- the same by a test: the first moment from one on, among itself and so many after it, at which the test answers as asked
+-- The first moment, by a test that is computed: from a moment on, within a number of moments, the first at which the test has
+-- the wanted value
 abbrev pub is_same : Bool → Bool → Bool
 is_same true b = b
 is_same false b = not b
@@ -72,7 +72,8 @@ abbrev pub first_passing : Bool → (ℕ → Bool) → ℕ → ℕ → Option �
 first_passing asked f first zero = if is_same asked (f first) then Some first else None
 first_passing asked f first (suc n) = if is_same asked (f first) then Some first else first_passing asked f (suc first) n
 
--- whether a key, or none, is the smallest one at or above another that is there at a moment, if all keys are below 2^32
+-- Whether `found` is the smallest key at or above another key that is present at a moment, if all keys are below 2^32. None means
+-- that there is no such key.
 abbrev pub same_key : Option ℕ → Option ℕ → Bool
 same_key None None = true
 same_key None (Some b) = false
@@ -85,22 +86,22 @@ smallest_present changes key m = first_passing true (λ j. is_present changes j 
 abbrev pub has_ceiling : (ℕ → List ℕ) → ℕ → Option ℕ → ℕ → Bool
 has_ceiling changes key found m = same_key (smallest_present changes key m) found
 
--- what is kept
+-- The value of the fields of Changes
 abbrev pub changes_in : List ℕ → BTreeMap ℕ (Vec ℕ Global) → ChangesValue
 changes_in opening kept = record { opening = opening; entries = map (λ (e : ℕ × Vec ℕ Global). (e.0, e.1.items)) kept.entries }
 
 abbrev pub Increase : ChangesValue → Type 0
 Increase c = (key : ℕ) → IsStrictlyIncreasing (moments_of c key)
 
--- no key from 2^32 on has changes
+-- No key from 2^32 on has changes.
 abbrev pub IsBounded : (ℕ → List ℕ) → Type 0
 IsBounded changes = (key : ℕ) → 2 ^ 32 ≤ key → changes key ≡ []
 
--- a moment above 0 is recorded with its key
+-- The moment is above 0 and is recorded with this key.
 abbrev pub IsListed : BTreeMap ℕ ℕ → ℕ → ℕ → Type 0
 IsListed keys_at key moment = 0 < moment → get nat_cmp keys_at moment ≡ Some key
 
--- these changes, each of their moments with its key, and each key that is there now
+-- The fields keys_at and keys_now agree with the changes: each recorded moment has its key, and each present key is in keys_now.
 pub record AreKept (c : ChangesValue) (keys_at : BTreeMap ℕ ℕ) (keys_now : BTreeSet ℕ) : Type 0 where
   pub opening : IsStrictlyIncreasing c.opening
   pub increase : Increase c
@@ -108,7 +109,7 @@ pub record AreKept (c : ChangesValue) (keys_at : BTreeMap ℕ ℕ) (keys_now : B
   pub listed : (key : ℕ) → All (IsListed keys_at key) (moments_of c key)
   pub present : (key : ℕ) → is_present_now (moments_of c) key ≡ true → IsTrue (contains nat_cmp keys_now key)
 
--- how many of these moments are not above one, if they increase
+-- The number of moments that are at most `moment`, if the moments increase
 pub record IsCountUpTo (ms : List ℕ) (moment count : ℕ) : Type 0 where
   pub inside : count ≤ length ms
   pub upto : (i : ℕ) → i < count → slice_index ms i ≤ moment

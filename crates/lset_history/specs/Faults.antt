@@ -1,4 +1,4 @@
--- When an order of calls explains a history, and else what is wrong with it first.
+-- When an order of calls explains a history, and the first error if it does not.
 use Rattle.std.specs.Prelude.{◌≡◌, ◌≢◌, ℕ, ◌<◌, ◌≤◌, ◌⊎◌, List, map, take, length, All, IsSome, IsSomeAnd, slice_index_or}
 use Rattle.std.specs.List.Sorted.{IsStrictlyIncreasing}
 use Rattle.lset_words.specs.declared.Reply.{Reply}
@@ -12,7 +12,7 @@ use Rattle.lset_history.specs.declared.fault.OrderFault.TheVariants.{Unknown, Tw
 use Rattle.lset_history.specs.declared.fault.OrderFault.TheVariants.{Memory}
 use Rattle.lset_history.specs.History.{HistoryValue}
 
--- the set that an order of calls leaves
+-- The set after the calls of an order
 abbrev pub set_left_by : SetState → List CallRecord → List Placed → SetState
 set_left_by start calls order = set_left start (map (answered calls) order)
 
@@ -26,19 +26,19 @@ pub record Explains (h : HistoryValue) (order : List Placed) (keys : List ℕ) :
 abbrev pub place_at : List Placed → ℕ → Placed
 place_at order i = slice_index_or order i (record { call = 0; reply = True })
 
--- the call at a place
+-- The call at a place
 abbrev pub placed_call : List CallRecord → List Placed → ℕ → CallRecord
 placed_call calls order i = call_numbered calls (place_at order i).call
 
--- no call has this number
+-- No call has this number.
 abbrev pub IsUnknown : List CallRecord → List Placed → ℕ → Type 0
 IsUnknown calls order i = length calls ≤ (place_at order i).call
 
--- the call is at an earlier place too
+-- The call is at an earlier place too.
 abbrev pub IsTwice : List Placed → ℕ → Type 0
 IsTwice order i = (earlier : ℕ) × (earlier < i) × ((place_at order earlier).call ≡ (place_at order i).call)
 
--- the history has another reply, or the sequential set gives another one after the earlier places
+-- The history has another reply, or the sequential set returns another reply after the earlier places.
 abbrev pub HasWrongReply : ℕ → SetState → List CallRecord → List Placed → ℕ → Type 0
 HasWrongReply quota start calls order i =
     let x = placed_call calls order i in
@@ -46,23 +46,23 @@ HasWrongReply quota start calls order i =
     IsSomeAnd x.ended (λ (end : ℕ × Reply). end.1 ≢ reply)
     ⊎ (reply_to quota (set_left_by start calls (take i order)) x.thread x.call ≢ reply)
 
--- a call that ended before this one began has a later place
+-- A call that ended before this one began has a later place.
 abbrev pub IsTooEarly : List CallRecord → List Placed → ℕ → Type 0
 IsTooEarly calls order i =
     (later : ℕ) × (i < later) × (later < length order) × Precedes (placed_call calls order later) (placed_call calls order i)
 
--- a completed call that is not in the order
+-- A completed call that is not in the order
 pub record IsMissing (calls : List CallRecord) (order : List Placed) (number : ℕ) : Type 0 where
   pub known : number < length calls
   pub ended : IsSome (call_numbered calls number).ended
   pub absent : All (λ (p : Placed). p.call ≢ number) order
 
--- WHAT IS WRONG FIRST
--- a check refuses no place
+-- THE FIRST ERROR
+-- The check refuses no place.
 abbrev pub Passes : (ℕ → Type 0) → List Placed → Type 0
 Passes Refuses order = (place : ℕ) → place < length order → Refuses place → ⊥
 
--- the first place that a check refuses has the call with this number
+-- The first place that the check refuses is a place of the call with this number.
 pub record RefusesFirst (Refuses : ℕ → Type 0) (order : List Placed) (number : ℕ) : Type 0 where
   pub place : ℕ
   pub inside : place < length order
@@ -77,7 +77,7 @@ pub record MissesFirst (calls : List CallRecord) (order : List Placed) (number :
   pub missing : IsMissing calls order number
   pub smallest : (smaller : ℕ) → smaller < number → IsMissing calls order smaller → ⊥
 
--- this is the fault, and no earlier check failed
+-- This is the error, and no earlier check failed.
 abbrev pub IsFault : HistoryValue → List Placed → List ℕ → OrderFault → Type 0
 IsFault h order keys (Unknown number) = RefusesFirst (IsUnknown h.calls order) order number
 IsFault h order keys (Twice number) = Passes (IsUnknown h.calls order) order × RefusesFirst (IsTwice order) order number

@@ -1,4 +1,4 @@
--- The laws of placement, as public functions state them: over plain data that names no machine.
+-- The laws of placement, as public functions state them. They name no machine.
 use Rattle.std.specs.Prelude.{◌≡◌, ◌↔◌, ℕ, ◌≤◌, List, map, Contains}
 use Rattle.std.specs.List.Sorted.{IsStrictlyIncreasing}
 use Rattle.lset_words.specs.declared.Call.{Call}
@@ -9,23 +9,23 @@ use Rattle.lset_words.specs.SequentialSet.{SetState, opening_set, count_of, repl
 use Rattle.lset_words.specs.History.{IsHistory, answered, Linearizes}
 use Rattle.lset_words.specs.Log.{Log, TracedCall, calls_at, history_at}
 use Rattle.lset_words.specs.Account.{Content, Contents, Counts, Fits, Account}
-use Rattle.lset_words.specs.Placement.{IsPlacement}
+use Rattle.lset_history.specs.Placement.{IsPlacement}
 use Rattle.lset_words.specs.Words.{Opening}
 
--- the content of a list of keys, and the contents of a list of keys at each moment
+-- The content with the keys of a list, and the contents with the keys of a list at each moment
 abbrev pub content_of : List ℕ → Content
 content_of keys j = Contains keys j
 
 abbrev pub contents_of_lists : (ℕ → List ℕ) → Contents
 contents_of_lists lists m = content_of (lists m)
 
--- A set has the keys of a content, in strictly increasing order, and no other such list has them.
+-- The keys of the set are the keys of the content, in strictly increasing order. No other increasing list has these keys.
 pub record HasKeysOf (s : SetState) (content : List ℕ) : Type 0 where
   pub increasing : IsStrictlyIncreasing s.keys
   pub members : (j : ℕ) → Contains content j ↔ Contains s.keys j
   pub alone : (keys : List ℕ) → IsStrictlyIncreasing keys → ((j : ℕ) → Contains content j ↔ Contains keys j) → s.keys ≡ keys
 
--- the set that the calls of a log leave in that order, from the opening set
+-- The set after the calls of a log, made in this order from the opening set
 abbrev pub set_of_order : Opening → Log → ℕ → List Placed → SetState
 set_of_order op log last order = set_left (opening_set op) (map (answered (history_at log last)) order)
 
@@ -33,37 +33,37 @@ set_of_order op log last order = set_left (opening_set op) (map (answered (histo
 abbrev pub PlacementLinearizes : Type 0
 PlacementLinearizes = (op : Opening) (last : ℕ) (log : Log) (lists : ℕ → List ℕ) (counts : Counts) (order : List Placed)
     → Account op last log (contents_of_lists lists) counts
-    → IsPlacement op.quota last (calls_at log last) (contents_of_lists lists) counts order
+    → IsPlacement op.quota (calls_at log last) (contents_of_lists lists) counts order
     → Linearizes op.quota (opening_set op) (history_at log last) order × HasKeysOf (set_of_order op log last order) (lists last)
 
--- Every call has its place: no run is without an order of placement.
+-- Every run has a placement, so every call that changed the set or ended has a place.
 abbrev pub EveryCallHasAPlace : Type 0
 EveryCallHasAPlace = (op : Opening) (last : ℕ) (log : Log) (lists : ℕ → List ℕ) (counts : Counts)
     → Account op last log (contents_of_lists lists) counts
-    → (order : List Placed) × IsPlacement op.quota last (calls_at log last) (contents_of_lists lists) counts order
+    → (order : List Placed) × IsPlacement op.quota (calls_at log last) (contents_of_lists lists) counts order
 
 -- The calls of a run, at each of its moments, are a history.
 abbrev pub LogsTellHistories : Type 0
 LogsTellHistories = (op : Opening) (last : ℕ) (log : Log) (lists : ℕ → List ℕ) (counts : Counts)
     → Account op last log (contents_of_lists lists) counts → (k : ℕ) → k ≤ last → IsHistory op.threads (history_at log k)
 
--- the keys of a set in turn, if the reply to the call is the first of them
+-- The keys increase strictly, if the call is a Ceiling.
 abbrev pub IncreasesFor : Call → List ℕ → Type 0
 IncreasesFor (call.Add k) keys = Unit {0}
 IncreasesFor (call.Remove k) keys = Unit {0}
 IncreasesFor (call.Contains k) keys = Unit {0}
 IncreasesFor (call.Ceiling k) keys = IsStrictlyIncreasing keys
 
--- A reply is correct exactly if the sequential set gives it and does not change.
+-- A reply fits exactly if the sequential set returns it and does not change.
 abbrev pub FitsAreReplies : Type 0
 FitsAreReplies = (quota thread count : ℕ) (keys : List ℕ) (s : SetState) (call : Call) (reply : Reply)
     → ((j : ℕ) → Contains keys j ↔ Contains s.keys j) → IncreasesFor call s.keys → count_of s thread ≡ count
     → Fits quota (content_of keys) count call reply
     ↔ ((reply_to quota s thread call ≡ reply) × (after_call s thread call reply ≡ s))
 
--- A run has one order of placement.
+-- A run has at most one placement.
 abbrev pub PlacementIsOneOrder : Type 0
-PlacementIsOneOrder = (quota last : ℕ) (calls : List TracedCall) (lists : ℕ → List ℕ) (counts : Counts)
+PlacementIsOneOrder = (quota : ℕ) (calls : List TracedCall) (lists : ℕ → List ℕ) (counts : Counts)
     (order other : List Placed)
-    → IsPlacement quota last calls (contents_of_lists lists) counts order
-    → IsPlacement quota last calls (contents_of_lists lists) counts other → order ≡ other
+    → IsPlacement quota calls (contents_of_lists lists) counts order
+    → IsPlacement quota calls (contents_of_lists lists) counts other → order ≡ other

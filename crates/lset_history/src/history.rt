@@ -10,9 +10,9 @@ use std::alloc::{AllocError, Global};
 use std::fmt;
 use std::marker::Model;
 
-/// A history of calls (Herlihy and Wing): which thread began which call, at which moment, and when it ended with which
-/// reply. Calls are numbered from 0 in the order in which they begin. A moment is a number from 1; each begin or end has a
-/// later moment than all before it.
+/// A history of calls (Herlihy and Wing): the thread of each call, the moment at which it began, and its end and reply. Calls
+/// are numbered from 0 in the order in which they begin. A moment is a number from 1. Each begin or end has a later moment
+/// than all earlier ones.
 #[derive(Drop)]
 pub struct History {
     threads: u32,
@@ -60,8 +60,8 @@ fn last_moment(call_record: &CallRecord) -> u32
 }
 
 impl History {
-    /// Returns a history without calls of a set that opens empty, for `threads` threads, 1 to 64, with a quota of `quota` each, 0
-    /// to 16,384. Does not allocate; `alloc` is for later calls.
+    /// Returns a history without calls, for a set that opens empty, with `threads` threads (1 to 64) and a quota of `quota` each
+    /// (0 to 16,384). Does not allocate; `alloc` is for later calls.
     pub fn new(alloc: Global, threads: u32, quota: u32) -> History
         requires { IsWithin (record { threads = threads; quota = quota; opening = 0 }) }
         ensures { result ≡ record { opening = empty threads quota; calls = [] } }
@@ -69,9 +69,8 @@ impl History {
         History::opened(alloc, threads, quota, Vec::new(alloc))
     }
 
-    /// Returns a history without calls of a set that opens with the keys `opening`, which must be at most 1,048,576 and in
-    /// strictly increasing order. `threads` must be 1 to 64, `quota` 0 to 16,384. Does not allocate: it takes over the
-    /// vector.
+    /// Returns a history without calls, for a set that opens with the keys `opening`: at most 1,048,576 keys in strictly
+    /// increasing order. `threads` must be 1 to 64, `quota` 0 to 16,384. Takes ownership of the vector and does not allocate.
     pub fn opened(alloc: Global, threads: u32, quota: u32, opening: Vec<u32>) -> History
         requires within { IsWithin (record { threads = threads; quota = quota; opening = length opening.items }) }
         requires rising { IsStrictlyIncreasing opening.items }
@@ -91,8 +90,8 @@ impl History {
         }
     }
 
-    /// Lets the set open with the keys `opening` in place of those with which it opened so far. They must be at most 1,048,576
-    /// and in strictly increasing order. Does not allocate: it takes over the vector.
+    /// Replaces the opening keys of the set. `opening` must have at most 1,048,576 keys in strictly increasing order. Takes
+    /// ownership of the vector and does not allocate.
     pub fn reopen(&mut self, opening: Vec<u32>)
         requires within { IsWithin (record {
           threads = self.old.opening.threads;
@@ -106,8 +105,8 @@ impl History {
         self.opening = opening;
     }
 
-    /// Adds a call that may follow those of the history, with its end if it has ended; its number is one more than the last
-    /// one's. May allocate; `AllocError` if that fails, and the history is then as it was.
+    /// Appends a call to the history, with its end if it has ended. The call must be able to follow the calls of the history.
+    /// Can allocate; if that fails, returns `AllocError` and changes nothing.
     pub fn push(&mut self, call_record: CallRecord) -> Result<(), AllocError>
         requires { MayFollow self.old.opening.threads self.old.calls call_record }
         ensures pushed { OnOk result (self.new ≡ with_begun self.old call_record) }
@@ -120,11 +119,11 @@ impl History {
     }
 
     /// Records that thread `thread` begins a call at the moment `at`. Returns the call's number: 0 for the first call of the
-    /// history, and one more for each further one. May allocate.
+    /// history, 1 for the second, and so on. Can allocate.
     ///
     /// # Errors
     ///
-    /// The first that applies; the history is then as it was:
+    /// The first that applies; the history is then unchanged:
     /// - `NoThread`: the history has no such thread;
     /// - `Busy`: the thread has a pending call;
     /// - `Time`: `at` is 0, or not above every earlier moment;
@@ -163,7 +162,7 @@ impl History {
     ///
     /// # Errors
     ///
-    /// The first that applies; the history is then as it was:
+    /// The first that applies; the history is then unchanged:
     /// - `NotOpen`: there is no such call, or it has ended;
     /// - `Time`: `at` is 0, or not above every earlier moment.
     pub fn end(&mut self, id: u32, reply: Reply, at: u32) -> Result<(), HistoryFault>
@@ -217,7 +216,7 @@ impl History {
         self.quota
     }
 
-    /// Returns the keys with which the set opens, at most 1,048,576, in strictly increasing order.
+    /// Returns the opening keys, at most 1,048,576, in strictly increasing order.
     pub fn opening(&self) -> &[u32]
         ensures value { result.now ≡ self.now.opening.keys }
         ensures opens { Opens self.now.opening }

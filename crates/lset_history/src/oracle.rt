@@ -28,8 +28,8 @@ fn tree_of(alloc: Global, keys: &[u32]) -> Result<BTreeSet<u32>, AllocError>
     Ok(tree)
 }
 
-/// The sequential set (Herlihy and Shavit's interface) with a quota for each thread: a set of keys, and how many successful
-/// adds each thread has made.
+/// The sequential set (Herlihy and Shavit's interface) with a quota for each thread: a set of keys, and each thread's number
+/// of successful adds.
 #[derive(Drop)]
 pub struct Oracle {
     alloc: Global,
@@ -49,7 +49,7 @@ impl Model for Oracle {
 }
 
 impl Oracle {
-    /// Returns the empty set for `threads` threads, each with a quota of `quota` successful adds; any numbers are allowed.
+    /// Returns the empty set for `threads` threads, each with a quota of `quota` successful adds. Any numbers are allowed.
     /// Allocates a count for each thread; `AllocError` if that fails.
     pub fn new(alloc: Global, threads: u32, quota: u32) -> Result<Oracle, AllocError>
         ensures { IfOk result (λ o. o ≡ set_opened (empty threads quota)) }
@@ -57,8 +57,8 @@ impl Oracle {
         Oracle::opened(alloc, threads, quota, &[])
     }
 
-    /// Returns the set that opens with `keys`, which must be in strictly increasing order and count as adds of no thread.
-    /// `threads` and `quota` may be any numbers. Allocates; `AllocError` if that fails.
+    /// Returns the set that opens with `keys`, which must be in strictly increasing order. They do not count as adds of a thread.
+    /// Any `threads` and `quota` are allowed. Allocates; `AllocError` if that fails.
     pub fn opened(
         alloc: Global,
         threads: u32,
@@ -77,7 +77,7 @@ impl Oracle {
         })
     }
 
-    /// The set before the first call of a history. Allocates; `AllocError` if that fails.
+    /// Returns the set before the first call of a history. Allocates; `AllocError` if that fails.
     pub(crate) fn before(alloc: Global, history: &History) -> Result<Oracle, AllocError>
         ensures { IfOk result (λ o. o ≡ set_opened history.now.opening) }
     {
@@ -88,7 +88,7 @@ impl Oracle {
     ///
     /// - `Add` replies `False` if the key is present; else `Full` if the thread's count is at the quota; else `True`.
     /// - `Remove` and `Contains` reply `True` if the key is present, else `False`.
-    /// - `Ceiling` replies `At` of the smallest key at or above its own, or `Nothing` if there is none.
+    /// - `Ceiling` replies `At` with the smallest key at or above its argument, or `Nothing` if there is none.
     ///
     /// Only an `Add` or a `Remove` that replies `True` changes the set. Only such an `Add` allocates; if that fails, returns
     /// `AllocError` and changes nothing.

@@ -1,12 +1,12 @@
 ghost use Rattle.lset_history.specs.Laws.{PlacementLinearizes, EveryCallHasAPlace, LogsTellHistories, FitsAreReplies, PlacementIsOneOrder};
 
-/// Theorem of placement: whatever run keeps the account of a set, its calls in the order of their linearization points
-/// linearize its history from the empty set (Herlihy and Wing), and leave its last content.
+/// Theorem of placement: for every run that keeps the account of a set, the order of the calls by their linearization points
+/// linearizes the run's history (Herlihy and Wing) from the opening set, and leaves the last content.
 pub fn placement_linearizes()
     ensures { PlacementLinearizes }
 {}
 
-/// Lemma: every run has a placement, in which each call that changed the set or ended has a place.
+/// Lemma: every run that keeps the account of a set has a placement. Each call that changed the set or ended has a place in it.
 pub fn every_call_has_a_place()
     ensures { EveryCallHasAPlace }
 {}
@@ -16,13 +16,12 @@ pub fn logs_tell_histories()
     ensures { LogsTellHistories }
 {}
 
-/// Lemma: a reply is correct at a content exactly if the sequential set with these keys and this count gives it and does not
-/// change.
+/// Lemma: a reply fits a content exactly if the sequential set with these keys and this count returns it and does not change.
 pub fn fits_are_replies()
     ensures { FitsAreReplies }
 {}
 
-/// Lemma: a run has one placement only.
+/// Lemma: a run has at most one placement.
 pub fn placement_is_one_order()
     ensures { PlacementIsOneOrder }
 {}

@@ -11,9 +11,9 @@ use Rattle.lset_words.specs.declared.Reply.{Reply}
 use Rattle.lset_words.specs.declared.history.CallRecord.{CallRecord}
 use Rattle.lset_words.specs.SequentialSet.{has_key}
 use Rattle.lset_words.specs.Words.{key_of}
-use Rattle.lset_words.specs.History.{call_numbered, no_call}
+use Rattle.lset_words.specs.History.{Follows, call_numbered, no_call}
 use Rattle.lset_words.proofs.Numbers.{below_or_not}
-use Rattle.lset_history.proofs.CallByCall.{Follows, history_begun}
+use Rattle.lset_history.proofs.CallByCall.{history_begun}
 use Rattle.lset_judge.specs.declared.stream.Failed.{Failed}
 use Rattle.lset_judge.specs.declared.stream.Pending.{Pending}
 use Rattle.lset_judge.specs.declared.stream.Stream.{Stream}
@@ -211,7 +211,8 @@ module _ (threads : ℕ) (opening : List ℕ) (calls : List CallRecord) (s : Str
   call_begun of_thread t moved moment by =
       let b = may.begins in record {
         opens = is.opens;
-        history = history_begun threads calls x is.history (record { of_a_thread = of_thread; counted = omega (arith, b); ends_later = may.ends }) follows;
+        history = history_begun threads calls x is.history
+            (record { call = record { of_a_thread = of_thread; counted = omega (arith, b); ends_later = may.ends }; follows = follows });
         plain = All-push (λ (y : CallRecord). IfSome y.ended (λ (e : ℕ × Reply). is_plain y.call e.1 ≡ true)) calls x is.plain may.plain;
         before = All-push IsBefore calls x is.before may.before;
         begun = All-push (λ (y : CallRecord). y.begun ≤ t.moment) calls x (λ n d low. let up = is.begun n d low in omega (arith, up, b, moment)) (omega (arith, moment));

@@ -13,10 +13,9 @@ use Rattle.lset_words.specs.declared.Reply.{Reply}
 use Rattle.lset_words.specs.declared.history.CallRecord.{CallRecord}
 use Rattle.lset_words.specs.SequentialSet.{has_key}
 use Rattle.lset_words.specs.Words.{key_of}
-use Rattle.lset_words.specs.History.{IsHistory, call_numbered, no_call}
+use Rattle.lset_words.specs.History.{IsCall, Follows, IsHistory, call_numbered, no_call}
 use Rattle.lset_words.proofs.Numbers.{unequal_test, below_or_not}
 use Rattle.lset_history.specs.History.{HistoryValue, latest_moment, moment_of}
-use Rattle.lset_history.proofs.CallByCall.{Follows, IsCall, calls_of, pairs_of, history_of}
 use Rattle.lset_judge.specs.Rule.{Event, state_after, may_leave, State, leaves, same, options, nearest, turned_by, turned_if, settled, open_changes, found, entered}
 use Rattle.lset_judge.specs.Rule.{stepped}
 use Rattle.lset_judge.specs.Events.{event_at, rule_explains}
@@ -65,11 +64,13 @@ module _ (last : ℕ) (h : HistoryValue) (told : IsHistory h.opening.threads h.c
   among = event_at last k own
 
   own_told : IsHistory h.opening.threads own
-  own_told = history_of h.opening.threads own (All-filter (is_by k M) (IsCall h.opening.threads) h.calls (calls_of h.opening.threads h.calls told))
-      (AllPairs-filter Follows (is_by k M) h.calls (pairs_of h.opening.threads h.calls told))
+  own_told = record {
+    each = All-filter (is_by k M) (IsCall h.opening.threads) h.calls told.each;
+    pairs = AllPairs-filter Follows (is_by k M) h.calls told.pairs;
+  }
 
   later : AllByRecursion EndsLater h.calls
-  later = recursion_from_All EndsLater h.calls (λ i d l. (calls_of h.opening.threads h.calls told i d l).ends_later)
+  later = recursion_from_All EndsLater h.calls (λ i d l. (told.each i d l).ends_later)
 
   none_of_them : (quota : ℕ) (left : List ℕ) → may_leave among (has_key k h.opening.keys) (has_key k left) last ≡ false
       → IsUnexplained (of_key k M (with_quota quota h)) left

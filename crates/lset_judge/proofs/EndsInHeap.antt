@@ -1,13 +1,14 @@
 -- The ends of open changes, as the code has them: in a heap, and seen in their order.
-use Rattle.std.proofs.Common.{◌≡◌, ℕ, suc, ◌+◌, ◌-◌, ◌<◌, ◌≤◌, List, [], ◌∷◌, Bool, true, false, inl, inr, refl, sym, ap, ◌∙◌, arith, length}
-use Rattle.std.specs.Prelude.{◌==◌, nat_lt, slice_index_or, if◌then◌else◌, Option, Some, None}
+use Rattle.std.proofs.Common.{◌≡◌, ℕ, suc, ◌+◌, ◌-◌, ◌<◌, ◌≤◌, List, [], ◌∷◌, Bool, true, false, inl, inr, refl, sym, ap, ◌∙◌, arith, subst, length}
+use Rattle.std.specs.Prelude.{◌==◌, nat_lt, slice_index_or, slice_get, if◌then◌else◌, Option, Some, None, All, MatchOption}
 use Rattle.std.specs.BinaryHeap.{IsUpperBound}
-use Rattle.std.specs.List.{sum_by}
+use Rattle.std.specs.List.{sum_by, AllByRecursion}
 use Rattle.std.specs.List.Sorted.{IsPermutation}
 use Rattle.std.specs.Ordering.{nat_cmp, is_lt}
 use Rattle.std.specs.declared.cmp.Reverse.{Reverse}
 use Rattle.std.proofs.lemmas.Bool.{cases_Bool, true≢false}
 use Rattle.std.proofs.lemmas.List.Sorted.{sum_by-IsPermutation}
+use Rattle.std.proofs.lemmas.List.Elements.{All-from_recursion}
 use Rattle.std.proofs.lemmas.List.Sums.{sum_by-cons}
 use Rattle.lset_words.proofs.Numbers.{equal_test, unequal_test, below_or_not, lower_number, not_lower_number}
 use Rattle.lset_judge.specs.Heaped.{increasing_of, later_first}
@@ -125,6 +126,39 @@ due_told m e x (y ∷ ys) low is top less = elim (cases_Bool (nat_lt m e)) [
 pub none_held : (xs : List (Reverse ℕ)) → length xs ≡ 0 → increasing_of xs ≡ []
 none_held [] e = refl
 none_held (x ∷ xs) e = absurd (omega (arith, e))
+
+-- ---- the first of them
+
+each_from : (d : ℕ) (xs : List ℕ) → NoneBefore d xs → AllByRecursion (λ (e : ℕ). d ≤ e) xs
+each_from d [] h = tt
+each_from d (x ∷ xs) h = let a = none_before d x xs h in (a.0, each_from d xs a.1)
+
+first_put : (e : ℕ) (xs : List ℕ) → NoneBefore e xs → slice_get (put_in e xs) 0 ≡ Some e
+first_put e [] h = refl
+first_put e (x ∷ xs) h = elim (cases_Bool (nat_lt e x)) [
+  | inl t ↦ rw t refl
+  | inr f ↦ rw f (let a = none_before e x xs h in let l = not_lower_number e x f in let is : x ≡ e = omega (arith, a.0, l) in ap Some is)
+]
+
+pub first_held : (x : Reverse ℕ) (xs : List (Reverse ℕ)) → 0 < length xs → x ≡ slice_index_or xs 0 x → IsUpperBound later_first x xs
+    → (slice_get (increasing_of xs) 0 ≡ Some x.0) × All (λ (e : ℕ). x.0 ≤ e) (increasing_of xs)
+first_held x [] low is top = absurd (omega (arith, low))
+first_held x (y ∷ ys) low is top =
+    let same : y.0 ≡ x.0 = ap (λ (r : Reverse ℕ). r.0) (sym is) in (
+      subst (λ (n : ℕ). slice_get (put_in n (increasing_of ys)) 0 ≡ Some x.0) (sym same) (first_put x.0 (increasing_of ys) (none_in_heap x ys top.1)),
+      All-from_recursion (λ (e : ℕ). x.0 ≤ e) (increasing_of (y ∷ ys)) (each_from x.0 (increasing_of (y ∷ ys)) (none_in_heap x (y ∷ ys) top)),
+    )
+
+abbrev Popped : ℕ → List ℕ → List ℕ → Option ℕ → Type 0
+Popped moment old new r = MatchOption r ((new ≡ old) × All (λ (e : ℕ). moment ≤ e) old)
+    (λ (end : ℕ). (old ≡ end ∷ new) × (end < moment) × All (λ (e : ℕ). end ≤ e) old)
+
+pub first_popped : (end moment : ℕ) (old new : List ℕ) (r : Option ℕ) → slice_get old 0 ≡ Some end → All (λ (e : ℕ). end ≤ e) old → end < moment
+    → MatchOption r (old ≡ []) (λ (e : ℕ). (old ≡ e ∷ new) × (nearest e new ≡ e)) → Popped moment old new r
+first_popped end moment old new None first all early is = absurd (let e : slice_get [] 0 ≡ Some end = subst (λ (xs : List ℕ). slice_get xs 0 ≡ Some end) is first in cc)
+first_popped end moment old new (Some e) first all early is =
+    let h : Some e ≡ Some end = subst (λ (xs : List ℕ). slice_get xs 0 ≡ Some end) is.0 first in let same : end ≡ e = cc in
+    (is.0, subst (λ (n : ℕ). n < moment) same early, subst (λ (n : ℕ). All (λ (o : ℕ). n ≤ o) old) same all)
 
 -- ---- turns and settling, as the code makes them
 

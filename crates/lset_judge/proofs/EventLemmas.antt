@@ -9,11 +9,10 @@ use Rattle.lset_words.specs.declared.Reply.{Reply}
 use Rattle.lset_words.specs.declared.history.CallRecord.{CallRecord}
 use Rattle.lset_words.specs.SequentialSet.{has_key}
 use Rattle.lset_words.specs.Words.{key_of}
-use Rattle.lset_words.specs.History.{no_call}
+use Rattle.lset_words.specs.History.{Follows, no_call}
 use Rattle.lset_words.proofs.Numbers.{same_number, equal_test, unequal_test}
 use Rattle.lset_history.specs.History.{latest_moment, moment_of}
 use Rattle.lset_history.proofs.Pairs.{pairs_head, pairs_tail}
-use Rattle.lset_history.proofs.CallByCall.{Follows}
 use Rattle.lset_judge.specs.Rule.{Event, idle}
 use Rattle.lset_judge.specs.Events.{Kind, kind_if, until_if, ends_at, begin_event, end_event, event_at}
 

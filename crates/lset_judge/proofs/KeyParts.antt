@@ -12,9 +12,8 @@ use Rattle.lset_words.specs.SequentialSet.{has_key}
 use Rattle.lset_words.specs.Words.{key_of}
 use Rattle.lset_words.proofs.Numbers.{same_number, equal_test, unequal_test, same_or_not}
 use Rattle.lset_words.specs.declared.Reply.{Reply}
-use Rattle.lset_words.specs.History.{IsHistory}
+use Rattle.lset_words.specs.History.{IsCall, Follows, IsHistory}
 use Rattle.lset_history.specs.History.{HistoryValue, latest_moment}
-use Rattle.lset_history.proofs.CallByCall as history
 use Rattle.lset_judge.specs.Rule.{idle, Event, may_leave}
 use Rattle.lset_judge.specs.Events.{event_at, rule_explains, RulePasses}
 use Rattle.lset_judge.specs.Locality.{calls_in, keys_in, part_of}
@@ -64,11 +63,10 @@ module _ (h : HistoryValue) (keys : List ℕ) (part : ℕ → ℕ) (i : ℕ) (to
   -- ---- the part is a history
 
   pub part_told : IsHistory h.opening.threads own
-  part_told = history.history_of h.opening.threads own
-      (All-filter (λ (x : CallRecord). part (key_of x.call).0 == i) (history.IsCall h.opening.threads) h.calls
-      (history.calls_of h.opening.threads h.calls told))
-      (AllPairs-filter history.Follows (λ (x : CallRecord). part (key_of x.call).0 == i) h.calls
-      (history.pairs_of h.opening.threads h.calls told))
+  part_told = record {
+    each = All-filter (λ (x : CallRecord). part (key_of x.call).0 == i) (IsCall h.opening.threads) h.calls told.each;
+    pairs = AllPairs-filter Follows (λ (x : CallRecord). part (key_of x.call).0 == i) h.calls told.pairs;
+  }
 
   pub part_judged : IsJudged h → IsJudged (part_of part i h)
   part_judged j = record {

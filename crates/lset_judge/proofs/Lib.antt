@@ -10,11 +10,11 @@ pub mod KeyParts
 pub mod StatesAfter
 pub mod StreamSteps
 pub mod CallBegins
+pub mod ManyFound
 pub mod PendingFound
 pub mod ClosingVerdict
 pub mod KeyStates
-pub mod KeysAtRest
-pub mod LogOfKey
 pub mod OrderAsRead
-pub mod LogsGoOn
-pub mod WindowOfKey
+pub mod ClashOfKey
+pub mod FactsGoOn
+pub mod CountOfKey

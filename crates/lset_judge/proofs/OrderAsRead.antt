@@ -1,15 +1,15 @@
 -- An order that explains the calls explains the calls as read, with the replies as read.
-use Rattle.std.proofs.Common.{◌≡◌, ◌≢◌, ℕ, ◌<◌, ◌≤◌, true, List, [], ◌∷◌, ◌++◌, refl, sym, arith, subst, length, get_or, length-append, ap, ◌∙◌, map, take, drop}
+use Rattle.std.proofs.Common.{◌≡◌, ◌≢◌, ℕ, ◌<◌, ◌≤◌, true, List, [], ◌∷◌, ◌++◌, refl, sym, arith, subst, length, get_or, ap, ◌∙◌, map, take, drop}
 use Rattle.std.proofs.Common.{◌+◌, inl, inr, ◌⊎◌, Bool, false}
 use Rattle.std.specs.Prelude.{Option, Some, None, IfSome, IsSomeAnd, ◌==◌, nat_lt, if◌then◌else◌, All, Contains as Has}
 use Rattle.std.specs.List.{AllByRecursion}
-use Rattle.std.proofs.lemmas.List.{get_or_append_left, get_or_push, get_or-map, get_or_default, length-map, map-append, take_more, take-append-drop}
+use Rattle.std.proofs.lemmas.List.{get_or-map, get_or_default, length-map, map-append, take_more, take-append-drop}
 use Rattle.std.proofs.lemmas.List.Elements.{All-map, recursion_from_All}
 use Rattle.std.proofs.lemmas.Bool.{cases_Bool, true≢false}
 use Rattle.std.proofs.lemmas.Bool.Decides.{nat_tests}
 use Rattle.lset_words.specs.declared.Reply.{Reply}
 use Rattle.lset_words.specs.declared.history.CallRecord.{CallRecord}
-use Rattle.lset_words.specs.History.{IsHistory, call_numbered, no_call, ContinuesHistory, Linearizes, Precedes, answered}
+use Rattle.lset_words.specs.History.{IsCall, Follows, IsHistory, call_numbered, no_call, Linearizes, Precedes, answered}
 use Rattle.lset_words.specs.declared.Call.{Call}
 use Rattle.lset_words.specs.declared.Call.TheVariants.{Add, Remove, Contains, Ceiling}
 use Rattle.lset_words.specs.declared.Reply.TheVariants.{Full, True, False, At, Nothing}
@@ -18,7 +18,7 @@ use Rattle.lset_words.specs.SequentialSet.{SetState, has_key, ceiling_in, count_
 use Rattle.lset_words.proofs.Numbers.{equal_test, same_or_not, below_or_not}
 use Rattle.lset_words.specs.declared.history.Placed.{Placed}
 use Rattle.lset_words.specs.Words.{Opening}
-use Rattle.lset_history.proofs.CallByCall.{Follows, calls_of, pairs_of, IsCall, history_of}
+use Rattle.lset_history.proofs.CallByCall.{may_follow_at, history_front}
 use Rattle.lset_history.specs.Faults.{Explains}
 use Rattle.lset_judge.specs.declared.stream.Pending.{Pending}
 use Rattle.lset_judge.specs.declared.stream.Stream.{Stream}
@@ -68,15 +68,9 @@ comes calls moment pending x are begins ends before plain follows = record {
 pub may_come : (threads : ℕ) (opening : List ℕ) (calls : List CallRecord) (s : Stream) (x : CallRecord) → IsStreamOf threads opening calls s
     → IsHistory threads (calls ++ x ∷ []) → s.moment < x.begun → IsBefore x → IfSome x.ended (λ (e : ℕ × Reply). is_plain x.call e.1 ≡ true)
     → MayCome s.pending s.moment x
-may_come threads opening calls s x is history begins before plain = comes calls s.moment s.pending x is.pending begins
-    (subst (λ (y : CallRecord). IfSome y.ended (λ (e : ℕ × Reply). y.begun < e.0)) (get_or_push calls x x (length calls) refl)
-    (calls_of threads (calls ++ x ∷ []) history (length calls) x last).ends_later) before plain
-    (λ n low. subst (λ (y : CallRecord). Follows y x) (get_or_append_left calls (x ∷ []) no_call n low)
-    (subst (Follows (get_or (calls ++ x ∷ []) n no_call)) (get_or_push calls x no_call (length calls) refl)
-    (pairs_of threads (calls ++ x ∷ []) history n (length calls) no_call low last)))
-  where
-    last : length calls < length (calls ++ x ∷ [])
-    last = let long = length-append calls (x ∷ []) in omega (arith, long)
+may_come threads opening calls s x is history begins before plain =
+    let may = may_follow_at threads calls [] x history in
+    comes calls s.moment s.pending x is.pending begins may.call.ends_later before plain (λ n low. may.follows n no_call low)
 
 -- ---- the calls of a history as read are a history, and plain
 
@@ -112,22 +106,19 @@ read_follows y x f = record {
 pub read_history : (threads : ℕ) (calls : List CallRecord) → IsHistory threads calls → IsHistory threads (map read_as calls)
 read_history threads calls history =
     let long = length-map calls read_as in
-    history_of threads (map read_as calls)
-    (All-map (IsCall threads) read_as calls (λ i d low. read_call threads (get_or calls i d) (calls_of threads calls history i d low)))
-    (λ i j d low high.
-    let under : j < length calls = omega (arith, long, high) in
-    subst (λ (y : CallRecord). Follows y (get_or (map read_as calls) j d)) (sym (get_or-map read_as calls i no_call d (omega (arith, long, low, high))))
-    (subst (Follows (read_as (get_or calls i no_call))) (sym (get_or-map read_as calls j no_call d under))
-    (read_follows (get_or calls i no_call) (get_or calls j no_call) (pairs_of threads calls history i j no_call low under))))
+    record {
+      each = All-map (IsCall threads) read_as calls (λ i d low. read_call threads (get_or calls i d) (history.each i d low));
+      pairs = λ i j d low high.
+          let under : j < length calls = omega (arith, long, high) in
+          subst (λ (y : CallRecord). Follows y (get_or (map read_as calls) j d)) (sym (get_or-map read_as calls i no_call d (omega (arith, long, low, high))))
+          (subst (Follows (read_as (get_or calls i no_call))) (sym (get_or-map read_as calls j no_call d under))
+          (read_follows (get_or calls i no_call) (get_or calls j no_call) (history.pairs i j no_call low under)));
+    }
 
 -- so are the first of them
-prefix : (threads : ℕ) (earlier xs ys : List CallRecord) → ContinuesHistory threads earlier (xs ++ ys) → ContinuesHistory threads earlier xs
-prefix threads earlier [] ys h = tt
-prefix threads earlier (x ∷ xs) ys h = (h.0, prefix threads (earlier ++ x ∷ []) xs ys h.1)
-
 pub history_upto : (threads n : ℕ) (calls : List CallRecord) → IsHistory threads calls → IsHistory threads (take n calls)
 history_upto threads n calls history =
-    prefix threads [] (take n calls) (drop n calls) (subst (IsHistory threads) (sym (take-append-drop n calls)) history)
+    history_front threads (take n calls) (drop n calls) (subst (IsHistory threads) (sym (take-append-drop n calls)) history)
 
 -- each of them is plain
 plain_as : (c : Call) (r : Reply) → is_plain (call_as c r) (reply_as c r) ≡ true
@@ -159,18 +150,18 @@ next_may threads opening xs i d s x history low so is early before =
     (subst (λ (y : CallRecord). IfSome y.ended (λ (e : ℕ × Reply). is_plain y.call e.1 ≡ true)) (sym so) (read_plain (get_or xs i d)))
 
 pub first_early : (threads m n : ℕ) (xs : List CallRecord) → IsHistory threads xs → m ≡ 0 → n < length xs → m < (get_or xs n no_call).begun
-first_early threads m n xs history zero inside = let b = (calls_of threads xs history n no_call inside).counted in omega (arith, b, zero)
+first_early threads m n xs history zero inside = let b = (history.each n no_call inside).counted in omega (arith, b, zero)
 
 pub next_early : (threads m i n : ℕ) (d x : CallRecord) (xs : List CallRecord) → IsHistory threads xs → m ≡ x.begun → x ≡ read_as (get_or xs i d)
     → i < n → n < length xs → m < (get_or xs n no_call).begun
 next_early threads m i n d x xs history at so low inside =
-    let up = (pairs_of threads xs history i n no_call low inside).increasing in
+    let up = (history.pairs i n no_call low inside).increasing in
     let begun : x.begun ≡ (get_or xs i no_call).begun = ap (λ (y : CallRecord). y.begun) so
     ∙ ap (λ (y : CallRecord). y.begun) (get_or_default xs i d no_call (omega (arith, low, inside))) in omega (arith, at, begun, up)
 
 pub next_thread : (threads i : ℕ) (d x : CallRecord) (xs : List CallRecord) → IsHistory threads xs → i < length xs → x ≡ read_as (get_or xs i d) → x.thread < threads
 next_thread threads i d x xs history low so =
-    let a = (calls_of threads xs history i d low).of_a_thread in let e = ap (λ (y : CallRecord). y.thread) so in omega (arith, a, e)
+    let a = (history.each i d low).of_a_thread in let e = ap (λ (y : CallRecord). y.thread) so in omega (arith, a, e)
 
 -- ---- one call
 

@@ -20,7 +20,6 @@ use Rattle.lset_judge.specs.Rule.{found, entered, stepped, state_after, may_leav
 use Rattle.lset_judge.specs.Events.{Kind, changes, sees, nothing, kind_of, kind_if, event_at, begin_event, end_event}
 use Rattle.lset_judge.specs.Verdict.{is_plain}
 use Rattle.lset_judge.proofs.EventLemmas.{kind, until, Begins, told, begins_at, ends_there, end_below, none_or_some}
-use Rattle.lset_history.proofs.CallByCall.{pairs_of}
 use Rattle.lset_judge.proofs.RuleLeads.{nearest_stands, at, at_once, later, no_state, settled_none, some_or_none}
 use Rattle.lset_judge.proofs.TimelineFromOrder.{does_own, other_stays, untils_differ, begins_told, is_call}
 use Rattle.lset_judge.proofs.TimelineOfKey.{becomes, NoTwice, left_in, others_stay, gone, no_twice_left, has_head, has_tail, has_split, has_put, no_twice_put, until_of}
@@ -449,7 +448,7 @@ module _ (threads : ℕ) (calls : List CallRecord) (history : IsHistory threads 
 
   begins_here : (k m n : ℕ) → n < length calls → key n ≡ k → (x_ n).begun ≡ m → ev k m ≡ begin_event (kind (x_ n)) (until last (x_ n))
   begins_here k m n low own b =
-      subst (λ j. ev k j ≡ begin_event (kind (x_ n)) (until last (x_ n))) b (begins_at last k n calls low (pairs_of threads calls history) own)
+      subst (λ j. ev k j ≡ begin_event (kind (x_ n)) (until last (x_ n))) b (begins_at last k n calls low history.pairs own)
 
   change_here : (k m n : ℕ) (w : Bool) → n < length calls → key n ≡ k → kind (x_ n) ≡ changes w → (x_ n).begun ≡ m
       → ev k m ≡ begins w (until last (x_ n))
@@ -542,7 +541,7 @@ module _ (threads : ℕ) (calls : List CallRecord) (history : IsHistory threads 
 
       event_is : ev k (suc m) ≡ end_event (kind (x_ n)) (x_ n).begun
       event_is = subst (λ j. ev k j ≡ end_event (kind (x_ n)) (x_ n).begun) at
-          (ends_there last k n calls e low (pairs_of threads calls history) own ended begun_before)
+          (ends_there last k n calls e low history.pairs own ended begun_before)
 
       until_is : until last (x_ n) ≡ suc m
       until_is = let a : until last (x_ n) ≡ e.0 = rw ended refl in a ∙ at

@@ -1,11 +1,11 @@
 -- Calls that have their places, and what a call placed next replies.
-use Rattle.std.proofs.Common.{◌≡◌, ℕ, zero, suc, ◌<◌, ◌⊎◌, List, [], ◌∷◌, ◌++◌, Bool, true, false, inl, inr, refl, sym, ap, arith}
-use Rattle.std.proofs.Common.{subst, length, get_or, map}
+use Rattle.std.proofs.Common.{◌≡◌, ℕ, zero, suc, ◌<◌, ◌⊎◌, List, [], ◌∷◌, ◌++◌, Bool, true, false, inl, inr, refl, sym, arith}
+use Rattle.std.proofs.Common.{subst, length, get_or}
 use Rattle.std.specs.Prelude.{◌==◌, ◌||◌, not, nat_lt, Option, Some, None, All, IfSome}
 use Rattle.std.proofs.lemmas.Bool.{true≢false}
 use Rattle.std.proofs.lemmas.Bool.Decides.{nat_tests}
 use Rattle.lset_words.specs.declared.Call.{Call}
-use Rattle.lset_words.specs.declared.Call.TheVariants.{Add, Remove, Contains as IsIn, Ceiling}
+use Rattle.lset_words.specs.declared.Call.TheVariants.{Add, Remove, Contains as IsIn}
 use Rattle.lset_words.specs.declared.Reply.{Reply}
 use Rattle.lset_words.specs.declared.Reply.TheVariants.{True, False}
 use Rattle.lset_words.specs.declared.history.Placed.{Placed}

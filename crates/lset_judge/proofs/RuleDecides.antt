@@ -23,7 +23,6 @@ use Rattle.lset_words.proofs.IncreasingLists.{IncreasesFrom, same_increasing, in
 use Rattle.lset_history.proofs.Pairs.{pairs_head, pairs_tail}
 use Rattle.lset_history.specs.History.{HistoryValue, latest_moment}
 use Rattle.lset_history.proofs.Keys.{has_true, has_from, has_none, with_increases, without_increases}
-use Rattle.lset_history.proofs.CallByCall.{calls_of}
 use Rattle.lset_judge.specs.Verdict.{may_add, puts_in, adds_of, is_plain, IsJudged, IsExplained, IsUnexplained}
 use Rattle.lset_judge.specs.Events.{changes, kind_of, kind_if, event_at, rule_explains, RulePasses}
 use Rattle.lset_judge.proofs.EventLemmas.{kind}
@@ -194,7 +193,7 @@ explained_so last h left upto history opens judged each =
     let threads : ℕ = h.opening.threads in
     let plain : (n : ℕ) (e : ℕ × Reply) → n < length h.calls → (call_numbered h.calls n).ended ≡ Some e → is_plain (call_numbered h.calls n).call e.1 ≡ true =
     λ n e low s. subst (λ o. IfSome o (λ (f : ℕ × Reply). is_plain (call_numbered h.calls n).call f.1 ≡ true)) s (judged.plain n no_call low) in
-    let room = has_room h.calls h.opening judged.room (λ n low. (calls_of threads h.calls history n no_call low).of_a_thread) in
+    let room = has_room h.calls h.opening judged.room (λ n low. (history.each n no_call low).of_a_thread) in
     let found = order_found threads h.calls history last upto h.opening.quota (opening_set h.opening) plain room left each in
     let l = linearizes threads h.calls history last upto h.opening.quota (opening_set h.opening) plain room found.0 found.1 in
     let increases = left_increasing h.opening.quota (opening_set h.opening) (map (answered h.calls) found.0) l.legal (increases_from_increasing h.opening.keys opens) in (

@@ -5,7 +5,7 @@ use Rattle.std.proofs.lemmas.Bool.{cases_Bool, true≢false, not-true, not-false
 use Rattle.std.proofs.lemmas.Bool.Decides.{nat_tests}
 use Rattle.lset_words.specs.SequentialSet.{has_key}
 use Rattle.lset_words.proofs.Numbers.{same_number, below_or_not, if_below, if_not_below, other_number, lower_number, not_lower_number}
-use Rattle.lset_judge.specs.Rule.{not_before, put_in, take_out, nearest, Event, State, settled, begins, ends, looks, leaves, idle, same, changes_to, options, fits}
+use Rattle.lset_judge.specs.Rule.{not_before, put_in, take_out, nearest, Event, State, settled, begins, ends, looks, leaves, same, changes_to, options, fits}
 use Rattle.lset_judge.specs.Rule.{entering, enters, turned_by, turned_if, open_changes, opened}
 
 -- ---- how many moments of a list are not before one, where one of them is taken out

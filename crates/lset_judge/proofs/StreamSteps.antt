@@ -15,7 +15,6 @@ use Rattle.lset_words.specs.SequentialSet.{has_key}
 use Rattle.lset_words.specs.Words.{key_of}
 use Rattle.lset_words.specs.History.{IsHistory, call_numbered, no_call}
 use Rattle.lset_words.proofs.Numbers.{below_or_not, same_or_not, equal_test, unequal_test, same_number, other_number}
-use Rattle.lset_history.proofs.CallByCall.{calls_of, pairs_of}
 use Rattle.lset_history.proofs.Pairs.{pairs_head, pairs_tail}
 use Rattle.lset_judge.specs.declared.stream.Failed.{Failed}
 use Rattle.lset_judge.specs.declared.stream.Pending.{Pending}
@@ -199,11 +198,11 @@ module _ (threads : ℕ) (calls : List CallRecord) (history : IsHistory threads 
         let e : ℕ × Reply = end_of.0 in let s = end_of.1 in
         let at_end : e.0 ≡ next.end = end_of.2 ∙ sym (ap (λ (p : Pending). p.end) is_next) in
         let later : (call number).begun < e.0 =
-        if_some (λ (d : ℕ × Reply). (call number).begun < d.0) (call number).ended e s (calls_of threads calls history number no_call of_number).ends_later in
+        if_some (λ (d : ℕ × Reply). (call number).begun < d.0) (call number).ended e s (history.each number no_call of_number).ends_later in
         elim (cases_Bool (key_in next == k)) [
           | inl t ↦ (let key : (key_of (call number).call).0 ≡ k = sym (ap (λ (p : Pending). key_in p) is_next) ∙ same_number (key_in next) k t in
               ap (λ (j : ℕ). event_at behind_all k calls j) (sym at_end)
-              ∙ ends_there behind_all k number calls e of_number (pairs_of threads calls history) key s later
+              ∙ ends_there behind_all k number calls e of_number history.pairs key s later
               ∙ sym (ap (λ (p : Pending). event_of p) is_next) ∙ rw t refl)
           | inr f ↦ by (event_at behind_all k calls next.end) (told behind_all k next.end calls) (other_number (key_in next) k f) ∙ rw f refl
         ]

@@ -14,13 +14,12 @@ use Rattle.lset_words.specs.declared.history.CallRecord.{CallRecord}
 use Rattle.lset_words.specs.declared.history.Placed.{Placed}
 use Rattle.lset_words.specs.Words.{key_of}
 use Rattle.lset_words.specs.SequentialSet.{SetState, has_key, opening_set, reply_to, after_call, IsLegal, set_left, count_of}
-use Rattle.lset_words.specs.History.{IsHistory, call_numbered, no_call, answered, Precedes, Linearizes}
+use Rattle.lset_words.specs.History.{IsCall, Follows, IsHistory, call_numbered, no_call, answered, Precedes, Linearizes}
 use Rattle.lset_words.proofs.Numbers.{same_number, equal_test, below_or_not, same_or_not}
 use Rattle.lset_history.specs.History.{HistoryValue, latest_moment}
 use Rattle.lset_history.specs.Faults.{Explains, set_left_by}
 use Rattle.lset_history.proofs.Lists.{Pairs}
 use Rattle.lset_history.proofs.Pairs.{pairs_head, pairs_tail}
-use Rattle.lset_history.proofs.CallByCall.{Follows, IsCall, calls_of, pairs_of}
 use Rattle.lset_judge.specs.Rule.{Event, begins, looks, leaves, idle, opened, changes_to}
 use Rattle.lset_judge.specs.Events.{Kind, changes, sees, nothing, kind_of, open_kind, kind_if, until_if, begin_event, end_event, event_at}
 use Rattle.lset_judge.specs.Events.{RulePasses}
@@ -90,10 +89,10 @@ module _ (threads : ℕ) (calls : List CallRecord) (history : IsHistory threads 
   x_ n = get_or calls n no_call
 
   follows : (i j : ℕ) → i < j → j < length calls → Follows (x_ i) (x_ j)
-  follows i j l h = pairs_of threads calls history i j no_call l h
+  follows i j l h = history.pairs i j no_call l h
 
   pub is_call : (n : ℕ) → n < length calls → IsCall threads (x_ n)
-  is_call n h = calls_of threads calls history n no_call h
+  is_call n h = history.each n no_call h
 
   late_end : (o : Option (ℕ × Reply)) (begun : ℕ) → 0 < begun → begun ≤ last → IfSome o (λ (e : ℕ × Reply). begun < e.0)
       → begun < until_if last begun o
@@ -302,13 +301,13 @@ module _ (threads : ℕ) (calls : List CallRecord) (history : IsHistory threads 
             ends_later = late_end (x_ p.call).ended (x_ p.call).begun c.counted (begun_low p.call known) c.ends_later;
             told = λ w e.
                 let own = own_if (x_ p.call).call p.reply w e in
-                let is = begins_at last k p.call calls known (pairs_of threads calls history) own.0 in
+                let is = begins_at last k p.call calls known history.pairs own.0 in
                 let kd = kind_there i d w low own.1 in
                 is ∙ ap (λ q. begin_event q (until last (x_ p.call))) kd;
           })
 
       -- the act of an ended call
-      stands : (n : ℕ) (e : ℕ × Reply) → n < length calls → (x_ n).ended ≡ Some e → (key_of (x_ n).call).0 ≡ k
+      pub stands : (n : ℕ) (e : ℕ × Reply) → n < length calls → (x_ n).ended ≡ Some e → (key_of (x_ n).call).0 ≡ k
           → In (act (x_ n).begun e.0 (kind (x_ n))) (map act_of order)
       stands n e known s own =
           let c = l.ended n e.0 e.1 known s in
@@ -318,7 +317,7 @@ module _ (threads : ℕ) (calls : List CallRecord) (history : IsHistory threads 
           subst (λ u. In (act (x_ n).begun u (kind (x_ n))) (map act_of order)) a
           (subst (λ q. In (act (x_ n).begun (until last (x_ n)) q) (map act_of order)) b i)
 
-      ready : (left : Bool) → has_key k (set_left_by start calls order).keys ≡ left
+      pub ready : (left : Bool) → has_key k (set_left_by start calls order).keys ≡ left
           → Ready ev last left are_events 0 (opened (has_key k start.keys)) (map act_of order)
       ready left e = record {
         take_turns = turns_map quota left order start l.legal e;

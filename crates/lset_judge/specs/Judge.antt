@@ -1,14 +1,17 @@
 -- WHAT THE JUDGE KEEPS, and what its answer says.
-use Rattle.std.specs.Prelude.{◌≡◌, ℕ, List, None, IfSome}
+use Rattle.std.specs.Prelude.{ℕ, List, Option, Some, None, IfSome}
+use Rattle.lset_words.specs.declared.effect.Presence.{Presence}
+use Rattle.lset_words.specs.Effects.{presence}
+use Rattle.lset_words.specs.SequentialSet.{has_key}
 use Rattle.lset_words.specs.declared.history.CallRecord.{CallRecord}
 use Rattle.lset_judge.specs.declared.stream.StreamVerdict.TheVariants.{Linearizable, NotLinearizable}
 use Rattle.lset_judge.specs.Stream.{stream_history, IsStreamVerdict, IsStreamVerdictCutOff}
 use Rattle.lset_judge.specs.declared.judging.Verdict.{Verdict}
 use Rattle.lset_judge.specs.declared.judging.Verdict.TheVariants as verdict
 use Rattle.lset_judge.specs.declared.judging.Judge.{Judge}
-use Rattle.lset_judge.specs.declared.window.Window.{Window}
-use Rattle.lset_judge.specs.Log.{IsStreamKept}
-use Rattle.lset_judge.specs.Window.{left_by, IsWindow}
+use Rattle.lset_judge.specs.declared.clash.Clash.{Clash}
+use Rattle.lset_judge.specs.Clash.{record_if, IsClash}
+use Rattle.lset_judge.specs.Facts.{IsStreamKept}
 
 -- THE CALLS OF THE JUDGE so far are these, of a set that opens with these keys
 abbrev pub IsJudgeOf : ℕ → List ℕ → List CallRecord → Judge → Type 0
@@ -16,17 +19,25 @@ IsJudgeOf threads opening calls j = IsStreamKept threads opening calls j.stream
 
 -- ---- WHAT THE ANSWER SAYS
 
--- the answer is that of the stream; and a window is one of the refusal's key and moment, and of how the key is left, if that is what has no
--- order
+-- how the key of a refusal is left, if that is what has no order
+abbrev pub left_by : List ℕ → ℕ → Option ℕ → Option Presence
+left_by keys key (Some moment) = None
+left_by keys key None = Some (presence (has_key key keys))
+
+-- two calls of the recording and of the key clash; one of them may be how the key was at first, or how it is left
+abbrev pub ClashesIn : List ℕ → List CallRecord → ℕ → Option Presence → Clash → Type 0
+ClashesIn opening calls key left c =
+    IsClash calls key (presence (has_key key opening)) left c.was (record_if c.first) (record_if c.second)
+
+-- the answer is that of the stream; and a clash is one of the refusal's key, and of how the key is left, if that is what has no order
 abbrev pub IsVerdict : ℕ → List ℕ → List CallRecord → List ℕ → Verdict → Type 0
 IsVerdict threads opening calls keys verdict.Linearizable = IsStreamVerdict (stream_history threads opening calls) keys Linearizable
-IsVerdict threads opening calls keys (verdict.NotLinearizable refusal window) =
+IsVerdict threads opening calls keys (verdict.NotLinearizable refusal clash) =
     IsStreamVerdict (stream_history threads opening calls) keys (NotLinearizable refusal)
-    × IfSome window (λ (w : Window). (w.key ≡ refusal.key) × (w.left ≡ left_by keys refusal.key.0 refusal.moment)
-    × IsWindow threads opening calls (left_by keys refusal.key.0 refusal.moment) refusal.moment w)
+    × IfSome clash (ClashesIn opening calls refusal.key.0 (left_by keys refusal.key.0 refusal.moment))
 
 abbrev pub IsVerdictCutOff : ℕ → List ℕ → List CallRecord → Verdict → Type 0
 IsVerdictCutOff threads opening calls verdict.Linearizable = IsStreamVerdictCutOff (stream_history threads opening calls) Linearizable
-IsVerdictCutOff threads opening calls (verdict.NotLinearizable refusal window) =
+IsVerdictCutOff threads opening calls (verdict.NotLinearizable refusal clash) =
     IsStreamVerdictCutOff (stream_history threads opening calls) (NotLinearizable refusal)
-    × IfSome window (λ (w : Window). (w.key ≡ refusal.key) × (w.left ≡ None) × IsWindow threads opening calls None refusal.moment w)
+    × IfSome clash (ClashesIn opening calls refusal.key.0 None)

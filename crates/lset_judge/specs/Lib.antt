@@ -4,11 +4,12 @@ pub mod Verdict
 pub mod Code
 pub mod Heaped
 pub mod Locality
-pub mod Window
 pub mod Leaving
 pub mod Pending
 pub mod Stream
 pub mod Rest
 pub mod Judge
 pub mod Reading
-pub mod Log
+pub mod Clash
+pub mod Facts
+pub mod Count

@@ -1,27 +1,34 @@
--- THE PENDING CALLS, as the code keeps them: a few that are looked at one by one, and the others by their ends.
-use Rattle.std.specs.Prelude.{◌≡◌, ℕ, ◌<◌, ◌≤◌, List, ◌∷◌, ◌++◌, map, length, Option, Some, None, All, slice_index_or}
+-- THE PENDING CALLS, as the code keeps them: a few that are looked at one by one, and many by their ends.
+use Rattle.std.specs.Prelude.{◌≡◌, ℕ, ◌<◌, nat_lt, if◌then◌else◌, ◌≤◌, List, ◌∷◌, length, Option, Some, None, All, Contains, slice_index_or}
 use Rattle.std.specs.Bool.{nat_eq}
-use Rattle.std.specs.HashMap.{HashMap, get}
+use Rattle.std.specs.HashMap.{get}
 use Rattle.std.specs.List.Sorted.{IsPermutation}
 use Rattle.lset_words.specs.declared.Reply.{Reply}
 use Rattle.lset_judge.specs.declared.stream.StreamCall.{StreamCall}
 use Rattle.lset_judge.specs.declared.stream.Pending.{Pending}
+use Rattle.lset_judge.specs.declared.busy.Busy.{Busy}
 
 abbrev pub pending_at : ℕ × StreamCall → Pending
 pending_at e = record { end = e.0; call = e.1 }
-
-abbrev pub all_pending : List Pending → List (ℕ × StreamCall) → List Pending
-all_pending few many = few ++ map pending_at many
 
 -- the place has the nearest of the ends
 pub record IsFirst (place : ℕ) (few : List Pending) : Type 0 where
   pub inside : 0 < length few → place < length few
   pub smallest : (d : Pending) → All (λ (p : Pending). (slice_index_or few place d).end ≤ p.end) few
 
--- the nearest of the few has its place, and the thread of each of the others is known
-pub record AreHeld {S : Type 0} (few : List Pending) (next : ℕ) (many : List (ℕ × StreamCall)) (busy : HashMap ℕ ℕ S) : Type 0 where
-  pub first : IsFirst next few
-  pub known : All (λ (e : ℕ × StreamCall). get nat_eq busy e.1.thread ≡ Some e.0) many
+-- the number, or else 0
+abbrev pub or_zero : Option ℕ → ℕ
+or_zero None = 0
+or_zero (Some n) = n
+
+-- the end of the last call of a thread, and else 0
+abbrev pub last_end : Busy → ℕ → ℕ
+last_end b t = if nat_lt t 65536 then slice_index_or b.low.items t 0 else or_zero (get nat_eq b.high t)
+
+-- the end of each is kept by itself too, and the thread of each is known
+pub record AreHeld (calls : List (ℕ × StreamCall)) (ends : List ℕ) (busy : Busy) : Type 0 where
+  pub known : All (λ (e : ℕ × StreamCall). last_end busy e.1.thread ≡ e.0) calls
+  pub held : All (λ (e : ℕ × StreamCall). Contains ends e.0) calls
 
 -- the end of a call, or else a moment
 abbrev pub end_or : ℕ → Option (ℕ × Reply) → ℕ

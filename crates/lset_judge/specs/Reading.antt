@@ -36,9 +36,11 @@ abbrev pub read_as : CallRecord → CallRecord
 read_as x = record { thread = x.thread; call = call_if x.call x.ended; begun = x.begun; ended = end_as x.call x.ended }
 
 -- THE VERDICT on a history, of a set without a quota: some order explains it and leaves the keys; none does, under any quota, with the answer
--- on the calls as read; or it is not one of which each ended call answered true or false, and none is a `ceiling`
+-- on the calls as read; or it is not one of which each ended call answered true or false, and none is a `ceiling`, and some order explains the
+-- calls as read
 abbrev pub IsJudged : HistoryValue → List ℕ → Judged → Type 0
 IsJudged h keys judged.Linearizable = IsExplained (without_quota h) keys
 IsJudged h keys (judged.NotLinearizable refusal window) = ((quota : ℕ) → IsUnexplained (with_quota quota h) keys)
     × IsVerdict h.opening.threads h.opening.keys (map read_as h.calls) keys (verdict.NotLinearizable refusal window)
-IsJudged h keys judged.Undecided = IsPlain h.calls → ⊥
+IsJudged h keys judged.Undecided = (IsPlain h.calls → ⊥)
+    × IsVerdict h.opening.threads h.opening.keys (map read_as h.calls) keys verdict.Linearizable

@@ -1,6 +1,6 @@
-//! The ends of the pending changes of a key: the nearest is at hand, and each costs the logarithm of their number.
+//! A heap of ends. The nearest end is found at once. Each insertion and removal takes time logarithmic in their number.
 
-ghost use Rattle.std.specs.Prelude.{◌≡◌, ◌==◌, ◌∷◌, [], suc, length, MatchOption, OnOk};
+ghost use Rattle.std.specs.Prelude.{◌≡◌, ◌==◌, ◌<◌, ◌≤◌, ◌∷◌, [], suc, length, slice_get, All, IsTrue, MatchOption, Some, OnOk, OnErr};
 ghost use Rattle.lset_judge.specs.Rule.{nearest, not_before, put_in};
 
 use std::alloc::{AllocError, Global};
@@ -8,7 +8,7 @@ use std::cmp::Reverse;
 use std::collections::BinaryHeap;
 use std::marker::Model;
 
-/// The ends of changes. They are seen in their order.
+/// Ends of calls, seen by contracts in increasing order.
 #[derive(Drop)]
 pub(crate) struct Ends {
     heap: BinaryHeap<Reverse<u64>>,
@@ -27,7 +27,7 @@ impl Model for Ends {
 }
 
 impl Ends {
-    /// None.
+    /// Returns no ends. Does not allocate.
     pub(crate) fn new(alloc: Global) -> Ends
         ensures { result ≡ [] }
     {
@@ -42,7 +42,7 @@ impl Ends {
         self.heap.is_empty()
     }
 
-    /// Whether none of them is at the moment after `before`, or earlier.
+    /// Whether no end is at the moment after `before` or earlier.
     pub(crate) fn none_due(&self, before: u64) -> bool
         ensures { result ≡ (not_before (suc (suc before)) self.now == length self.now) }
     {
@@ -52,15 +52,36 @@ impl Ends {
         }
     }
 
-    /// One more.
+    /// Returns the nearest end, if there is one.
+    fn first(&self) -> Option<u64>
+        ensures { MatchOption result (self.now ≡ []) (λ end. (slice_get self.now 0 ≡ Some end) × All (λ other. end ≤ other) self.now) }
+    {
+        match self.heap.peek() {
+            Some(end) => Some(end.0),
+            None => None,
+        }
+    }
+
+    /// Whether all ends are after a moment.
+    pub(crate) fn are_after(&self, moment: u64) -> bool
+        ensures { IsTrue result → All (λ end. moment < end) self.now }
+    {
+        match self.first() {
+            Some(end) => moment < end,
+            None => true,
+        }
+    }
+
+    /// Adds an end.
     pub(crate) fn push(&mut self, end: u64) -> Result<(), AllocError>
-        ensures { OnOk result (self.new ≡ put_in end self.old) }
+        ensures more { OnOk result (self.new ≡ put_in end self.old) }
+        ensures same { OnErr result (self.new ≡ self.old) }
     {
         self.heap.push(Reverse(end))?;
         Ok(())
     }
 
-    /// Takes the nearest out, if there is one.
+    /// Removes and returns the nearest end, if there is one.
     pub(crate) fn pop(&mut self) -> Option<u64>
         ensures { MatchOption result (self.old ≡ []) (λ end. (self.old ≡ end ∷ self.new) × (nearest end self.new ≡ end)) }
     {
@@ -68,5 +89,16 @@ impl Ends {
             return None;
         };
         Some(end.0)
+    }
+
+    /// Removes and returns the nearest end, if it is before a moment.
+    pub(crate) fn pop_before(&mut self, moment: u64) -> Option<u64>
+        ensures { MatchOption result ((self.new ≡ self.old) × All (λ end. moment ≤ end) self.old)
+            (λ end. (self.old ≡ end ∷ self.new) × (end < moment) × All (λ other. end ≤ other) self.old) }
+    {
+        match self.first() {
+            Some(end) if end < moment => self.pop(),
+            Some(_) | None => None,
+        }
     }
 }

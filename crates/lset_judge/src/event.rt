@@ -1,4 +1,4 @@
-//! What happens of a key at a moment.
+//! The event of a key at a moment.
 
 ghost use Rattle.std.specs.Prelude.{◌≡◌};
 ghost use Rattle.lset_judge.specs.Code.{event_as};
@@ -6,20 +6,20 @@ ghost use Rattle.lset_judge.specs.Events.{kind_as, open_kind, begin_event, end_e
 
 use lset_words::{Call, Effect, Presence};
 
-/// What happens of a key at a moment.
+/// The event of a key at a moment.
 #[derive(Clone, Copy, Debug, PartialEq, Eq)]
 pub(crate) enum Event {
-    /// A change begins: how it leaves the key, and the moment before which it takes effect.
+    /// A change begins: the state to which it changes the key, and the moment before which it takes effect.
     Begins(Presence, u64),
-    /// Such a change ends.
+    /// A change ends: the state to which it changed the key.
     Ends(Presence),
-    /// A call ends that saw the key so, and the moment at which it began.
+    /// A read ends: the presence it saw, and when the call began.
     Looks(Presence, u64),
-    /// Nothing.
+    /// No event that the rule looks at.
     Idle,
 }
 
-/// What a call that has not ended may do to its key.
+/// Returns the effect that a pending call can have on its key.
 pub(crate) fn open_effect(call: Call) -> Effect
     ensures { kind_as result ≡ open_kind call }
 {
@@ -30,7 +30,7 @@ pub(crate) fn open_effect(call: Call) -> Effect
     }
 }
 
-/// What a call is to its key as it begins: before which moment it takes effect.
+/// Returns the event of a call's begin. `until` is the moment before which the call takes effect.
 pub(crate) fn begin_event(effect: Effect, until: u64) -> Event
     ensures { event_as result ≡ begin_event (kind_as effect) until }
 {
@@ -40,7 +40,7 @@ pub(crate) fn begin_event(effect: Effect, until: u64) -> Event
     }
 }
 
-/// And as it ends: the moment at which it began.
+/// Returns the event of a call's end. `begun` is when the call began.
 pub(crate) fn end_event(effect: Effect, begun: u64) -> Event
     ensures { event_as result ≡ end_event (kind_as effect) begun }
 {

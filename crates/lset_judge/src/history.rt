@@ -1,4 +1,4 @@
-//! A history judged by the stream that judges calls as they come.
+//! Judges a whole history, call by call.
 
 ghost use Rattle.std.specs.Prelude.{◌≡◌, ◌<◌, ◌++◌, ◌∷◌, [], ℕ, IfOk, List, OnOk};
 ghost use Rattle.std.specs.List.Sorted.{IsStrictlyIncreasing};
@@ -7,21 +7,21 @@ ghost use Rattle.lset_words.specs.declared.history.CallRecord.{CallRecord as Rec
 ghost use Rattle.lset_judge.specs.Judge.{IsJudgeOf};
 ghost use Rattle.lset_judge.specs.Reading.{IsJudged, read_as, call_as, reply_as};
 
+use crate::clash::Clash;
 use crate::judged::is_plain;
 use crate::judging::{Judge, Verdict};
 use crate::stream::{Refusal, StreamCall, StreamFault};
-use crate::window::Window;
 use lset_history::History;
 use lset_words::{Call, CallRecord, Reply};
 use std::alloc::{AllocError, Global};
 
-/// What the judge says of a history.
+/// The verdict of `judge` on a history.
 #[derive(Debug, Drop)]
 pub enum Judged {
     /// Some order explains the calls, from the opening keys, and leaves the keys.
     Linearizable,
-    /// No order does: why, and the window that shows it, if there is one.
-    NotLinearizable(Refusal, Option<Window>),
+    /// No order does: the reason, and a clash, if one is found.
+    NotLinearizable(Refusal, Option<Clash>),
     /// Not known: a call is a `ceiling` that ended, or answered other than true or false, and nothing else refutes the history.
     Undecided,
 }
@@ -46,7 +46,7 @@ fn reply_as(call: Call, reply: Reply) -> Reply
     }
 }
 
-/// A call as the stream reads it.
+/// Returns the call that the judge is given for a call of a history.
 fn read_as(call: &CallRecord) -> StreamCall
     ensures is { record_of result ≡ read_as call.now }
     ensures before { IsBefore (record_of result) }
@@ -67,7 +67,7 @@ fn read_as(call: &CallRecord) -> StreamCall
     }
 }
 
-/// Judges a call that may come next: that cannot fail but for memory.
+/// Adds a call that may come next. Fails only if an allocation fails.
 fn add_next(judge: &mut Judge, call: StreamCall) -> Result<(), AllocError>
     requires { MayCome (pending_in judge.old.stream) (moment_of judge.old.stream) (record_of call) }
     ensures added { OnOk result ((threads : ℕ) (opening : List ℕ) (calls : List RecordedCall) → call.thread < threads
@@ -90,9 +90,9 @@ fn add_next(judge: &mut Judge, call: StreamCall) -> Result<(), AllocError>
     }
 }
 
-/// Whether some order linearizes the calls of a history from its opening keys, and leaves these keys, of a set without a quota: decided for
-/// each history of which the ended calls answered true or false, and none is a `ceiling`. Of any other it says `NotLinearizable` only if
-/// none does, and else `Undecided`. It fails only if an allocation fails.
+/// Returns whether some order linearizes the calls of a history from its opening keys, and leaves `keys`, for a set without a quota. `keys`
+/// must increase. The answer is exact if each call that ended answered true or false, and none is a `ceiling`. For any other history the
+/// answer is `NotLinearizable` only if no order exists, and otherwise `Undecided`. Fails only if an allocation fails.
 pub fn judge(alloc: Global, history: &History, keys: &[u32]) -> Result<Judged, AllocError>
     requires { IsStrictlyIncreasing keys.now }
     ensures { IfOk result (IsJudged history.now keys.now) }
@@ -105,7 +105,7 @@ pub fn judge(alloc: Global, history: &History, keys: &[u32]) -> Result<Judged, A
     }
     let plain = is_plain(history);
     match judge.close(keys)? {
-        Verdict::NotLinearizable(refusal, window) => Ok(Judged::NotLinearizable(refusal, window)),
+        Verdict::NotLinearizable(refusal, clash) => Ok(Judged::NotLinearizable(refusal, clash)),
         Verdict::Linearizable if plain => Ok(Judged::Linearizable),
         Verdict::Linearizable => Ok(Judged::Undecided),
     }

@@ -1,4 +1,4 @@
-//! Whether keys have a key.
+//! Looks up a key in increasing keys.
 
 ghost use Rattle.std.specs.Prelude.{◌≡◌};
 ghost use Rattle.std.specs.List.Sorted.{IsStrictlyIncreasing};
@@ -7,7 +7,7 @@ ghost use Rattle.lset_words.specs.SequentialSet.{has_key};
 
 use lset_words::Presence;
 
-/// Whether a key is among keys.
+/// Returns whether a key is among `keys`, which must increase.
 pub(crate) fn presence_in(keys: &[u32], key: u32) -> Presence
     requires { IsStrictlyIncreasing keys.now }
     ensures { result ≡ presence (has_key key keys.now) }

@@ -1,59 +1,43 @@
-//! The calls of a stream that are pending.
+//! The pending calls of a stream.
 
-ghost use Rattle.std.specs.Prelude.{◌==◌, filter, ◌≡◌, ◌≢◌, ◌↔◌, ◌<◌, ◌≤◌, ◌∷◌, ◌++◌, [], ◌^◌, ◌-◌, IsTrue, IsSome, is_some, All, IfSome, MatchOption, OnOk, length, map, slice_index_or, Some, slice_get, IfOk};
-ghost use Rattle.std.specs.Bool.{nat_eq};
-ghost use Rattle.std.specs.BTreeMap.{IsOrdered};
-ghost use Rattle.std.specs.BTreeMap as tree;
-ghost use Rattle.std.specs.HashMap.{get};
+ghost use Rattle.std.specs.Prelude.{◌≡◌, ◌≢◌, ◌<◌, ◌≤◌, ◌∷◌, ◌++◌, [], ◌^◌, ◌-◌, All, IfSome, MatchOption, OnOk, length, slice_index_or};
 ghost use Rattle.std.specs.List.Sorted.{IsPermutation};
-ghost use Rattle.std.specs.Ordering.{nat_cmp};
-ghost use Rattle.lset_judge.specs.Log.{waiting_of};
-ghost use Rattle.lset_words.specs.Words.{key_of};
-ghost use Rattle.lset_judge.specs.Pending.{pending_at, end_or, IsFirst, IsNext};
+ghost use Rattle.lset_judge.specs.Pending.{IsFirst, IsNext};
 
+use crate::many::{ManyCalls, end_or_begin};
+use crate::rule::KeyState;
 use crate::stream::{Pending, StreamCall, StreamFault};
+use lset_words::Effect;
 use std::alloc::{AllocError, Global};
-use std::collections::{BTreeMap, HashMap};
+use std::collections::HashMap;
 use std::marker::Model;
 
-/// How many pending calls are looked at one by one, at most.
+/// The largest number of pending calls that are looked at one by one.
 const FEW: usize = 32;
 
-/// The calls that are pending. A few are looked at one by one, which is fastest; of more, each call costs the logarithm of their number.
+/// Pending calls. A few are looked at one by one, which is fastest. With more, a call takes time logarithmic in their number.
 #[derive(Drop)]
 pub(crate) struct PendingCalls {
     few: Vec<Pending>,
-    /// The place of the few whose end is nearest.
+    /// The index in `few` of the call whose end is nearest.
     next: usize,
-    /// The others, by their ends.
-    many: BTreeMap<u64, StreamCall>,
-    /// By their threads, when the last of the others ends.
-    busy: HashMap<u32, u64>,
+    /// The other calls.
+    many: ManyCalls,
 }
 
 impl Model for PendingCalls {
-    ghost use Rattle.std.specs.Prelude.{List};
+    ghost use Rattle.std.specs.Prelude.{List, ◌++◌};
     ghost use Rattle.lset_judge.specs.declared.stream.Pending.{Pending};
-    ghost use Rattle.lset_judge.specs.Pending.{all_pending, AreHeld};
+    ghost use Rattle.lset_judge.specs.Pending.{IsFirst};
 
     ghost Value = { List Pending };
 
-    ghost view = { λ c. all_pending c.few.items c.many.entries };
+    ghost view = { λ c. c.few.items ++ c.many };
 
-    ghost invariant = { λ c. AreHeld c.few.items c.next c.many.entries c.busy };
+    ghost invariant = { λ c. IsFirst c.next c.few.items };
 }
 
-/// The end of a call, or else its begin.
-fn end_or_begin(call: StreamCall) -> u64
-    ensures { result ≡ end_or call.begun call.ended }
-{
-    match call.ended {
-        Some((end, _)) => end,
-        None => call.begun,
-    }
-}
-
-/// Whether one of these calls ends at a moment of another call, or else is of its thread.
+/// Returns why a call cannot begin beside these calls: one of them ends at its begin or its end, or is a pending call of its thread.
 fn clash(few: &[Pending], call: StreamCall) -> Option<StreamFault>
     ensures { MatchOption result
         (All (λ p. (p.end ≢ call.begun) × IfSome call.ended (λ end. p.end ≢ end.0)) few.now
@@ -78,7 +62,7 @@ fn clash(few: &[Pending], call: StreamCall) -> Option<StreamFault>
     }
 }
 
-/// The place of the nearest end.
+/// Returns the index of the call whose end is nearest.
 fn nearest_place(few: &[Pending]) -> usize
     ensures { IsFirst result few.now }
 {
@@ -96,7 +80,7 @@ fn nearest_place(few: &[Pending]) -> usize
     place
 }
 
-/// The place of the nearest end, if one more call comes behind these.
+/// Returns the index of the call whose end is nearest, once `pending` is appended.
 fn next_with(few: &[Pending], next: usize, pending: Pending) -> usize
     requires { IsFirst next few.now }
     ensures { IsFirst result (few.now ++ pending ∷ []) }
@@ -108,7 +92,7 @@ fn next_with(few: &[Pending], next: usize, pending: Pending) -> usize
     }
 }
 
-/// The nearest of these ends, if there is one.
+/// Returns the nearest end. `u64::MAX` if there are no calls.
 fn end_of_few(few: &[Pending], next: usize) -> u64
     requires { IsFirst next few.now }
     ensures smallest { All (λ p. result ≤ p.end) few.now }
@@ -121,111 +105,30 @@ fn end_of_few(few: &[Pending], next: usize) -> u64
     }
 }
 
-/// The nearest of these ends, if there is one.
-fn end_of_many(many: &BTreeMap<u64, StreamCall>) -> u64
-    ensures smallest { All (λ p. result ≤ p.end) (map pending_at many.now.entries) }
-    ensures first { MatchOption (slice_get many.now.entries 0) (result ≡ 2 ^ 64 - 1) (λ e. e.0 ≡ result) }
-{
-    match many.first_key_value() {
-        Some((end, _)) => *end,
-        None => u64::MAX,
-    }
-}
-
-/// The next of these calls to end, which is not among them any more.
-fn pop_many(many: &mut BTreeMap<u64, StreamCall>) -> Option<Pending>
-    ensures { MatchOption result ((many.old.entries ≡ []) × (many.new.entries ≡ []))
-        (λ p. many.old.entries ≡ (p.end, p.call) ∷ many.new.entries) }
-{
-    match many.pop_first() {
-        Some((end, call)) => Some(Pending { end, call }),
-        None => None,
-    }
-}
-
-/// Whether one of these calls ends at a moment.
-fn is_end(many: &BTreeMap<u64, StreamCall>, moment: u64) -> bool
-    ensures { result ≡ is_some (tree.get nat_cmp many.now moment) }
-{
-    let first = end_of_many(many);
-    if moment < first {
-        return false;
-    }
-    many.contains_key(&moment)
-}
-
-/// Whether none of these calls ends at a moment of another call.
-fn are_apart(many: &BTreeMap<u64, StreamCall>, call: StreamCall) -> bool
-    ensures { IsTrue result
-        ↔ All (λ p. (p.end ≢ call.begun) × IfSome call.ended (λ end. p.end ≢ end.0)) (map pending_at many.now.entries) }
-{
-    !is_end(many, call.begun) && !many.contains_key(&end_or_begin(call))
-}
-
-/// Whether none of these calls is of the thread of another, and pending at its begin.
-fn are_free(many: &BTreeMap<u64, StreamCall>, busy: &HashMap<u32, u64>, call: StreamCall) -> bool
-    requires known { All (λ e. get nat_eq busy.now e.1.thread ≡ Some e.0) many.now.entries }
-    requires ordered { IsOrdered nat_cmp many.now }
-    ensures { IsTrue result ↔ All (λ p. p.call.thread ≡ call.thread → p.end ≤ call.begun) (map pending_at many.now.entries) }
-{
-    let Some(end) = busy.get(&call.thread) else {
-        return true;
-    };
-    if *end <= call.begun {
-        return true;
-    }
-    match many.get(end) {
-        Some(other) => other.thread != call.thread,
-        None => true,
-    }
-}
-
-/// Those of a key.
-fn few_of_key(alloc: Global, few: &[Pending], key: u32) -> Result<Vec<StreamCall>, AllocError>
-    ensures { IfOk result (λ calls. calls.items ≡ waiting_of key few.now) }
-{
-    let mut own = Vec::new(alloc);
-    for it in few {
-        if it.call.is_of(key) {
-            own.push(it.call)?;
+/// Whether a pending call overlaps a change of its key.
+fn overlaps(states: &HashMap<u32, KeyState>, call: StreamCall) -> bool {
+    match states.get(&call.call.key().0) {
+        Some(state) => {
+            let is_change = call.ended.is_some() && matches!(call.effect(), Effect::Changes(_));
+            state.changes.overlap(is_change, call.begun)
         }
+        None => false,
     }
-    Ok(own)
-}
-
-/// Those of a key.
-fn many_of_key(
-    alloc: Global,
-    many: &BTreeMap<u64, StreamCall>,
-    key: u32,
-) -> Result<Vec<StreamCall>, AllocError>
-    ensures { IfOk result (λ calls. calls.items ≡ filter (λ c. (key_of c.call).0 == key) (tree.values many.now)) }
-{
-    many.values()
-        .copied()
-        .filter(|call| call.is_of(key))
-        .collect(alloc)
 }
 
 impl PendingCalls {
-    /// No calls.
+    /// Returns no calls. Does not allocate.
     pub(crate) fn new(alloc: Global) -> PendingCalls
         ensures { result ≡ [] }
     {
         PendingCalls {
             few: Vec::new(alloc),
             next: 0,
-            many: BTreeMap::new(alloc),
-            busy: HashMap::new(alloc),
+            many: ManyCalls::new(alloc),
         }
     }
 
-    /// How many.
-    pub(crate) fn len(&self) -> usize {
-        self.few.len().saturating_add(self.many.len())
-    }
-
-    /// Whether one of them ends at a moment of another call, or else is of its thread.
+    /// Returns why a call cannot begin beside these calls: one of them ends at its begin or its end, or is a pending call of its thread.
     pub(crate) fn clash(&self, call: StreamCall) -> Option<StreamFault>
         ensures { MatchOption result
             (All (λ p. (p.end ≢ call.begun) × IfSome call.ended (λ end. p.end ≢ end.0)) self.now
@@ -237,57 +140,57 @@ impl PendingCalls {
         if self.many.len() == 0 || matches!(fault, Some(StreamFault::Taken)) {
             return fault;
         }
-        if !are_apart(&self.many, call) {
+        if !self.many.are_apart(call) {
             Some(StreamFault::Taken)
         } else if fault.is_some() {
             fault
-        } else if are_free(&self.many, &self.busy, call) {
+        } else if self.many.are_free(call) {
             None
         } else {
             Some(StreamFault::Busy)
         }
     }
 
-    /// The next of them to end, if that is before a moment; it is not among them any more.
+    /// Removes and returns the call that ends next, if it ends before a moment.
     pub(crate) fn next_before(&mut self, moment: u64) -> Option<Pending>
         ensures { MatchOption result ((self.new ≡ self.old) × All (λ p. moment ≤ p.end) self.old)
             (λ next. IsNext moment self.old next self.new) }
     {
-        let few = end_of_few(&self.few, self.next);
-        let many = end_of_many(&self.many);
-        if few < many && few < moment {
+        let end = end_of_few(&self.few, self.next);
+        if let Some(next) = self.many.next_before(end.min(moment)) {
+            return Some(next);
+        }
+        if end < moment {
             let next = self.few.swap_remove(self.next);
             self.next = nearest_place(&self.few);
-            Some(next)
-        } else if many <= few && many < moment {
-            pop_many(&mut self.many)
-        } else {
-            None
+            return Some(next);
         }
+        None
     }
 
-    /// One more, of another thread than each of them, and with another end.
+    /// Adds a call. Its thread and its end must differ from those of each call here.
     pub(crate) fn insert(&mut self, pending: Pending) -> Result<(), AllocError>
         requires { All (λ p. p.call.thread ≢ pending.call.thread) self.old }
         ensures { OnOk result (All (λ p. p.end ≢ pending.end) self.old → IsPermutation (pending ∷ self.old) self.new) }
     {
-        if self.few.len() < FEW && self.many.is_empty() {
+        if self.few.len() < FEW && self.many.len() == 0 {
             let next = next_with(&self.few, self.next, pending);
             self.few.push(pending)?;
             self.next = next;
             return Ok(());
         }
-        self.busy.insert(pending.call.thread, pending.end)?;
-        self.many.insert(pending.end, pending.call)?;
-        Ok(())
+        self.many.insert(pending)
     }
 
-    /// Those of a key.
-    pub(crate) fn of_key(&self, alloc: Global, key: u32) -> Result<Vec<StreamCall>, AllocError>
-        ensures { IfOk result (λ calls. calls.items ≡ waiting_of key self.now) }
-    {
-        let mut own = few_of_key(alloc, &self.few, key)?;
-        own.extend_from_slice(&many_of_key(alloc, &self.many, key)?)?;
-        Ok(own)
+    /// Returns how many of the calls overlap a change of their key.
+    pub(crate) fn overlapping(&self, states: &HashMap<u32, KeyState>) -> u64 {
+        let mut count: u64 = 0;
+        for pending in &self.few {
+            count = count.saturating_add(u64::from(overlaps(states, pending.call)));
+        }
+        for call in self.many.calls().values() {
+            count = count.saturating_add(u64::from(overlaps(states, *call)));
+        }
+        count
     }
 }

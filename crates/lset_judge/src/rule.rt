@@ -1,6 +1,6 @@
-//! The rule: which pending change of a key takes effect, and when it has to.
+//! The rule: which pending change of a key takes effect, and when it must.
 
-ghost use Rattle.std.specs.Prelude.{◌≡◌, suc, true, IfOk, IfSome, OnOk, Option, Some, None};
+ghost use Rattle.std.specs.Prelude.{◌≡◌, suc, true, IfOk, IfSome, OnOk, Some, None};
 ghost use Rattle.std.specs.Prelude.{if◌then◌else◌};
 ghost use Rattle.lset_judge.specs.Rule.{options, turned_if, fits, found, entered, opened};
 ghost use Rattle.lset_judge.specs.Leaving.{may_be_left};
@@ -8,56 +8,45 @@ ghost use Rattle.lset_judge.specs.Code.{state_of, event_as};
 ghost use Rattle.lset_words.specs.Effects.{is_there};
 ghost use Rattle.lset_words.specs.declared.effect.Presence.{Presence};
 ghost use Rattle.lset_words.specs.declared.effect.Presence.TheVariants.{Present, Absent};
-ghost use Rattle.lset_judge.specs.Log.{log_of, log_opened, pushed, IsQuiet};
+ghost use Rattle.lset_judge.specs.Facts.{facts_opened, begun_by, IsEnded, IsFound};
 
+use crate::clash::Clash;
 use crate::ends::Ends;
 use crate::event::Event;
-use crate::log::Log;
+use crate::facts::Facts;
+use crate::overlaps::Changes;
 use crate::stream::StreamCall;
 use lset_words::Presence;
 use std::alloc::{AllocError, Global};
 
-/// The state of a key: whether it is there, and since when; and the ends of the pending
-/// changes that have not taken effect.
+/// The state of a key: its presence, when it last changed, and the ends of the pending changes that have not taken effect.
 #[derive(Drop)]
 pub(crate) struct KeyState {
     there: Presence,
     turned: u64,
     puts: Ends,
     takes: Ends,
-    pub(crate) log: Log,
+    pub(crate) changes: Changes,
+    pub(crate) facts: Facts,
 }
 
 impl KeyState {
-    /// A key that is there at first, or not.
+    /// Returns the state of a key without calls. `there` is its presence at first.
     pub(crate) fn opened(alloc: Global, there: Presence) -> KeyState
         ensures state { state_of result ≡ opened (is_there there) }
-        ensures log { log_of result.log ≡ log_opened there }
+        ensures facts { result.facts ≡ facts_opened there }
     {
         KeyState {
             there,
             turned: 0,
             puts: Ends::new(alloc),
             takes: Ends::new(alloc),
-            log: Log::opened(alloc, there),
+            changes: Changes::none(),
+            facts: Facts::opened(there),
         }
     }
 
-    /// What is kept of the calls of the key.
-    pub(crate) fn into_log(self) -> Log
-        ensures { result ≡ self.log }
-    {
-        let KeyState {
-            there: _,
-            turned: _,
-            puts: _,
-            takes: _,
-            log,
-        } = self;
-        log
-    }
-
-    /// Whether the key may be left there, or not there: it is so, or turns once more.
+    /// Whether `there` can be the final presence of the key: it is its presence now, or a pending change can lead to it.
     pub(crate) fn may_be_left(&self, there: Presence) -> bool
         ensures { result ≡ may_be_left (is_there there) (state_of self.now) }
     {
@@ -71,7 +60,7 @@ impl KeyState {
     fn put(&mut self, before: u64) -> bool
         requires { self.old.there ≡ Absent }
         ensures turned { turned_if before (state_of self.old) (options (state_of self.old)) ≡ (if result then Some (state_of self.new) else None) }
-        ensures log { self.new.log ≡ self.old.log }
+        ensures facts { self.new.facts ≡ self.old.facts }
     {
         match self.puts.pop() {
             Some(_) => {
@@ -86,7 +75,7 @@ impl KeyState {
     fn take(&mut self, before: u64) -> bool
         requires { self.old.there ≡ Present }
         ensures turned { turned_if before (state_of self.old) (options (state_of self.old)) ≡ (if result then Some (state_of self.new) else None) }
-        ensures log { self.new.log ≡ self.old.log }
+        ensures facts { self.new.facts ≡ self.old.facts }
     {
         match self.takes.pop() {
             Some(_) => {
@@ -100,7 +89,7 @@ impl KeyState {
 
     fn flip(&mut self, before: u64) -> bool
         ensures turned { turned_if before (state_of self.old) (options (state_of self.old)) ≡ (if result then Some (state_of self.new) else None) }
-        ensures log { self.new.log ≡ self.old.log }
+        ensures facts { self.new.facts ≡ self.old.facts }
     {
         match self.there {
             Presence::Present => self.take(before),
@@ -119,10 +108,11 @@ impl KeyState {
         }
     }
 
-    /// Lets changes take effect after a moment until the next one's event finds what it asks; whether it does.
+    /// Lets changes take effect after the moment `before` until the event of the next moment finds the state that it needs. Returns whether
+    /// it does.
     pub(crate) fn settle(&mut self, before: u64, event: Event) -> bool
         ensures found { found before (event_as event) (state_of self.old) ≡ (if result then Some (state_of self.new) else None) }
-        ensures log { self.new.log ≡ self.old.log }
+        ensures facts { self.new.facts ≡ self.old.facts }
     {
         while !self.fits(before, event) {
             if !self.flip(before) {
@@ -132,14 +122,18 @@ impl KeyState {
         true
     }
 
-    /// The event of the moment after `before`: whether the rule goes on.
+    /// Meets the event of the moment after `before`. Returns whether the rule still holds.
     pub(crate) fn meet(&mut self, before: u64, event: Event) -> Result<bool, AllocError>
         ensures met { IfOk result (λ goes_on. entered (event_as event) (found before (event_as event) (state_of self.old))
             ≡ (if goes_on then Some (state_of self.new) else None)) }
-        ensures log { OnOk result (self.new.log ≡ self.old.log) }
+        ensures facts { OnOk result (self.new.facts ≡ begun_by (event_as event) self.old.facts) }
     {
+        self.facts.begin(event);
         if !self.settle(before, event) {
             return Ok(false);
+        }
+        if let Event::Begins(_, end) = event {
+            self.changes.begin(end);
         }
         match event {
             Event::Begins(Presence::Present, end) => self.puts.push(end)?,
@@ -149,33 +143,28 @@ impl KeyState {
         Ok(true)
     }
 
-    /// Whether the key is there, if the rule went on and each change that has begun has taken effect.
-    fn quiet_after(&self, goes_on: bool) -> Option<Presence>
-        ensures quiet { IsQuiet (state_of self.now) result }
-        ensures only { IfSome result (λ _. goes_on ≡ true) }
-    {
-        if goes_on && self.puts.is_empty() && self.takes.is_empty() {
-            Some(self.there)
-        } else {
-            None
-        }
-    }
-
-    /// The end of a call at the moment after `before`, which is kept: whether the rule goes on.
+    /// Ends a call at the moment after `before`. Returns whether the rule still holds. If the rule fails, looks for the clash of the call.
     pub(crate) fn meet_end(
         &mut self,
         before: u64,
         event: Event,
         call: StreamCall,
+        clash: &mut Option<Clash>,
     ) -> Result<bool, AllocError>
+        requires { clash.old ≡ None }
         ensures met { IfOk result (λ goes_on. entered (event_as event) (found before (event_as event) (state_of self.old))
             ≡ (if goes_on then Some (state_of self.new) else None)) }
-        ensures kept { IfOk result (λ goes_on. (quiet : Option Presence) × IsQuiet (state_of self.new) quiet × IfSome quiet (λ _. goes_on ≡ true)
-            × (log_of self.new.log ≡ pushed (record { call = call; quiet = quiet }) (log_of self.old.log))) }
+        ensures ended { OnOk result (IsEnded call (begun_by (event_as event) self.old.facts) self.new.facts) }
+        ensures found { OnOk result (IfSome clash.new (IsFound (begun_by (event_as event) self.old.facts) call)) }
     {
         let goes_on = self.meet(before, event)?;
-        let quiet = self.quiet_after(goes_on);
-        self.log.push(call, quiet)?;
+        if matches!(event, Event::Ends(_)) {
+            self.changes.end(before.saturating_add(1));
+        }
+        if !goes_on {
+            self.facts.store_clash(call, clash);
+        }
+        self.facts.end(call);
         Ok(goes_on)
     }
 }

@@ -1,4 +1,4 @@
-//! A stream of calls, judged as they come: what is kept is the state of each key and the calls that are pending.
+//! A stream of calls, judged call by call. It stores the state of each key and the pending calls.
 
 ghost use Rattle.std.specs.Prelude.{◌≡◌, ◌≢◌, ◌↔◌, ◌<◌, ◌≤◌, ◌+◌, ◌++◌, ◌∷◌, [], ℕ, IsTrue, All, List, length, false, true, None, Some, IfOk, OnOk, IfErr, IfSome, MatchOption, if◌then◌else◌, ◌⊎◌};
 ghost use Rattle.std.specs.Prelude.{Contains, IsSome, slice_index_or, ◌==◌, ◌&&◌};
@@ -13,15 +13,16 @@ ghost use Rattle.lset_words.specs.Effects.{presence};
 ghost use Rattle.lset_judge.specs.Code.{event_as};
 ghost use Rattle.lset_judge.specs.Events.{kind_as, kind_if, until_if, begin_event, end_event};
 ghost use Rattle.lset_judge.specs.Leaving.{may_be_left};
-ghost use Rattle.lset_judge.specs.Log.{log_of, log_for, log_opened, log_upto, waiting_of, with_pending, IsKept, IsStreamKept, LogsEnd, StaysLog};
+ghost use Rattle.lset_judge.specs.Facts.{begun_by, clash_met, facts_for, facts_opened, BeginIsKnown, EndIsKept, EndIsKnown, IsEnded, IsFound, IsFoundLeft, IsStreamKept};
 ghost use Rattle.lset_judge.specs.Stream.{record_of, stream_history, behind_all, state_for, pending_of, key_in, event_of, IsBefore, IsMet, IsStreamOf, MayCome, failed_verdict, verdict_of_key, moment_of, pending_in, IsStreamVerdict, IsStreamVerdictCutOff, IsMetBy, IsToldBy};
 ghost use Rattle.lset_judge.specs.Verdict.{is_plain};
 ghost use Rattle.lset_judge.specs.declared.stream.StreamFault.TheVariants.{Memory};
 
+use crate::clash::Clash;
 use crate::event::{Event, begin_event, end_event, open_effect};
+use crate::facts::Facts;
 use crate::judged::is_answer;
 use crate::keys::presence_in;
-use crate::log::Log;
 use crate::pending::PendingCalls;
 use crate::rule::KeyState;
 use lset_words::{Call, Effect, Key, Presence, Reply};
@@ -29,8 +30,8 @@ use std::alloc::{AllocError, Global};
 use std::collections::HashMap;
 use thiserror::Error;
 
-/// A call of a stream: its thread, any number; the moment at which it began, 1 to `LAST_MOMENT`; and the moment at which it ended, after
-/// that, with its reply. A call without an end is pending to the end of the stream.
+/// A call of a stream. `thread` is any number. `begun` is the moment of its begin, 1 to `LAST_MOMENT`. `ended` is the moment of its end,
+/// after its begin and at most `LAST_MOMENT`, with its reply. A call without an end is pending to the end of the stream.
 #[derive(Clone, Copy, Debug, PartialEq, Eq)]
 pub struct StreamCall {
     pub thread: u32,
@@ -42,28 +43,28 @@ pub struct StreamCall {
 /// The last moment of a stream, 2^63 - 1.
 pub const LAST_MOMENT: u64 = (1 << 63) - 1;
 
-/// The moment behind all moments.
-const BEHIND_ALL: u64 = 1 << 63;
+/// The first number after all moments.
+pub(crate) const BEHIND_ALL: u64 = 1 << 63;
 
-/// Why a call cannot come next. They are looked for in this order.
+/// Why a call cannot come next. If several reasons hold, the first in this order is returned.
 #[derive(Clone, Copy, Debug, PartialEq, Eq, Error)]
 pub enum StreamFault {
-    /// It begins at moment 0 or no later than a call before it, or a moment of it is above `LAST_MOMENT`.
+    /// The call begins at moment 0 or no later than a call before it, or one of its moments is above `LAST_MOMENT`.
     #[error("it begins at moment 0 or no later than a call before it, or a moment is too large")]
     Early,
-    /// It does not end after its begin.
+    /// The call does not end after its begin.
     #[error("it does not end after its begin")]
     Ends,
-    /// It is a `ceiling` that ended, or ended with a reply other than true or false.
+    /// The call is a `ceiling` that ended, or its reply is neither true nor false.
     #[error("it is a ceiling that ended, or its reply is not true or false")]
     NotPlain,
-    /// A call before it ends at its begin or at its end.
+    /// A call before it ends at the begin or at the end of the call.
     #[error("a call before it ends at one of its moments")]
     Taken,
-    /// A call before it is of its thread, and has not ended when it begins.
+    /// An earlier call of its thread is pending when the call begins.
     #[error("its thread has a call pending")]
     Busy,
-    /// There was no memory.
+    /// An allocation failed.
     #[error("out of memory")]
     Memory,
 }
@@ -76,33 +77,33 @@ impl From<AllocError> for StreamFault {
     }
 }
 
-/// What the stream says.
+/// The verdict of a stream.
 #[derive(Clone, Copy, Debug, PartialEq, Eq)]
 pub(crate) enum StreamVerdict {
     /// Some order explains the calls, from the opening keys, and leaves the keys.
     Linearizable,
-    /// No order does.
+    /// No order explains the calls.
     NotLinearizable(Refusal),
 }
 
-/// Why no order explains the calls of a stream: a key, and how far its calls go.
+/// Why no order explains the calls of a stream: a key, and a moment.
 #[derive(Clone, Copy, Debug, PartialEq, Eq)]
 pub struct Refusal {
     /// The key whose calls have no order.
     pub key: Key,
-    /// The moment: the calls of the key that begin by then, with all their replies, have no order, whichever keys it leaves. `None` if
-    /// no order of all calls of the key leaves it as it is left.
+    /// The calls of the key that begin by this moment, with all their replies, have no order, whichever keys it leaves. `None` if no order
+    /// of all calls of the key leaves its final state.
     pub moment: Option<u64>,
 }
 
-/// The key on which the rule has failed, and the moment by which it has.
+/// The key on which the rule failed, and the moment at which it failed.
 #[derive(Clone, Copy)]
 pub(crate) struct Failed {
     pub(crate) key: Key,
     pub(crate) moment: u64,
 }
 
-/// A call that has not ended yet, and before which moment it takes effect.
+/// A pending call, and the moment by which it takes effect.
 #[derive(Clone, Copy)]
 pub(crate) struct Pending {
     pub(crate) end: u64,
@@ -116,7 +117,7 @@ impl StreamCall {
         self.call.key().0 == key
     }
 
-    /// What the call does to its key, or may do.
+    /// Returns the effect of the call on its key. For a pending call, the effect that it can have.
     pub(crate) fn effect(self) -> Effect
         ensures { kind_as result ≡ kind_if self.call self.ended }
     {
@@ -181,7 +182,7 @@ impl Pending {
         self.call.call.key().0
     }
 
-    /// What the end of the call is to its key.
+    /// Returns the event of the call's end.
     pub(crate) fn event(self) -> Event
         ensures { event_as result ≡ event_of self }
     {
@@ -189,7 +190,29 @@ impl Pending {
     }
 }
 
-/// Lets happen what happens of a key at the moment after `before`: whether the rule goes on.
+/// Meets the event of a key without a state at the moment after `before`. Returns whether the rule still holds. (A function of its own, so
+/// that other events need no room for a new state.)
+fn meet_new_key(
+    states: &mut HashMap<u32, KeyState>,
+    alloc: Global,
+    key: u32,
+    before: u64,
+    event: Event,
+) -> Result<bool, AllocError>
+    requires { get nat_eq states.old key ≡ None }
+    ensures met { IfOk result (λ goes_on. entered (event_as event) (found before (event_as event) (state_for states.old key))
+        ≡ (if goes_on then Some (state_for states.new key) else None)) }
+    ensures others { IfOk result (λ goes_on. (k : ℕ) → k ≢ key → state_for states.new k ≡ state_for states.old k) }
+    ensures facts { OnOk result (facts_for states.new key ≡ begun_by (event_as event) (facts_for states.old key)) }
+    ensures other_facts { OnOk result ((k : ℕ) → k ≢ key → facts_for states.new k ≡ facts_for states.old k) }
+{
+    let mut state = KeyState::opened(alloc, Presence::Absent);
+    let goes_on = state.meet(before, event)?;
+    states.insert(key, state)?;
+    Ok(goes_on)
+}
+
+/// Meets the event of a key at the moment after `before`. Returns whether the rule still holds.
 fn meet_key(
     states: &mut HashMap<u32, KeyState>,
     alloc: Global,
@@ -200,100 +223,118 @@ fn meet_key(
     ensures met { IfOk result (λ goes_on. entered (event_as event) (found before (event_as event) (state_for states.old key))
         ≡ (if goes_on then Some (state_for states.new key) else None)) }
     ensures others { IfOk result (λ goes_on. (k : ℕ) → k ≢ key → state_for states.new k ≡ state_for states.old k) }
-    ensures logs { OnOk result ((k : ℕ) → log_for states.new k ≡ log_for states.old k) }
+    ensures facts { OnOk result (facts_for states.new key ≡ begun_by (event_as event) (facts_for states.old key)) }
+    ensures other_facts { OnOk result ((k : ℕ) → k ≢ key → facts_for states.new k ≡ facts_for states.old k) }
 {
     if let Some(state) = states.get_mut(&key) {
         let goes_on = state.meet(before, event)?;
         return Ok(goes_on);
     }
-    let mut state = KeyState::opened(alloc, Presence::Absent);
-    let goes_on = state.meet(before, event)?;
-    states.insert(key, state)?;
+    let goes_on = meet_new_key(states, alloc, key, before, event)?;
     Ok(goes_on)
 }
 
-/// Whether the rule goes on where a call ends, and whether it is time to look which of the calls of its key are needed.
-#[derive(Clone, Copy)]
-struct EndMet {
-    goes_on: bool,
-    is_due: bool,
+/// Records the begin of a call after the rule has failed on its key.
+fn note_begin(
+    states: &mut HashMap<u32, KeyState>,
+    alloc: Global,
+    key: u32,
+    event: Event,
+) -> Result<(), AllocError>
+    ensures { OnOk result (facts_for states.new key ≡ begun_by (event_as event) (facts_for states.old key)) }
+{
+    if let Some(state) = states.get_mut(&key) {
+        state.facts.begin(event);
+        return Ok(());
+    }
+    let mut state = KeyState::opened(alloc, Presence::Absent);
+    state.facts.begin(event);
+    states.insert(key, state)?;
+    Ok(())
 }
 
-/// Lets a call end at the moment after `before`, which is kept.
+/// Records the end of a call after the rule has failed on its key. Returns the clash of the call, if one is found.
+fn note_end(states: &mut HashMap<u32, KeyState>, call: StreamCall) -> Option<Clash>
+    ensures { EndIsKept states.old call states.new result }
+{
+    let key = call.call.key().0;
+    if let Some(state) = states.get_mut(&key) {
+        let clash = state.facts.clash_of(call);
+        state.facts.end(call);
+        return clash;
+    }
+    None
+}
+
+/// The result of the end of a call.
+#[derive(Clone, Copy)]
+struct EndMet {
+    /// Whether the rule still holds.
+    goes_on: bool,
+    /// Whether the call overlaps a change of its key.
+    overlaps: bool,
+}
+
+/// Ends a call of a key without a state at the moment after `before`. If the rule fails, looks for the clash of the call.
+fn meet_new_key_end(
+    states: &mut HashMap<u32, KeyState>,
+    alloc: Global,
+    before: u64,
+    event: Event,
+    call: StreamCall,
+    clash: &mut Option<Clash>,
+) -> Result<EndMet, AllocError>
+    requires new { get nat_eq states.old (key_of call.call).0 ≡ None }
+    requires none { clash.old ≡ None }
+    ensures met { IfOk result (λ m. entered (event_as event) (found before (event_as event) (state_for states.old (key_of call.call).0))
+        ≡ (if m.goes_on then Some (state_for states.new (key_of call.call).0) else None)) }
+    ensures others { OnOk result ((k : ℕ) → k ≢ (key_of call.call).0 → state_for states.new k ≡ state_for states.old k) }
+    ensures ended { OnOk result (IsEnded call (begun_by (event_as event) (facts_for states.old (key_of call.call).0)) (facts_for states.new (key_of call.call).0)) }
+    ensures found { OnOk result (IfSome clash.new (IsFound (begun_by (event_as event) (facts_for states.old (key_of call.call).0)) call)) }
+    ensures other_facts { OnOk result ((k : ℕ) → k ≢ (key_of call.call).0 → facts_for states.new k ≡ facts_for states.old k) }
+{
+    let key = call.call.key().0;
+    let mut state = KeyState::opened(alloc, Presence::Absent);
+    let goes_on = state.meet_end(before, event, call, clash)?;
+    states.insert(key, state)?;
+    Ok(EndMet {
+        goes_on,
+        overlaps: false,
+    })
+}
+
+/// Ends a call at the moment after `before`. If the rule fails, looks for the clash of the call.
 fn meet_key_end(
     states: &mut HashMap<u32, KeyState>,
     alloc: Global,
     before: u64,
     event: Event,
     call: StreamCall,
+    clash: &mut Option<Clash>,
 ) -> Result<EndMet, AllocError>
+    requires { clash.old ≡ None }
     ensures met { IfOk result (λ m. entered (event_as event) (found before (event_as event) (state_for states.old (key_of call.call).0))
         ≡ (if m.goes_on then Some (state_for states.new (key_of call.call).0) else None)) }
     ensures others { OnOk result ((k : ℕ) → k ≢ (key_of call.call).0 → state_for states.new k ≡ state_for states.old k) }
-    ensures logs { OnOk result ((k : ℕ) → k ≢ (key_of call.call).0 → log_for states.new k ≡ log_for states.old k) }
-    ensures kept { IfOk result (λ m. IsKept states.old call m.goes_on states.new) }
+    ensures ended { OnOk result (IsEnded call (begun_by (event_as event) (facts_for states.old (key_of call.call).0)) (facts_for states.new (key_of call.call).0)) }
+    ensures found { OnOk result (IfSome clash.new (IsFound (begun_by (event_as event) (facts_for states.old (key_of call.call).0)) call)) }
+    ensures other_facts { OnOk result ((k : ℕ) → k ≢ (key_of call.call).0 → facts_for states.new k ≡ facts_for states.old k) }
 {
     let key = call.call.key().0;
     if let Some(state) = states.get_mut(&key) {
-        let goes_on = state.meet_end(before, event, call)?;
-        return Ok(EndMet {
-            goes_on,
-            is_due: state.log.is_due(),
-        });
+        let is_change = matches!(event, Event::Ends(_));
+        let overlaps = state.changes.overlap(is_change, call.begun);
+        let goes_on = state.meet_end(before, event, call, clash)?;
+        return Ok(EndMet { goes_on, overlaps });
     }
-    let mut state = KeyState::opened(alloc, Presence::Absent);
-    let goes_on = state.meet_end(before, event, call)?;
-    states.insert(key, state)?;
-    Ok(EndMet {
-        goes_on,
-        is_due: false,
-    })
+    let met = meet_new_key_end(states, alloc, before, event, call, clash)?;
+    Ok(met)
 }
 
-/// Leaves out the calls of a key that are not needed any more.
-fn settle(
-    states: &mut HashMap<u32, KeyState>,
-    alloc: Global,
-    pending: &PendingCalls,
-    key: u32,
-) -> Result<(), AllocError>
-    ensures states { OnOk result ((k : ℕ) → state_for states.new k ≡ state_for states.old k) }
-    ensures others { OnOk result ((k : ℕ) → k ≢ key → log_for states.new k ≡ log_for states.old k) }
-    ensures own { OnOk result (StaysLog key (waiting_of key pending.now) (log_for states.old key) (log_for states.new key)) }
-{
-    let waiting = pending.of_key(alloc, key)?;
-    if let Some(state) = states.get_mut(&key) {
-        state.log.settle(key, &waiting, pending.len());
-        return Ok(());
-    }
-    Ok(())
-}
-
-/// Keeps the pending calls of a key, of which no more are kept.
-fn keep_pending(
-    states: &mut HashMap<u32, KeyState>,
-    alloc: Global,
-    pending: &PendingCalls,
-    key: u32,
-) -> Result<(), AllocError>
-    ensures states { OnOk result ((k : ℕ) → state_for states.new k ≡ state_for states.old k) }
-    ensures own { OnOk result (log_for states.new key ≡ with_pending (waiting_of key pending.now) (log_for states.old key)) }
-{
-    let waiting = pending.of_key(alloc, key)?;
-    if let Some(state) = states.get_mut(&key) {
-        state.log.add_pending(&waiting)?;
-        return Ok(());
-    }
-    let mut state = KeyState::opened(alloc, Presence::Absent);
-    state.log.add_pending(&waiting)?;
-    states.insert(key, state)?;
-    Ok(())
-}
-
-/// The states of a set that opens with these keys.
+/// Returns the states of the keys of a set that opens with `opening`.
 fn opening_states(alloc: Global, opening: &[u32]) -> Result<HashMap<u32, KeyState>, AllocError>
     ensures states { IfOk result (λ states. (k : ℕ) → state_for states k ≡ opened (has_key k opening.now)) }
-    ensures logs { IfOk result (λ states. (k : ℕ) → log_for states k ≡ log_opened (presence (has_key k opening.now))) }
+    ensures facts { IfOk result (λ states. (k : ℕ) → facts_for states k ≡ facts_opened (presence (has_key k opening.now))) }
 {
     let mut states = HashMap::new(alloc);
     for key in opening {
@@ -313,7 +354,7 @@ impl Failed {
     }
 }
 
-/// The lesser of a key and another one, if there is one.
+/// Returns the smaller of a key and another key, if there is another.
 fn smallest(key: u32, other: Option<u32>) -> u32
     ensures { (result ≡ key) ⊎ (other ≡ Some result) }
 {
@@ -323,7 +364,7 @@ fn smallest(key: u32, other: Option<u32>) -> u32
     }
 }
 
-/// What is said by a key that is left as its calls cannot leave it, if there is one.
+/// Returns the verdict, where `key` is a key whose calls cannot leave its final state, if there is one.
 fn verdict_of_key(key: Option<u32>) -> StreamVerdict
     ensures { result ≡ verdict_of_key key }
 {
@@ -336,11 +377,11 @@ fn verdict_of_key(key: Option<u32>) -> StreamVerdict
     }
 }
 
-/// A stream of calls of a set, judged as they come. It keeps the state of each key and the calls that are pending, so its memory does not
-/// grow with the number of calls.
+/// A stream of calls of a set, judged call by call. It stores the state of each key and the pending calls, so its memory does not grow with
+/// the number of calls.
 ///
-/// Calls come in the order of their begins. Whether some order explains them is told by `close`, or by `close_cut_off`. (The rule is that
-/// of `judge`: it goes over the moments of each key once, so it needs no moment again.)
+/// Calls must come in the order of their begins. `verdict` and `verdict_cut_off` return whether some order explains them. (The rule looks
+/// at the moments of each key once, in their order, so no moment has to be stored.)
 #[derive(Drop)]
 pub(crate) struct Stream {
     alloc: Global,
@@ -348,10 +389,14 @@ pub(crate) struct Stream {
     pending: PendingCalls,
     moment: u64,
     failed: Option<Failed>,
+    /// A clash of the key on which the rule has failed.
+    clash: Option<Clash>,
+    /// How many calls that have ended overlap a change of their key.
+    overlapped: u64,
 }
 
 impl Stream {
-    /// No calls yet, of a set that opens with these keys; they increase.
+    /// Returns a stream without calls, for a set that opens with `opening`. The keys must increase.
     pub fn new(alloc: Global, opening: &[u32]) -> Result<Stream, AllocError>
         requires { IsStrictlyIncreasing opening.now }
         ensures opened { IfOk result (λ s. (threads : ℕ) → IsStreamKept threads opening.now [] s) }
@@ -363,10 +408,12 @@ impl Stream {
             pending: PendingCalls::new(alloc),
             moment: 0,
             failed: None,
+            clash: None,
+            overlapped: 0,
         })
     }
 
-    /// Why a call cannot come next, if it cannot.
+    /// Returns why a call cannot come next, if it cannot.
     fn find_fault(&self, call: StreamCall) -> Option<StreamFault>
         ensures { MatchOption result (MayCome self.now.pending self.now.moment (record_of call))
             (λ fault. MayCome self.now.pending self.now.moment (record_of call) → ⊥) }
@@ -382,16 +429,21 @@ impl Stream {
         }
     }
 
-    /// Lets happen what happens of a key at a moment, and goes on to it.
+    /// Meets the event of a key at a moment, and moves to the moment.
     fn meet(&mut self, key: u32, moment: u64, event: Event) -> Result<(), AllocError>
         ensures met { OnOk result (IsMet self.old key moment (event_as event) self.new) }
-        ensures logs { OnOk result ((k : ℕ) → log_for self.new.states k ≡ log_for self.old.states k) }
+        ensures known { OnOk result (BeginIsKnown self.old.states key (event_as event) self.new.states self.old.failed self.old.clash) }
+        ensures clash { OnOk result (self.new.clash ≡ self.old.clash) }
     {
         if matches!(event, Event::Idle) {
             self.moment = moment;
             return Ok(());
         }
-        if self.failed.is_none() {
+        if let Some(failed) = self.failed {
+            if failed.key.0 == key && self.clash.is_none() {
+                note_begin(&mut self.states, self.alloc, key, event)?;
+            }
+        } else {
             let goes_on = meet_key(
                 &mut self.states,
                 self.alloc,
@@ -410,43 +462,61 @@ impl Stream {
         Ok(())
     }
 
-    /// Lets a call end where the rule has not failed.
+    /// Drops a stored clash. (A function of its own, so that ends need no room for a clash.)
+    fn forget_clash(&mut self)
+        ensures { self.new ≡ record self.old { clash = None } }
+    {
+        self.clash = None;
+    }
+
+    /// Ends a call while the rule holds.
     fn meet_end_going(&mut self, next: Pending) -> Result<(), AllocError>
         requires { self.old.failed ≡ None }
         ensures pending { OnOk result (self.new.pending ≡ self.old.pending) }
         ensures by { OnOk result (IsMetBy self.old.states (key_in next) next.end (event_of next) self.new.states None self.new.failed) }
-        ensures logs { OnOk result (LogsEnd self.old.states self.old.pending next.call self.new.states None self.new.failed) }
+        ensures known { OnOk result (EndIsKept self.old.states next.call self.new.states self.new.clash
+            × ((k : ℕ) → k ≢ (key_of next.call.call).0 → facts_for self.new.states k ≡ facts_for self.old.states k)) }
     {
+        if self.clash.is_some() {
+            self.forget_clash();
+        }
         let met = meet_key_end(
             &mut self.states,
             self.alloc,
             next.end.saturating_sub(1),
             next.event(),
             next.call,
+            &mut self.clash,
         )?;
-        let key = next.key();
+        self.overlapped = self.overlapped.saturating_add(u64::from(met.overlaps));
         if !met.goes_on {
-            keep_pending(&mut self.states, self.alloc, &self.pending, key)?;
             self.failed = Some(Failed {
-                key: Key(key),
+                key: Key(next.key()),
                 moment: next.end,
             });
-            return Ok(());
-        }
-        if met.is_due {
-            settle(&mut self.states, self.alloc, &self.pending, key)?;
-            return Ok(());
         }
         Ok(())
     }
 
-    /// Lets a call end that was pending, and goes on to its end.
+    /// Ends a call after the rule has failed.
+    fn end_after_failure(&mut self, next: Pending, failed: Failed)
+        requires { self.old.failed ≡ Some failed }
+        ensures met { IsMet self.old (key_in next) next.end (event_of next) self.new }
+        ensures known { EndIsKnown self.old.states next.call self.new.states self.old.failed self.old.clash self.new.clash }
+    {
+        if failed.key.0 == next.key() && self.clash.is_none() {
+            self.clash = note_end(&mut self.states, next.call);
+        }
+        self.moment = next.end;
+    }
+
+    /// Ends a pending call, and moves to the moment of its end.
     fn end(&mut self, next: Pending) -> Result<(), AllocError>
         ensures met { OnOk result (IsMet self.old (key_in next) next.end (event_of next) self.new) }
-        ensures logs { OnOk result (LogsEnd self.old.states self.old.pending next.call self.new.states self.old.failed self.new.failed) }
+        ensures known { OnOk result (EndIsKnown self.old.states next.call self.new.states self.old.failed self.old.clash self.new.clash) }
     {
-        if self.failed.is_some() {
-            self.moment = next.end;
+        if let Some(failed) = self.failed {
+            self.end_after_failure(next, failed);
             return Ok(());
         }
         self.meet_end_going(next)?;
@@ -454,7 +524,7 @@ impl Stream {
         Ok(())
     }
 
-    /// Lets all happen that happens before a moment.
+    /// Ends all pending calls whose ends are before a moment.
     fn meet_before(&mut self, moment: u64) -> Result<(), AllocError>
         requires { moment ≤ behind_all }
         ensures kept { OnOk result ((threads : ℕ) (opening : List ℕ) (calls : List RecordedCall) → IsStreamKept threads opening calls self.old
@@ -469,7 +539,7 @@ impl Stream {
         Ok(())
     }
 
-    /// Goes on to the begin of a call, when all has happened that happens before.
+    /// Begins a call, once no pending call ends before its begin.
     fn begin(&mut self, call: StreamCall) -> Result<(), AllocError>
         requires may { MayCome self.old.pending self.old.moment (record_of call) }
         requires met { All (λ p. call.begun ≤ p.end) self.old.pending }
@@ -498,13 +568,14 @@ impl Stream {
         Ok(())
     }
 
-    /// Judges a call that begins after all calls before it, as far as it decides anything yet.
+    /// Adds a call, which must begin after all calls before it.
     ///
-    /// An error but `Memory` says why the call cannot come next, and changes nothing. After `Memory` the stream is of no more use.
+    /// An error other than `Memory` is the reason why the call cannot come next, and changes nothing. After `Memory` the stream is of no
+    /// more use.
     pub fn add(&mut self, call: StreamCall) -> Result<(), StreamFault>
         ensures added { OnOk result ((threads : ℕ) (opening : List ℕ) (calls : List RecordedCall) → call.thread < threads
             → IsStreamKept threads opening calls self.old → IsStreamKept threads opening (calls ++ record_of call ∷ []) self.new) }
-        // It has come to the begin of the call.
+        // The stream has reached the begin of the call.
         ensures moment { OnOk result (moment_of self.new ≡ call.begun) }
         ensures refused { IfErr result (λ fault. fault ≢ StreamFault.Memory
             → (MayCome (pending_in self.old) (moment_of self.old) (record_of call) → ⊥) × (self.new ≡ self.old)) }
@@ -516,7 +587,7 @@ impl Stream {
         Ok(())
     }
 
-    /// The smallest key with a state that is not left as its calls may leave it.
+    /// Returns the smallest key with a state whose calls cannot leave its final state, if there is one.
     fn wrongly_left(&self, keys: &[u32]) -> Option<u32>
         requires { IsStrictlyIncreasing keys.now }
         ensures { MatchOption result
@@ -532,7 +603,7 @@ impl Stream {
         wrong
     }
 
-    /// A key that is left, and of which nothing has been heard.
+    /// Returns a final key without a state, if there is one.
     fn unknown_left(&self, keys: &[u32]) -> Option<u32>
         ensures { MatchOption result
             ((k : ℕ) → has_key k keys.now ≡ true → get nat_eq self.now.states k ≢ None)
@@ -557,7 +628,13 @@ impl Stream {
         }
     }
 
-    /// Lets all happen that is left to happen.
+    /// Returns how many calls overlap a change of their key that ends, other than themselves. The number is right if the rule has not failed.
+    pub(crate) fn overlapped(&self) -> u64 {
+        self.overlapped
+            .saturating_add(self.pending.overlapping(&self.states))
+    }
+
+    /// Ends all pending calls that have an end.
     pub(crate) fn come_to_end(&mut self) -> Result<(), AllocError>
         ensures kept { OnOk result ((threads : ℕ) (opening : List ℕ) (calls : List RecordedCall) → IsStreamKept threads opening calls self.old
             → IsStreamKept threads opening calls self.new) }
@@ -566,8 +643,8 @@ impl Stream {
         self.meet_before(BEHIND_ALL)
     }
 
-    /// Whether some order linearizes all calls of a stream that has come to its end, from the opening keys, and leaves these keys: the
-    /// answer is `Linearizable` exactly if one does, and `NotLinearizable` exactly if none does. The set has no quota.
+    /// Returns whether some order linearizes all calls of a stream at its end, from the opening keys, and leaves `keys`: `Linearizable`
+    /// exactly if one does, and `NotLinearizable` exactly if none does. The set has no quota.
     pub(crate) fn verdict(&self, keys: &[u32]) -> StreamVerdict
         requires increase { IsStrictlyIncreasing keys.now }
         requires met { All (λ p. behind_all ≤ p.end) (pending_in self.now) }
@@ -581,8 +658,9 @@ impl Stream {
         }
     }
 
-    /// As `verdict`, for a recording that was cut off, so without its final keys: the answer is `Linearizable` exactly if there are
-    /// keys left with which some order explains the calls, and `NotLinearizable` exactly if none does whatever keys are left.
+    /// Returns whether some order linearizes all calls of a stream at its end, from the opening keys: `Linearizable` exactly if one does,
+    /// whichever keys it leaves, and `NotLinearizable` exactly if none does. It is for a recording that was cut off, so that its final keys
+    /// are unknown.
     pub(crate) fn verdict_cut_off(&self) -> StreamVerdict
         requires { All (λ p. behind_all ≤ p.end) (pending_in self.now) }
         ensures said { (threads : ℕ) (opening : List ℕ) (calls : List RecordedCall) → IsStreamOf threads opening calls self.now
@@ -595,20 +673,26 @@ impl Stream {
         }
     }
 
-    /// What is kept of a key: of the one on which the rule has failed up to where it failed, with the calls that were pending then; of
-    /// another one up to the end, with the calls that are pending now.
-    pub(crate) fn into_log(mut self, key: u32) -> Result<Log, AllocError>
-        ensures { IfOk result (λ log. log_of log ≡ log_upto self.failed key self.pending (log_for self.states key)) }
+    /// Returns the clash of the key on which the rule has failed, if one was found.
+    pub(crate) fn clash_met(&self) -> Option<Clash>
+        ensures { result ≡ clash_met self.now.failed self.now.clash }
     {
-        let mut log = match self.states.remove(&key) {
-            Some(state) => state.into_log(),
-            None => Log::opened(self.alloc, Presence::Absent),
-        };
-        if self.failed.is_some() {
-            return Ok(log);
+        match self.failed {
+            Some(_) => self.clash,
+            None => None,
         }
-        let waiting = self.pending.of_key(self.alloc, key)?;
-        log.add_pending(&waiting)?;
-        Ok(log)
+    }
+
+    /// Returns the clash of the final state of a key, if one is found. `None` if the rule has failed.
+    pub(crate) fn clash_left(&self, key: u32, left: Presence) -> Option<Clash>
+        ensures { IfSome result (λ c. (self.now.failed ≡ None) × IsFoundLeft (facts_for self.now.states key) left c) }
+    {
+        if self.failed.is_some() {
+            return None;
+        }
+        match self.states.get(&key) {
+            Some(state) => state.facts.clash_left(left),
+            None => Facts::opened(Presence::Absent).clash_left(left),
+        }
     }
 }

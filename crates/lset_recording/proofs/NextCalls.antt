@@ -1,43 +1,28 @@
 -- A call that may follow those so far may come next, and one that came may follow them.
-use Rattle.std.proofs.Common.{◌≡◌, ◌≢◌, ℕ, ◌+◌, ◌<◌, ◌≤◌, inl, inr, true, Result, Ok, Err, List, [], ◌∷◌, ◌++◌, length, get_or, Option, Some, None, refl, sym, ap, subst}
+use Rattle.std.proofs.Common.{◌≡◌, ℕ, ◌+◌, ◌<◌, ◌≤◌, inl, inr, true, Result, Ok, Err, List, [], ◌∷◌, ◌++◌, length, Option, Some, None, sym, ap, subst}
 use Rattle.std.proofs.Common.{arith, length-append}
-use Rattle.std.specs.Prelude.{All, IfSome, IfOk, IsSomeAnd}
-use Rattle.std.proofs.lemmas.List.{get_or_append_left, get_or_push}
+use Rattle.std.specs.Prelude.{IfSome, IfOk}
 use Rattle.std.proofs.lemmas.List.Elements.{Contains-push}
 use Rattle.lset_words.specs.declared.Reply.{Reply}
 use Rattle.lset_words.specs.declared.history.CallRecord.{CallRecord}
-use Rattle.lset_words.specs.History.{MayFollow, IsHistory, call_numbered, no_call}
-use Rattle.lset_history.proofs.CallByCall.{IsCall, Follows, calls_of, pairs_of, may_follow, follows_of}
+use Rattle.lset_words.specs.History.{MayFollow, no_call}
+use Rattle.lset_history.proofs.CallByCall.{may_follow_at}
 use Rattle.lset_judge.specs.declared.stream.Pending.{Pending}
 use Rattle.lset_judge.specs.declared.judging.Judge.{Judge}
-use Rattle.lset_judge.specs.Events.{until_if}
 use Rattle.lset_judge.specs.Verdict.{is_plain}
-use Rattle.lset_judge.specs.Stream.{behind_all, pending_of, IsBefore, ArePending, MayCome, moment_of}
+use Rattle.lset_judge.specs.Stream.{IsBefore, ArePending, MayCome, moment_of}
 use Rattle.lset_judge.specs.Judge.{IsJudgeOf}
 use Rattle.lset_judge.proofs.OrderAsRead.{comes}
 use Rattle.lset_recording.specs.Texts.{all_threads}
 use Rattle.lset_recording.specs.Kept.{IsLatest, IsJudgeKept}
 
--- ---- a call that came may follow
-
-last_follows : (threads : ℕ) (calls : List CallRecord) (x : CallRecord) → IsHistory threads (calls ++ x ∷ []) → MayFollow threads calls x
-last_follows threads calls x h =
-    let long : length (calls ++ x ∷ []) ≡ length calls + 1 = length-append calls (x ∷ []) in
-    let last : (d : CallRecord) → get_or (calls ++ x ∷ []) (length calls) d ≡ x = λ d. get_or_push calls x d (length calls) refl in
-    may_follow threads calls x
-    (subst (IsCall threads) (last x) (calls_of threads (calls ++ x ∷ []) h (length calls) x (omega (arith, long))))
-    (λ k d below.
-    subst (Follows (get_or calls k d)) (last d)
-    (subst (λ (y : CallRecord). Follows y (get_or (calls ++ x ∷ []) (length calls) d)) (get_or_append_left calls (x ∷ []) d k below)
-    (pairs_of threads (calls ++ x ∷ []) h k (length calls) d below (omega (arith, long)))))
-
 -- ---- a call that may follow may come
 
 begun_after : (calls : List CallRecord) (moment : ℕ) → IsLatest calls moment → (x : CallRecord) → MayFollow all_threads calls x → moment < x.begun
-begun_after calls moment (inl none) x follows = let some = follows.counted in omega (arith, none, some)
+begun_after calls moment (inl none) x follows = let some = follows.call.counted in omega (arith, none, some)
 begun_after calls moment (inr last) x follows =
     let c = last.1 in
-    let b = follows.increasing c.0 last.0 c.1 in
+    let b = (follows.follows c.0 last.0 c.1).increasing in
     let is = ap (λ (y : CallRecord). y.begun) c.2 in
     let at = last.2 in
     omega (arith, b, is, at)
@@ -45,8 +30,8 @@ begun_after calls moment (inr last) x follows =
 pub may_come : (calls : List CallRecord) (moment : ℕ) (pending : List Pending) → ArePending calls moment pending → IsLatest calls moment → (x : CallRecord)
     → IsBefore x → IfSome x.ended (λ (end : ℕ × Reply). is_plain x.call end.1 ≡ true) → MayFollow all_threads calls x → MayCome pending moment x
 may_come calls moment pending are latest x before plain follows =
-    comes calls moment pending x are (begun_after calls moment latest x follows) follows.ends_later before plain
-    (λ n low. follows_of all_threads calls x follows n no_call low)
+    comes calls moment pending x are (begun_after calls moment latest x follows) follows.call.ends_later before plain
+    (λ n low. follows.follows n no_call low)
 
 -- ---- the judge of the calls so far
 
@@ -57,7 +42,7 @@ pub one_more : (opening : List ℕ) (calls : List CallRecord) (x : CallRecord) (
     → MayFollow all_threads calls x × IsJudgeKept opening (calls ++ x ∷ []) (Some t)
 one_more opening calls x s t kept added of_thread at =
     let is = added of_thread kept.0 in
-    let follows = last_follows all_threads calls x is.stream.history in
+    let follows = may_follow_at all_threads calls [] x is.stream.history in
     let long : length (calls ++ x ∷ []) ≡ length calls + 1 = length-append calls (x ∷ []) in
     (follows, (is, inr (x, Contains-push calls x, at), few is follows long))
   where

@@ -12,7 +12,7 @@ ghost use Rattle.lset_recording.specs.Kept.{IsAnswered, IsFirst, IsJudging, IsKe
 
 use crate::kept::Judging;
 use crate::lines::{Line, Section, line_told};
-use lset_judge::{Judge, Overlaps, StreamCall, StreamFault, Verdict};
+use lset_judge::{Judge, StreamCall, StreamFault, Verdict};
 use lset_text::{Cause, LineFault, is_above};
 use std::alloc::{AllocError, Global};
 
@@ -98,7 +98,6 @@ impl Judging {
             section: Section::Title,
             opening: Vec::new(alloc),
             judge: None,
-            overlaps: Overlaps::new(alloc),
             calls: 0,
             keys: Vec::new(alloc),
             cut_off: false,
@@ -139,7 +138,6 @@ impl Judging {
             }
             None => unreachable!(),
         }
-        self.overlaps.add(call)?;
         self.calls = self.calls.saturating_add(1);
         Ok(())
     }
@@ -226,6 +224,13 @@ impl Judging {
         matches!(self.section, Section::Done)
     }
 
+    fn overlapped(&self) -> u64 {
+        match &self.judge {
+            Some(judge) => judge.overlapped(),
+            None => 0,
+        }
+    }
+
     fn verdict(self) -> Result<Verdict, AllocError>
         ensures { IfOk result (λ verdict. (s : SoFar) → IsJudging s self → IsRecording s.told × IsVerdictOnRecording s.told verdict) }
     {
@@ -246,7 +251,7 @@ impl Judging {
         ensures line { IfErr result (λ fault. fault.line ≡ self.number) }
     {
         let (number, calls, cut_off) = (self.number, self.calls, self.cut_off);
-        let overlapped = self.overlaps.count();
+        let overlapped = self.overlapped();
         if !self.is_done() {
             return Err(LineFault::at(number, self.cause_at_end()));
         }

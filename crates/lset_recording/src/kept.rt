@@ -1,7 +1,7 @@
 ghost use Rattle.std.specs.List.Sorted.{IsStrictlyIncreasing};
 
 use crate::lines::Section;
-use lset_judge::{Judge, Overlaps};
+use lset_judge::Judge;
 use std::alloc::Global;
 
 /// What is kept of the lines so far.
@@ -12,7 +12,6 @@ pub(crate) struct Judging {
     pub(crate) opening: Vec<u32>,
     // (None before the first call)
     pub(crate) judge: Option<Judge>,
-    pub(crate) overlaps: Overlaps,
     pub(crate) calls: u64,
     pub(crate) keys: Vec<u32>,
     pub(crate) cut_off: bool,

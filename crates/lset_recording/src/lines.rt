@@ -250,8 +250,12 @@ fn title_told(line: &[u8]) -> Result<Line, Cause>
     }
 }
 
-/// What a line says in a text that has come to a section.
-pub(crate) fn line_told(section: Section, line: &[u8]) -> Result<Line, Cause>
+/// Returns what a line, without its newline, says in a text that has come to a section. Does not allocate.
+///
+/// # Errors
+///
+/// Why the line is not one that may come there.
+pub fn line_told(section: Section, line: &[u8]) -> Result<Line, Cause>
     ensures { result ≡ line_told section line.now }
 {
     if section.is_title() {

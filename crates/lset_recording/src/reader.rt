@@ -22,8 +22,8 @@ fn next_line(bytes: &[u8]) -> Option<(&[u8], &[u8])>
 }
 
 /// A reader of a recording. It takes the bytes of the text, of which the first line is `listset-calls 1`, in pieces of any length, and judges
-/// the calls as they come. It keeps the keys, the calls that are pending, of each key the calls that began since no change of it was pending,
-/// and at most `LONGEST_LINE` bytes of a line, so memory does not grow with the number of calls. (This project's own.)
+/// the calls as they come. It keeps the keys, the pending calls, at most two calls of each key, and at most `LONGEST_LINE` bytes of a line,
+/// so memory does not grow with the number of calls. (This project's own.)
 #[derive(Drop)]
 pub struct RecordingReader {
     judging: Judging,

@@ -1,9 +1,7 @@
-use Rattle.std.proofs.Common.{◌≡◌, sym, ◌∙◌}
+use Rattle.std.proofs.Common.{sym, ◌∙◌}
 use Rattle.std.specs.Cmp.Lexicographic.{same_text, other_text}
 use Rattle.std.proofs.lemmas.Option.{MatchOption-at_none, MatchOption-at_some}
 use Rattle.std.proofs.lemmas.Bool.{not-true, not-false}
-use Rattle.lset_history.specs.Faults.{RefusesFirst, HasWrongReply}
-use Rattle.lset_history.specs.Checks.{HasReplies, after_order}
 use Rattle.lset_history.proofs.Verdicts.{stands_once, leaves_none_out, threads_below, missing_fault, wrong_reply_fault}
 use Rattle.lset_history.proofs.Verdicts.{too_early_fault, wrong_set_fault, explained, not_explained}
 use Rattle.lset_history.proofs.checker.check_order.Goals as goal

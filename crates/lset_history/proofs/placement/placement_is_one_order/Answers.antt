@@ -3,5 +3,5 @@ use Rattle.lset_history.proofs.UniquePlacement.{placement_once}
 use Rattle.lset_history.proofs.placement.placement_is_one_order.Goals as goal
 
 pub returns : goal.returns
-returns c = λ quota last calls lists counts order other. placement_once quota last calls (contents_of_lists lists) counts order
+returns c = λ quota calls lists counts order other. placement_once quota calls (contents_of_lists lists) counts order
     other

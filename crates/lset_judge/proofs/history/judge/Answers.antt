@@ -5,7 +5,7 @@ use Rattle.std.proofs.lemmas.List.Elements.{recursion_from_All}
 use Rattle.lset_words.specs.declared.Reply.{Reply}
 use Rattle.lset_words.specs.declared.history.CallRecord.{CallRecord}
 use Rattle.lset_judge.specs.Stream.{record_of, stream_history}
-use Rattle.lset_judge.specs.Verdict.{IsExplained, is_plain}
+use Rattle.lset_judge.specs.Verdict.{IsExplained, IsPlain, is_plain}
 use Rattle.lset_judge.specs.Judge.{IsJudgeOf, IsVerdict}
 use Rattle.lset_judge.specs.Reading.{read_as}
 use Rattle.lset_words.specs.History.{IsHistory}
@@ -62,3 +62,14 @@ returns-in-Linearizable c =
     (c.in_ok-refusal.ensures h.opening.threads h.opening.keys (map read_as h.calls) whole) in
     let plain = recursion_from_All (λ (x : CallRecord). IfSome x.ended (λ (e : ℕ × Reply). is_plain x.call e.1 ≡ true)) h.calls (c.is_plain-plain.ensures.0 (search rules)) in
     subst (λ (l : List CallRecord). IsExplained (stream_history h.opening.threads h.opening.keys l) c.args.keys.now) (plain_read h.calls plain) answer
+
+pub returns-in-Linearizable-2 : goal.returns-in-Linearizable-2
+returns-in-Linearizable-2 c =
+    let h = c.args.history.now in
+    let whole = subst (λ (l : List CallRecord). IsJudgeOf h.opening.threads h.opening.keys (map read_as l) c.loop-call.judge)
+    (take_all c.loop-call.call-index c.calls-calls.result.now c.loop-call-test.false ∙ c.calls-calls.ensures.value) c.loop-call.invariant.judge in
+    let none : IsPlain h.calls → ⊥ = search rules in (
+      none,
+      subst (IsVerdict h.opening.threads h.opening.keys (map read_as h.calls) c.args.keys.now) c.in-Linearizable-2.is
+          (c.in_ok-refusal.ensures h.opening.threads h.opening.keys (map read_as h.calls) whole),
+    )

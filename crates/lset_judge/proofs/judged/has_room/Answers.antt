@@ -7,7 +7,6 @@ use Rattle.lset_words.specs.declared.history.CallRecord.{CallRecord}
 use Rattle.lset_words.specs.Words.{Opens, Opening}
 use Rattle.lset_words.specs.History.{IsHistory}
 use Rattle.lset_words.proofs.Numbers.{below_or_not, unequal_test, same_or_not}
-use Rattle.lset_history.proofs.CallByCall.{calls_of}
 use Rattle.lset_judge.specs.Verdict.{may_add, adds_of}
 use Rattle.lset_judge.proofs.judged.has_room.Goals as goal
 
@@ -28,7 +27,7 @@ room_for_all : (opening : Opening) (calls : List CallRecord) (quota : ℕ) → I
 room_for_all opening calls quota history opens each t = elim (below_or_not t 64) [
   | inl low ↦ each t low
   | inr high ↦ (let none = no_adds t calls (λ k d low e.
-      let one = (calls_of opening.threads calls history k d low).of_a_thread in let most = opens.within.few in omega (arith, one, most, high, e)) in
+      let one = (history.each k d low).of_a_thread in let most = opens.within.few in omega (arith, one, most, high, e)) in
       omega (arith, none))
 ]
 

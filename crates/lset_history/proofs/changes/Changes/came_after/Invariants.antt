@@ -4,14 +4,14 @@ use Rattle.lset_history.specs.Changes.{moments_of}
 use Rattle.lset_history.proofs.CeilingSearch.{IsFrom, CameUpTo}
 use Rattle.lset_history.proofs.changes.Changes.came_after.Given as goal
 
--- the keys below the next one are looked at
+-- The keys below the next one have been checked.
 abbrev pub invariant-loop-next : goal.invariant-loop-next
 invariant-loop-next l = record {
   from : IsFrom l.key l.next;
   came : CameUpTo (moments_of l.self) l.key l.next l.end l.moment;
 }
 
--- how many keys are left
+-- The number of keys that remain
 abbrev keys_left : Option ℕ → ℕ
 keys_left None = 0
 keys_left (Some key) = 4294967297 - key

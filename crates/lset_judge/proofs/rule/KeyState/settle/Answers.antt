@@ -16,5 +16,5 @@ loop-event-preserved c =
     let not_found : fits (suc c.args.before) (event_as c.args.event) s ≡ false = sym c.loop-event-test.ensures in
     record {
       found = sym (settles_on c.args.before (event_as c.args.event) s (state_of c.flip.new.self) not_found c.if-not-flip.ensures.turned) ∙ c.loop-event.invariant.found;
-      log = c.if-not-flip.ensures.log ∙ c.loop-event.invariant.log;
+      facts = c.if-not-flip.ensures.facts ∙ c.loop-event.invariant.facts;
     }

@@ -6,7 +6,7 @@ use Rattle.lset_judge.proofs.rule.KeyState.settle.Given as goal
 abbrev pub invariant-loop-event : goal.invariant-loop-event
 invariant-loop-event l = record {
   found : found l.before (event_as l.event) (state_of l.self) ≡ found l.initial.before (event_as l.initial.event) (state_of l.initial.self);
-  log : l.self.log ≡ l.initial.self.log;
+  facts : l.self.facts ≡ l.initial.self.facts;
 }
 
 abbrev pub decreases-loop-event : goal.decreases-loop-event

@@ -5,7 +5,8 @@ use Rattle.lset_judge.specs.Code.{event_as}
 use Rattle.lset_judge.specs.Events.{kind_if, begin_event}
 use Rattle.lset_judge.specs.Stream.{record_of, pending_of, key_in, IsMetBy}
 use Rattle.lset_judge.proofs.CallBegins.{begins_apart, call_begun}
-use Rattle.lset_judge.proofs.LogsGoOn.{begin_logged}
+use Rattle.lset_judge.specs.Facts.{BeginIsKnown}
+use Rattle.lset_judge.proofs.FactsGoOn.{begin_known}
 use Rattle.lset_judge.proofs.stream.Stream.begin.Goals as goal
 
 pub insert-requires : goal.insert-requires
@@ -25,8 +26,10 @@ returns-clause-begun c = λ threads opening calls low is.
     let moved = subst (λ (ps : List Pending). IsPermutation (pending_of (record_of x) ∷ s.pending) ps) (sym met.pending)
     (subst (λ (q : Pending). IsPermutation (q ∷ s.pending) c.insert.new.self) own (c.in_ok-insert.ensures apart)) in
     let by = subst (λ v. IsMetBy s.states (key_of x.call).0 x.begun v t.states s.failed t.failed) event
-    (subst (λ k. IsMetBy s.states k x.begun (event_as c.begin_event.result) t.states s.failed t.failed) (c.key.ensures ∙ ap (λ q. key_in q) own) met.by) in record {
+    (subst (λ k. IsMetBy s.states k x.begun (event_as c.begin_event.result) t.states s.failed t.failed) (c.key.ensures ∙ ap (λ q. key_in q) own) met.by) in
+    let known = subst (λ v. BeginIsKnown s.states (key_of x.call).0 v t.states s.failed s.clash) event
+    (subst (λ k. BeginIsKnown s.states k (event_as c.begin_event.result) t.states s.failed s.clash) (c.key.ensures ∙ ap (λ q. key_in q) own)
+    c.in_ok-meet.ensures.known) in record {
       stream = call_begun threads opening calls s is.stream (record_of x) c.requires.may c.requires.met low t moved met.at_moment by;
-      logged = begin_logged threads opening calls s t is.stream (record_of x) c.requires.may moved met.at_moment c.in_ok-meet.ensures.logs s.failed t.failed by
-          is.stream.judged is.logged;
+      known = begin_known opening calls (record_of x) s t c.requires.may.begins met.at_moment by known c.in_ok-meet.ensures.clash is.known;
     }

@@ -3,9 +3,9 @@ use Rattle.std.specs.Prelude.{All, Contains}
 use Rattle.std.proofs.lemmas.List.Elements.{All-contains_itself, All-tail}
 use Rattle.std.proofs.lemmas.List.Sorted.{All-permutation, length_permutation}
 use Rattle.lset_judge.specs.declared.stream.Pending.{Pending}
-use Rattle.lset_judge.specs.Log.{IsStreamKept, LogsEnd}
+use Rattle.lset_judge.specs.Facts.{IsStreamKept}
 use Rattle.lset_judge.proofs.CallBegins.{end_met}
-use Rattle.lset_judge.proofs.LogsGoOn.{end_logged}
+use Rattle.lset_judge.proofs.FactsGoOn.{end_known}
 use Rattle.lset_judge.proofs.stream.Stream.meet_before.Goals as goal
 
 pub loop-next-init : goal.loop-next-init
@@ -29,9 +29,7 @@ loop-next-preserved c =
           let now = c.loop-next.invariant.kept threads opening calls is in
           let so = end_met threads opening calls s t c.args.moment p rest c.requires next met.pending met.at_moment met.by now.stream in record {
             stream = so;
-            logged = end_logged threads opening calls s t c.args.moment p rest next met.pending met.at_moment now.stream so s.failed t.failed met.by
-                (subst (λ (ps : List Pending). LogsEnd s.states ps p.call t.states s.failed t.failed) (sym met.pending) c.in_ok-end.ensures.logs) so.judged
-                now.logged;
+            known = end_known threads opening calls s t c.args.moment p rest next met.at_moment now.stream c.in_ok-end.ensures.known met.by now.known;
           };
       before = λ low. let at = met.at_moment in let early = next.early in omega (arith, at, early);
       some = subst (All (Contains was)) (sym met.pending)

@@ -1,7 +1,7 @@
 use Rattle.std.proofs.Common.{ℕ, ◌<◌, List, length}
 use Rattle.std.specs.Prelude.{All, Contains}
 use Rattle.lset_words.specs.declared.history.CallRecord.{CallRecord}
-use Rattle.lset_judge.specs.Log.{IsStreamKept}
+use Rattle.lset_judge.specs.Facts.{IsStreamKept}
 use Rattle.lset_judge.proofs.stream.Stream.meet_before.Given as goal
 
 abbrev pub invariant-loop-next : goal.invariant-loop-next

@@ -1,0 +1,116 @@
+-- A CLASH: two calls of a key that no order explains, whatever all other calls did.
+use Rattle.std.specs.Prelude.{◌≡◌, ◌≢◌, ℕ, ◌⊎◌, ◌||◌, not, nat_lt, Bool, true, List, Option, Some, None, map, All, IfSome, Contains as Has}
+use Rattle.lset_words.specs.declared.Call.{Call}
+use Rattle.lset_words.specs.declared.Reply.{Reply}
+use Rattle.lset_words.specs.declared.history.CallRecord.{CallRecord}
+use Rattle.lset_words.specs.declared.effect.Presence.{Presence}
+use Rattle.lset_words.specs.declared.effect.Presence.TheVariants.{Present, Absent}
+use Rattle.lset_words.specs.declared.effect.Effect.{Effect}
+use Rattle.lset_words.specs.declared.effect.Effect.TheVariants.{Changes, Sees, Other}
+use Rattle.lset_words.specs.Effects.{effect_of, is_there}
+use Rattle.lset_words.specs.Words.{key_of}
+use Rattle.lset_words.specs.History.{Precedes, IsHistory}
+use Rattle.lset_words.specs.SequentialSet.{has_key}
+use Rattle.lset_history.specs.History.{HistoryValue}
+use Rattle.lset_judge.specs.Verdict.{IsUnexplained}
+use Rattle.lset_judge.specs.declared.stream.StreamCall.{StreamCall}
+use Rattle.lset_judge.specs.Events.{kind_if}
+use Rattle.lset_judge.specs.Rest.{alone, has_ended, key_if, turns_to}
+use Rattle.lset_judge.specs.Stream.{record_of}
+
+abbrev pub other : Presence → Presence
+other Present = Absent
+other Absent = Present
+
+-- how a call leaves its key, and how the key has to be just before the call takes effect
+abbrev pub left_so : Effect → Option Presence
+left_so (Changes p) = Some p
+left_so (Sees p) = Some p
+left_so Other = None
+
+abbrev pub needed_by : Effect → Option Presence
+needed_by (Changes p) = Some (other p)
+needed_by (Sees p) = Some p
+needed_by Other = None
+
+-- of a call that has not ended neither is known
+abbrev pub leaves_if : Call → Option (ℕ × Reply) → Option Presence
+leaves_if c None = None
+leaves_if c (Some e) = left_so (effect_of c e.1)
+
+abbrev pub needs_if : Call → Option (ℕ × Reply) → Option Presence
+needs_if c None = None
+needs_if c (Some e) = needed_by (effect_of c e.1)
+
+-- a call of the key
+pub record IsOf (calls : List CallRecord) (key : ℕ) (x : CallRecord) : Type 0 where
+  pub known : Has calls x
+  pub own : (key_of x.call).0 ≡ key
+
+-- the key was so: at first, or a call leaves it so
+abbrev pub WasSo : List CallRecord → ℕ → Presence → Presence → Option CallRecord → Type 0
+WasSo calls key there was None = there ≡ was
+WasSo calls key there was (Some x) = IsOf calls key x × (leaves_if x.call x.ended ≡ Some was)
+
+-- it has to be so: at the end, or for a call
+abbrev pub HasToBe : List CallRecord → ℕ → Option Presence → Presence → Option CallRecord → Type 0
+HasToBe calls key left need None = left ≡ Some need
+HasToBe calls key left need (Some y) = IsOf calls key y × (needs_if y.call y.ended ≡ Some need)
+
+-- from the begin of the first to the end of the second
+abbrev pub since_of : Option CallRecord → ℕ
+since_of None = 0
+since_of (Some x) = x.begun
+
+abbrev pub is_before_end : ℕ → Option (ℕ × Reply) → Bool
+is_before_end begun None = true
+is_before_end begun (Some e) = nat_lt begun e.0
+
+abbrev pub is_before : ℕ → Option CallRecord → Bool
+is_before begun None = true
+is_before begun (Some y) = is_before_end begun y.ended
+
+-- no change of the key to there, or to not there, overlaps that time
+abbrev pub NothingTurns : List CallRecord → ℕ → Presence → ℕ → Option CallRecord → Type 0
+NothingTurns calls key there since second = All (λ (x : CallRecord). (key_of x.call).0 ≡ key → turns_to there (kind_if x.call x.ended) ≡ true
+    → is_before x.begun second ≡ true → has_ended since x.ended ≡ true) calls
+
+-- a call does not turn the key so in that time
+abbrev pub is_apart : Presence → ℕ → Option CallRecord → CallRecord → Bool
+is_apart there since second x = not (turns_to there (kind_if x.call x.ended)) || (not (is_before x.begun second) || has_ended since x.ended)
+
+-- the second needs what the first does not leave, and nothing could change this: so the second does not come after the first
+pub record Clashes (calls : List CallRecord) (key : ℕ) (there : Presence) (left : Option Presence) (was : Presence) (first second : Option CallRecord) : Type 0 where
+  pub was_so : WasSo calls key there was first
+  pub needed : HasToBe calls key left (other was) second
+  pub nothing : NothingTurns calls key (other was) (since_of first) second
+
+-- the second comes after the first; or, if it came before it, they would clash too
+abbrev pub InOrder : List CallRecord → ℕ → Presence → Option Presence → Option CallRecord → Option CallRecord → Type 0
+InOrder calls key there left (Some x) (Some y) =
+    Precedes x y ⊎ ((x.begun ≢ y.begun) × ((v : Presence) × Clashes calls key there left v (Some y) (Some x)))
+InOrder calls key there left None second = Unit {0}
+InOrder calls key there left (Some x) None = Unit {0}
+
+-- THE CLASH of two calls of a key; in place of the first how the key was at first, in place of the second how it is left
+abbrev pub IsClash : List CallRecord → ℕ → Presence → Option Presence → Presence → Option CallRecord → Option CallRecord → Type 0
+IsClash calls key there left was first second =
+    Clashes calls key there left was first second × InOrder calls key there left first second
+
+-- no order explains a history of such calls, whatever all its other calls did, and leaves the keys so
+abbrev pub ClashesExcludeOrders : Type 0
+ClashesExcludeOrders = (h : HistoryValue) (keys : List ℕ) (key : ℕ) (there : Presence) (left : Option Presence) (was : Presence)
+    (first second : Option CallRecord) → IsHistory h.opening.threads h.calls → has_key key h.opening.keys ≡ is_there there
+    → IfSome left (λ (l : Presence). has_key key keys ≡ is_there l) → IsClash h.calls key there left was first second → IsUnexplained h keys
+
+abbrev pub records : List StreamCall → List CallRecord
+records calls = map record_of calls
+
+-- no order explains these calls of a key, of a set that opens with it or without it: whatever keys they leave, or if they leave the key so
+abbrev pub HaveNone : ℕ → ℕ → Presence → Option Presence → List CallRecord → Type 0
+HaveNone threads key there left calls = (quota : ℕ) (keys : List ℕ) → IfSome left (λ (l : Presence). keys ≡ key_if (is_there l) key)
+    → IsUnexplained (alone threads quota (is_there there) key calls) keys
+
+abbrev pub record_if : Option StreamCall → Option CallRecord
+record_if None = None
+record_if (Some x) = Some (record_of x)

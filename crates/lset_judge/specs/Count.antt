@@ -1,0 +1,89 @@
+-- A COUNT: calls of a key between which the key has to turn back more often than it could.
+use Rattle.std.specs.Prelude.{◌≡◌, ℕ, ◌+◌, ◌-◌, ◌<◌, ◌≤◌, ◌==◌, ◌⊎◌, ◌&&◌, not, nat_lt, Bool, true, List, length, filter, Option, Some, None, All, AllPairs, IfSome}
+use Rattle.lset_words.specs.declared.Reply.{Reply}
+use Rattle.lset_words.specs.declared.history.CallRecord.{CallRecord}
+use Rattle.lset_words.specs.declared.effect.Presence.{Presence}
+use Rattle.lset_words.specs.Effects.{is_there}
+use Rattle.lset_words.specs.Words.{key_of}
+use Rattle.lset_words.specs.History.{Precedes, IsHistory}
+use Rattle.lset_words.specs.SequentialSet.{has_key}
+use Rattle.lset_history.specs.History.{HistoryValue}
+use Rattle.lset_judge.specs.Verdict.{IsUnexplained}
+use Rattle.lset_judge.specs.declared.count.Count.{Count}
+use Rattle.lset_judge.specs.Events.{kind_if}
+use Rattle.lset_judge.specs.Rest.{has_ended, turns_to}
+use Rattle.lset_judge.specs.Clash.{records, other, leaves_if, needs_if, IsOf}
+
+-- The stretch of time of a count is from a moment on, or from before all calls: then the key was so at first, which counts like a call.
+-- It is up to a moment, or to the end: then the key is left otherwise, which counts like a call.
+abbrev pub also : Option ℕ → ℕ
+also None = 1
+also (Some moment) = 0
+
+abbrev pub OpensSo : Presence → Presence → Option ℕ → Type 0
+OpensSo there was None = there ≡ was
+OpensSo there was (Some since) = Unit {0}
+
+abbrev pub LeftOtherwise : Option Presence → Presence → Option ℕ → Type 0
+LeftOtherwise left was None = left ≡ Some (other was)
+LeftOtherwise left was (Some until) = Unit {0}
+
+-- the call begins no earlier; if the key was so before all calls, the call needs it otherwise
+abbrev pub BeginsIn : Presence → Option ℕ → CallRecord → Type 0
+BeginsIn was None x = needs_if x.call x.ended ≡ Some (other was)
+BeginsIn was (Some since) x = since ≤ x.begun
+
+-- the call ended no later; if the key is left otherwise, the call leaves it so
+abbrev pub EndsIn : Presence → Option ℕ → CallRecord → Type 0
+EndsIn was None x = leaves_if x.call x.ended ≡ Some was
+EndsIn was (Some until) x = has_ended until x.ended ≡ true
+
+-- whichever of the two calls comes first leaves the key so, and the other needs it otherwise: between them the key has to turn back
+pub record NeedTurn (was : Presence) (x y : CallRecord) : Type 0 where
+  pub later : x.begun < y.begun
+  pub leaves : leaves_if x.call x.ended ≡ Some was
+  pub needs : needs_if y.call y.ended ≡ Some (other was)
+  pub either : Precedes x y ⊎ ((leaves_if y.call y.ended ≡ Some was) × (needs_if x.call x.ended ≡ Some (other was)))
+
+-- a change of the key that could turn it so in the stretch: it answered true, or is pending, and overlaps the stretch
+abbrev pub begins_by : ℕ → Option ℕ → Bool
+begins_by begun None = true
+begins_by begun (Some until) = nat_lt begun until
+
+abbrev pub ends_from : Option ℕ → Option (ℕ × Reply) → Bool
+ends_from None ended = true
+ends_from (Some since) ended = not (has_ended since ended)
+
+abbrev pub turns_in : ℕ → Presence → Option ℕ → Option ℕ → CallRecord → Bool
+turns_in key there since until x =
+    (key_of x.call).0 == key && (turns_to there (kind_if x.call x.ended) && (begins_by x.begun until && ends_from since x.ended))
+
+abbrev pub turning_in : ℕ → Presence → Option ℕ → Option ℕ → List CallRecord → List CallRecord
+turning_in key there since until calls = filter (turns_in key there since until) calls
+
+-- how often the key has to turn back
+abbrev pub turns_of : ℕ → Option ℕ → Option ℕ → ℕ
+turns_of counted since until = counted + also since + also until - 1
+
+-- THE COUNT of some calls of a key that lie in a stretch: between each two of them, and before the first if the key was so at first, and after
+-- the last if it is left otherwise, the key has to turn back; and fewer changes could turn it back in the stretch
+pub record IsCountOf (calls : List CallRecord) (key : ℕ) (there : Presence) (left : Option Presence) (was : Presence) (since until : Option ℕ)
+    (counted : List CallRecord) : Type 0 where
+  pub known : All (IsOf calls key) counted
+  pub begin : All (BeginsIn was since) counted
+  pub «end» : All (EndsIn was until) counted
+  pub opens : OpensSo there was since
+  pub closes : LeftOtherwise left was until
+  pub turns : AllPairs (NeedTurn was) counted
+  pub fewer : length (turning_in key (other was) since until calls) < turns_of (length counted) since until
+
+-- no order explains a history of such calls, whatever all its other calls did, and leaves the keys so
+abbrev pub CountsExcludeOrders : Type 0
+CountsExcludeOrders = (h : HistoryValue) (keys : List ℕ) (key : ℕ) (there : Presence) (left : Option Presence) (was : Presence)
+    (since until : Option ℕ) (counted : List CallRecord) → IsHistory h.opening.threads h.calls → has_key key h.opening.keys ≡ is_there there
+    → IfSome left (λ (l : Presence). has_key key keys ≡ is_there l) → IsCountOf h.calls key there left was since until counted → IsUnexplained h keys
+
+-- of a count as it is told: its calls, and all changes that could turn the key back
+pub record IsCount (calls : List CallRecord) (there : Presence) (left : Option Presence) (c : Count) : Type 0 where
+  pub count : IsCountOf calls c.key.0 there left c.was c.since c.until (records c.calls.items)
+  pub backs : records c.backs.items ≡ turning_in c.key.0 (other c.was) c.since c.until calls

@@ -1,0 +1,81 @@
+//! The end of the last call of each thread.
+
+ghost use Rattle.std.specs.Prelude.{◌≡◌, ◌==◌, ◌≤◌, ◌<◌, ◌^◌, ℕ, length, slice_index_or, OnOk, OnErr, if◌then◌else◌};
+ghost use Rattle.lset_judge.specs.Pending.{last_end};
+
+use std::alloc::{AllocError, Global};
+use std::collections::HashMap;
+
+/// The threads below this number are in a vector, the others in a table.
+const LOW: u32 = 65_536;
+
+/// For each thread, the end of its last call.
+#[derive(Drop)]
+pub(crate) struct Busy {
+    /// The ends of threads below `LOW`, by the thread. 0 if a thread has had no call.
+    pub(crate) low: Vec<u64>,
+    /// The ends of the other threads that have had a call.
+    pub(crate) high: HashMap<u32, u64>,
+}
+
+/// Appends zeros up to a length.
+fn lengthen(ends: &mut Vec<u64>, len: usize) -> Result<(), AllocError>
+    ensures same { (i : ℕ) → slice_index_or ends.new.items i 0 ≡ slice_index_or ends.old.items i 0 }
+    ensures long { OnOk result (len ≤ length ends.new.items) }
+{
+    while ends.len() < len {
+        ends.push(0)?;
+    }
+    Ok(())
+}
+
+/// Stores an end at an index.
+fn store(ends: &mut Vec<u64>, place: usize, end: u64) -> Result<(), AllocError>
+    requires { place < 2 ^ 32 }
+    ensures stored { OnOk result ((i : ℕ) → slice_index_or ends.new.items i 0 ≡ (if place == i then end else slice_index_or ends.old.items i 0)) }
+    ensures same { OnErr result ((i : ℕ) → slice_index_or ends.new.items i 0 ≡ slice_index_or ends.old.items i 0) }
+{
+    lengthen(ends, place + 1)?;
+    ends[place] = end;
+    Ok(())
+}
+
+impl Busy {
+    /// Returns threads without calls. Does not allocate.
+    pub(crate) fn new(alloc: Global) -> Busy {
+        Busy {
+            low: Vec::new(alloc),
+            high: HashMap::new(alloc),
+        }
+    }
+
+    /// Returns the end of the last call of a thread. 0 if the thread has had no call.
+    pub(crate) fn last_end(&self, thread: u32) -> u64
+        ensures { result ≡ last_end self.now thread }
+    {
+        if thread < LOW {
+            match self.low.get(thread as usize) {
+                Some(end) => *end,
+                None => 0,
+            }
+        } else {
+            match self.high.get(&thread) {
+                Some(end) => *end,
+                None => 0,
+            }
+        }
+    }
+
+    /// Stores the end of the last call of a thread.
+    pub(crate) fn store(&mut self, thread: u32, end: u64) -> Result<(), AllocError>
+        ensures stored { OnOk result ((t : ℕ) → last_end self.new t ≡ (if thread == t then end else last_end self.old t)) }
+        ensures same { OnErr result ((t : ℕ) → last_end self.new t ≡ last_end self.old t) }
+    {
+        if thread < LOW {
+            store(&mut self.low, thread as usize, end)?;
+        } else {
+            self.high.insert(thread, end)?;
+        }
+        Ok(())
+    }
+}

@@ -1,0 +1,298 @@
+//! Counts: calls of a key between which the key must change back more often than it can.
+
+ghost use Rattle.std.specs.Prelude.{◌≡◌, ℕ, ◌<◌, All, AllPairs, IfOk, IfSome, IsTrue, length, filter, true};
+ghost use Rattle.lset_words.specs.History.{IsHistory, Precedes};
+ghost use Rattle.lset_judge.specs.Clash.{other, records, HaveNone, IsOf};
+ghost use Rattle.lset_judge.specs.Count.{also, begins_by, ends_from, turns_in, turns_of, BeginsIn, EndsIn, OpensSo, LeftOtherwise, NeedTurn, IsCount, IsCountOf, CountsExcludeOrders};
+ghost use Rattle.lset_judge.specs.Stream.{record_of};
+
+use crate::clash::{has_ended, is_of, leaves, needs, other, turns_to};
+use crate::stream::StreamCall;
+use crate::stretch::{Stretch, smallest_stretch};
+use lset_words::{Key, Presence};
+use std::alloc::{AllocError, Global};
+
+/// Calls of a key that no order explains, because there are too many of them. Whichever of two of them comes first leaves the key in the
+/// state `was`, and the other needs the other state. So the key must change back between any two of them, and fewer calls can change it
+/// back.
+#[derive(Debug, Drop)]
+pub struct Count {
+    /// The key.
+    pub key: Key,
+    /// The state in which each of the calls but the last leaves the key. Each but the first needs the other state.
+    pub was: Presence,
+    /// The calls, sorted by their begins.
+    pub calls: Vec<StreamCall>,
+    /// All changes that can change the key back: those that answered true or are pending, and overlap the time from `since` to `until`.
+    pub backs: Vec<StreamCall>,
+    /// A moment at or before which none of the calls begins. `None` if the key had the state `was` at first, which counts like a call before
+    /// them.
+    pub since: Option<u64>,
+    /// A moment by which all of the calls have ended. `None` if the final state of the key is not `was`, which counts like a call after them.
+    pub until: Option<u64>,
+}
+
+impl Count {
+    /// Returns how often the key must change back. The number is greater than the number of `backs`.
+    pub fn turns(&self) -> usize
+        ensures { result ≡ turns_of (length self.now.calls.items) self.now.since self.now.until }
+    {
+        (self.calls.len() + also(self.since) + also(self.until)).saturating_sub(1)
+    }
+}
+
+/// A lemma: if calls of a history are a count, no order explains the history and leaves these keys. The body does nothing.
+pub fn counts_exclude_orders()
+    ensures { CountsExcludeOrders }
+{}
+
+/// Returns 1 if the stretch has no such bound, and otherwise 0.
+fn also(bound: Option<u64>) -> usize
+    ensures { result ≡ also bound }
+{
+    match bound {
+        None => 1,
+        Some(_) => 0,
+    }
+}
+
+// ---- whether some calls are a count
+
+fn begins_in(call: StreamCall, was: Presence, since: Option<u64>) -> bool
+    ensures { IsTrue result → BeginsIn was since (record_of call) }
+{
+    match since {
+        None => needs(call) == Some(other(was)),
+        Some(moment) => moment <= call.begun,
+    }
+}
+
+fn ends_in(call: StreamCall, was: Presence, until: Option<u64>) -> bool
+    ensures { IsTrue result → EndsIn was until (record_of call) }
+{
+    match until {
+        None => leaves(call) == Some(was),
+        Some(moment) => has_ended(call, moment),
+    }
+}
+
+fn opens_so(there: Presence, was: Presence, since: Option<u64>) -> bool
+    ensures { IsTrue result → OpensSo there was since }
+{
+    match since {
+        None => there == was,
+        Some(_) => true,
+    }
+}
+
+fn left_otherwise(left: Option<Presence>, was: Presence, until: Option<u64>) -> bool
+    ensures { IsTrue result → LeftOtherwise left was until }
+{
+    match until {
+        None => left == Some(other(was)),
+        Some(_) => true,
+    }
+}
+
+fn has_ended_before(first: StreamCall, second: StreamCall) -> bool
+    ensures { IsTrue result → Precedes (record_of first) (record_of second) }
+{
+    match first.ended {
+        None => false,
+        Some((end, _)) => end < second.begun,
+    }
+}
+
+/// Whether the key must change back between two calls, whichever comes first.
+fn need_turn(first: StreamCall, second: StreamCall, was: Presence) -> bool
+    ensures { IsTrue result → NeedTurn was (record_of first) (record_of second) }
+{
+    let otherwise = Some(other(was));
+    first.begun < second.begun
+        && leaves(first) == Some(was)
+        && needs(second) == otherwise
+        && (has_ended_before(first, second)
+            || (leaves(second) == Some(was) && needs(first) == otherwise))
+}
+
+fn turn_after(first: StreamCall, rest: &[StreamCall], was: Presence) -> bool
+    ensures { IsTrue result → All (λ y. NeedTurn was (record_of first) (record_of y)) rest.now }
+{
+    for second in rest {
+        if !need_turn(first, *second, was) {
+            return false;
+        }
+    }
+    true
+}
+
+fn need_turns(calls: &[StreamCall], was: Presence) -> bool
+    ensures { IsTrue result → AllPairs (λ x y. NeedTurn was (record_of x) (record_of y)) calls.now }
+{
+    let [first, rest @ ..] = calls else {
+        return true;
+    };
+    turn_after(*first, rest, was) && need_turns(rest, was)
+}
+
+fn all_known(calls: &[StreamCall], key: Key, counted: &[StreamCall]) -> bool
+    ensures { IsTrue result → All (λ x. IsOf (records calls.now) key.0 (record_of x)) counted.now }
+{
+    for call in counted {
+        if !is_of(calls, key, *call) {
+            return false;
+        }
+    }
+    true
+}
+
+fn all_begin(counted: &[StreamCall], was: Presence, since: Option<u64>) -> bool
+    ensures { IsTrue result → All (λ x. BeginsIn was since (record_of x)) counted.now }
+{
+    counted.iter().all(|call| begins_in(*call, was, since))
+}
+
+fn all_end(counted: &[StreamCall], was: Presence, until: Option<u64>) -> bool
+    ensures { IsTrue result → All (λ x. EndsIn was until (record_of x)) counted.now }
+{
+    counted.iter().all(|call| ends_in(*call, was, until))
+}
+
+/// Whether a call is a change that can lead to a state, and overlaps the stretch.
+fn turns_in(
+    call: StreamCall,
+    key: Key,
+    there: Presence,
+    since: Option<u64>,
+    until: Option<u64>,
+) -> bool
+    ensures { result ≡ turns_in key.0 there since until (record_of call) }
+{
+    call.is_of(key.0)
+        && (turns_to(call, there) && (begins_by(call, until) && ends_from(call, since)))
+}
+
+fn begins_by(call: StreamCall, until: Option<u64>) -> bool
+    ensures { result ≡ begins_by call.begun until }
+{
+    match until {
+        None => true,
+        Some(moment) => call.begun < moment,
+    }
+}
+
+fn ends_from(call: StreamCall, since: Option<u64>) -> bool
+    ensures { result ≡ ends_from since call.ended }
+{
+    match since {
+        None => true,
+        Some(moment) => !has_ended(call, moment),
+    }
+}
+
+/// Returns all changes that can lead to a state in the stretch.
+fn turning_in(
+    alloc: Global,
+    calls: &[StreamCall],
+    key: Key,
+    there: Presence,
+    since: Option<u64>,
+    until: Option<u64>,
+) -> Result<Vec<StreamCall>, AllocError>
+    ensures { IfOk result (λ found. found.items ≡ filter (λ x. turns_in key.0 there since until (record_of x)) calls.now) }
+{
+    calls
+        .iter()
+        .copied()
+        .filter(|call| turns_in(*call, key, there, since, until))
+        .collect(alloc)
+}
+
+/// Whether these calls are a count of the key's calls, where `backs` are all changes that can change the key back.
+fn is_count(calls: &[StreamCall], there: Presence, left: Option<Presence>, count: &Count) -> bool
+    requires { count.now.backs.items ≡ filter (λ x. turns_in count.now.key.0 (other count.now.was) count.now.since count.now.until (record_of x)) calls.now }
+    ensures { IsTrue result → IsCount (records calls.now) there left count.now }
+{
+    let (was, since, until) = (count.was, count.since, count.until);
+    let counted: &[StreamCall] = &count.calls;
+    if !all_known(calls, count.key, counted) {
+        return false;
+    }
+    if !all_begin(counted, was, since) {
+        return false;
+    }
+    if !all_end(counted, was, until) {
+        return false;
+    }
+    if !opens_so(there, was, since) {
+        return false;
+    }
+    if !left_otherwise(left, was, until) {
+        return false;
+    }
+    need_turns(counted, was) && count.backs.len() < count.turns()
+}
+
+/// Returns the calls of the count of a stretch, sorted by their begins.
+fn counted_in(
+    alloc: Global,
+    calls: &[StreamCall],
+    stretch: Stretch,
+) -> Result<Vec<StreamCall>, AllocError> {
+    let mut counted = Vec::new(alloc);
+    if let Some(look) = stretch.first {
+        counted.push(look)?;
+    }
+    for call in calls {
+        if stretch.has(*call) {
+            counted.push(*call)?;
+        }
+    }
+    if let Some(look) = stretch.last {
+        counted.push(look)?;
+    }
+    Ok(counted)
+}
+
+/// Moves the begin of the stretch to the first of the calls, if the stretch does not begin before all calls.
+fn since_first(counted: &[StreamCall], since: Option<u64>) -> Option<u64> {
+    match (since, counted.first()) {
+        (Some(_), Some(first)) => Some(first.begun),
+        (since, _) => since,
+    }
+}
+
+/// Returns the smallest count of the calls of a key, if one is found. The calls must be sorted by their begins. `there` is the presence of
+/// the key at first, `left` its final presence, if known. If a count is returned, no order explains these calls. The time grows with the
+/// square of the number of calls. Fails only if an allocation fails.
+pub fn find_count(
+    alloc: Global,
+    calls: &[StreamCall],
+    key: Key,
+    there: Presence,
+    left: Option<Presence>,
+) -> Result<Option<Count>, AllocError>
+    ensures is { IfOk result (λ found. IfSome found (λ c. (c.key ≡ key) × IsCount (records calls.now) there left c)) }
+    ensures none { IfOk result (λ found. IfSome found (λ _. (threads : ℕ) → IsHistory threads (records calls.now)
+        → HaveNone threads key.0 there left (records calls.now))) }
+{
+    let Some(stretch) = smallest_stretch(alloc, calls, there, left)? else {
+        return Ok(None);
+    };
+    let (was, until) = (stretch.was, stretch.until);
+    let counted = counted_in(alloc, calls, stretch)?;
+    let since = since_first(&counted, stretch.since);
+    let count = Count {
+        key,
+        was,
+        calls: counted,
+        backs: turning_in(alloc, calls, key, other(was), since, until)?,
+        since,
+        until,
+    };
+    if is_count(calls, there, left, &count) {
+        Ok(Some(count))
+    } else {
+        Ok(None)
+    }
+}

@@ -1,0 +1,142 @@
+//! Many pending calls, in a table by their ends. The begin and the end of a call take a few look-ups, and time logarithmic in the number of
+//! calls.
+
+ghost use Rattle.std.specs.Prelude.{◌≡◌, ◌≢◌, ◌↔◌, ◌<◌, ◌≤◌, ◌∷◌, [], IsTrue, All, Contains, IfSome, MatchOption, OnOk, length};
+ghost use Rattle.std.specs.List.Sorted.{IsPermutation};
+ghost use Rattle.lset_judge.specs.Pending.{end_or, IsNext};
+
+use crate::busy::Busy;
+use crate::ends::Ends;
+use crate::stream::{Pending, StreamCall};
+use std::alloc::{AllocError, Global};
+use std::collections::HashMap;
+use std::marker::Model;
+
+/// Pending calls.
+#[derive(Drop)]
+pub(crate) struct ManyCalls {
+    /// The calls by their ends.
+    calls: HashMap<u64, StreamCall>,
+    /// The ends of the calls.
+    ends: Ends,
+    /// For each thread, the end of its last call.
+    busy: Busy,
+}
+
+impl Model for ManyCalls {
+    ghost use Rattle.std.specs.Prelude.{List, map};
+    ghost use Rattle.lset_judge.specs.declared.stream.Pending.{Pending};
+    ghost use Rattle.lset_judge.specs.Pending.{pending_at, AreHeld};
+
+    ghost Value = { List Pending };
+
+    ghost view = { λ c. map pending_at c.calls.entries };
+
+    ghost invariant = { λ c. AreHeld c.calls.entries c.ends c.busy };
+}
+
+/// Returns the end of a call. If the call has none, returns its begin.
+pub(crate) fn end_or_begin(call: StreamCall) -> u64
+    ensures { result ≡ end_or call.begun call.ended }
+{
+    match call.ended {
+        Some((end, _)) => end,
+        None => call.begun,
+    }
+}
+
+/// Removes and returns the call that ends next, if it ends before a moment.
+fn pop_before(calls: &mut HashMap<u64, StreamCall>, ends: &mut Ends, moment: u64) -> Option<Pending>
+    requires { All (λ e. Contains ends.old e.0) calls.old.entries }
+    ensures held { All (λ e. Contains ends.new e.0) calls.new.entries }
+    ensures next { MatchOption result ((calls.new.entries ≡ calls.old.entries) × All (λ e. moment ≤ e.0) calls.old.entries)
+        (λ p. (p.end < moment) × IsPermutation calls.old.entries ((p.end, p.call) ∷ calls.new.entries)
+        × All (λ e. p.end ≤ e.0) calls.old.entries) }
+{
+    // (An end has no call if the allocation for its call failed.)
+    while let Some(end) = ends.pop_before(moment) {
+        if let Some(call) = calls.remove(&end) {
+            return Some(Pending { end, call });
+        }
+    }
+    None
+}
+
+impl ManyCalls {
+    /// Returns no calls. Does not allocate.
+    pub(crate) fn new(alloc: Global) -> ManyCalls
+        ensures { result ≡ [] }
+    {
+        ManyCalls {
+            calls: HashMap::new(alloc),
+            ends: Ends::new(alloc),
+            busy: Busy::new(alloc),
+        }
+    }
+
+    /// Returns the number of calls.
+    pub(crate) fn len(&self) -> usize
+        ensures { result ≡ length self.now }
+    {
+        self.calls.len()
+    }
+
+    /// Returns the calls by their ends.
+    pub(crate) fn calls(&self) -> &HashMap<u64, StreamCall> {
+        &self.calls
+    }
+
+    /// Whether no call ends at a moment.
+    fn none_ends_at(&self, moment: u64) -> bool
+        ensures { IsTrue result ↔ All (λ p. p.end ≢ moment) self.now }
+    {
+        if self.ends.are_after(moment) {
+            return true;
+        }
+        !self.calls.contains_key(&moment)
+    }
+
+    /// Whether no call ends at the begin or the end of another call.
+    pub(crate) fn are_apart(&self, call: StreamCall) -> bool
+        ensures { IsTrue result
+            ↔ All (λ p. (p.end ≢ call.begun) × IfSome call.ended (λ end. p.end ≢ end.0)) self.now }
+    {
+        self.none_ends_at(call.begun) && self.none_ends_at(end_or_begin(call))
+    }
+
+    /// Whether no call of the thread of another call is pending at the other's begin.
+    pub(crate) fn are_free(&self, call: StreamCall) -> bool
+        ensures { IsTrue result ↔ All (λ p. p.call.thread ≡ call.thread → p.end ≤ call.begun) self.now }
+    {
+        if self.calls.len() == 0 {
+            return true;
+        }
+        let end = self.busy.last_end(call.thread);
+        if end <= call.begun {
+            return true;
+        }
+        match self.calls.get(&end) {
+            Some(other) => other.thread != call.thread,
+            None => true,
+        }
+    }
+
+    /// Removes and returns the call that ends next, if it ends before a moment.
+    pub(crate) fn next_before(&mut self, moment: u64) -> Option<Pending>
+        ensures { MatchOption result ((self.new ≡ self.old) × All (λ p. moment ≤ p.end) self.old)
+            (λ next. IsNext moment self.old next self.new) }
+    {
+        pop_before(&mut self.calls, &mut self.ends, moment)
+    }
+
+    /// Adds a call. Its thread and its end must differ from those of each call here.
+    pub(crate) fn insert(&mut self, pending: Pending) -> Result<(), AllocError>
+        requires { All (λ p. p.call.thread ≢ pending.call.thread) self.old }
+        ensures { OnOk result (All (λ p. p.end ≢ pending.end) self.old → IsPermutation (pending ∷ self.old) self.new) }
+    {
+        self.busy.store(pending.call.thread, pending.end)?;
+        self.ends.push(pending.end)?;
+        self.calls.insert(pending.end, pending.call)?;
+        Ok(())
+    }
+}

@@ -1,0 +1,294 @@
+//! Searches a stretch of time in which a key must change back more often than it can. No contract is about the stretch: the count made from
+//! it is checked afterwards.
+
+use crate::clash::{has_ended, other};
+use crate::stream::StreamCall;
+use lset_words::{Effect, Presence};
+use std::alloc::{AllocError, Global};
+
+/// The time and the state of a count's calls.
+#[derive(Clone, Copy)]
+pub(crate) struct Stretch {
+    /// The state in which the changes leave the key.
+    pub(crate) was: Presence,
+    /// The changes begin at this moment or later.
+    from: u64,
+    /// The changes end at this moment or earlier.
+    upto: u64,
+    /// A call before the changes that saw the key in this state.
+    pub(crate) first: Option<StreamCall>,
+    /// A call after the changes that saw the key in the other state.
+    pub(crate) last: Option<StreamCall>,
+    /// The begin of the stretch. `None` if the key had the state at first.
+    pub(crate) since: Option<u64>,
+    /// The end of the stretch. `None` if the final state of the key is the other state.
+    pub(crate) until: Option<u64>,
+}
+
+/// The smallest stretch so far, by the number of its calls plus that of the calls that could change the key back.
+#[derive(Clone, Copy)]
+struct Best {
+    found: Option<Stretch>,
+    size: usize,
+}
+
+/// A begin or an end that the search looks at.
+#[derive(Clone, Copy)]
+enum Step {
+    /// A change back begins: when it ends.
+    Back(u64),
+    /// A change ends: when it began.
+    Change(u64),
+    /// A call that saw the other state begins: its index in `looks`.
+    Begins(usize),
+    /// A call that saw the other state ends: its index in `looks`.
+    Ends(usize),
+}
+
+#[derive(Clone, Copy)]
+struct Timed {
+    moment: u64,
+    step: Step,
+}
+
+/// A call that saw the other state, and how many changes had ended when it began.
+#[derive(Clone, Copy)]
+struct Look {
+    call: StreamCall,
+    changes: usize,
+}
+
+/// The begins and ends of a key's calls, sorted by moments.
+#[derive(Drop)]
+struct Steps {
+    steps: Vec<Timed>,
+    looks: Vec<Look>,
+}
+
+impl Stretch {
+    /// Returns the stretch that starts at the first change.
+    fn from_change(was: Presence, from: u64) -> Stretch {
+        Stretch {
+            was,
+            from,
+            upto: u64::MAX,
+            first: None,
+            last: None,
+            since: Some(from),
+            until: None,
+        }
+    }
+
+    /// Whether the call is one of the changes of the stretch.
+    pub(crate) fn has(&self, call: StreamCall) -> bool {
+        is_change_to(call, self.was) && self.from <= call.begun && has_ended(call, self.upto)
+    }
+
+    fn is_overlapped_to(&self, end: u64) -> bool {
+        match self.since {
+            None => true,
+            Some(since) => since < end,
+        }
+    }
+
+    /// Returns the number of calls of the stretch. The opening state and the final state count like calls.
+    fn places(&self, changes: usize) -> usize {
+        let before = self.first.is_some() || self.since.is_none();
+        let after = self.last.is_some() || self.until.is_none();
+        changes
+            .saturating_add(usize::from(before))
+            .saturating_add(usize::from(after))
+    }
+}
+
+fn is_change_to(call: StreamCall, was: Presence) -> bool {
+    match call.effect() {
+        Effect::Changes(to) => to == was && call.ended.is_some(),
+        Effect::Sees(_) | Effect::Other => false,
+    }
+}
+
+/// Returns the call that began last among those that saw a state and had ended by a moment.
+fn last_look(calls: &[StreamCall], was: Presence, moment: u64) -> Option<StreamCall> {
+    let mut last = None;
+    for call in calls {
+        if let Effect::Sees(seen) = call.effect() {
+            if seen == was && has_ended(*call, moment) {
+                last = Some(*call);
+            }
+        }
+    }
+    last
+}
+
+impl Best {
+    /// Returns the stretch, if fewer calls can change the key back than its calls need, and if it is smaller than this one.
+    fn or(self, stretch: Stretch, changes: usize, backs: usize) -> Best {
+        let places = stretch.places(changes);
+        let size = places.saturating_add(backs);
+        if changes > 0 && backs < places.saturating_sub(1) && size < self.size {
+            Best {
+                found: Some(stretch),
+                size,
+            }
+        } else {
+            self
+        }
+    }
+}
+
+impl Steps {
+    /// Returns the steps of calls that matter to a count for a state.
+    fn of(alloc: Global, calls: &[StreamCall], was: Presence) -> Result<Steps, AllocError> {
+        let mut all = Steps {
+            steps: Vec::new(alloc),
+            looks: Vec::new(alloc),
+        };
+        for call in calls {
+            all.add(*call, was)?;
+        }
+        all.steps.sort_unstable_by_key(|step| step.moment);
+        Ok(all)
+    }
+
+    fn add(&mut self, call: StreamCall, was: Presence) -> Result<(), AllocError> {
+        let (begun, end) = match call.ended {
+            Some((end, _)) => (call.begun, end),
+            None => (call.begun, u64::MAX),
+        };
+        match call.effect() {
+            Effect::Changes(to) => {
+                if to != was {
+                    self.push(begun, Step::Back(end))?;
+                } else if call.ended.is_some() {
+                    self.push(end, Step::Change(begun))?;
+                }
+            }
+            Effect::Sees(seen) => {
+                if seen != was {
+                    let number = self.looks.len();
+                    self.looks.push(Look { call, changes: 0 })?;
+                    self.push(begun, Step::Begins(number))?;
+                    self.push(end, Step::Ends(number))?;
+                }
+            }
+            Effect::Other => {}
+        }
+        Ok(())
+    }
+
+    fn push(&mut self, moment: u64, step: Step) -> Result<(), AllocError> {
+        self.steps.push(Timed { moment, step })?;
+        Ok(())
+    }
+
+    /// Returns the smallest stretch with this start.
+    fn pass(&mut self, start: Stretch, left: Option<Presence>, best: Best) -> Best {
+        let mut pass = Pass {
+            start,
+            changes: 0,
+            backs: 0,
+            best,
+        };
+        let Steps { steps, looks } = self;
+        for timed in steps.iter() {
+            pass.meet(looks, *timed);
+        }
+        if left == Some(other(start.was)) {
+            let changes = pass.changes;
+            pass.try_to(start, changes);
+        }
+        pass.best
+    }
+}
+
+/// A walk over the steps, for the stretches with one start: how many changes have ended, and how many changes back have begun.
+#[derive(Clone, Copy)]
+struct Pass {
+    start: Stretch,
+    changes: usize,
+    backs: usize,
+    best: Best,
+}
+
+impl Pass {
+    fn try_to(&mut self, stretch: Stretch, changes: usize) {
+        self.best = self.best.or(stretch, changes, self.backs);
+    }
+
+    fn meet(&mut self, looks: &mut [Look], timed: Timed) {
+        let mut stretch = self.start;
+        stretch.until = Some(timed.moment);
+        match timed.step {
+            Step::Back(end) => {
+                if stretch.is_overlapped_to(end) {
+                    self.backs = self.backs.saturating_add(1);
+                }
+            }
+            Step::Change(begun) => {
+                if stretch.from <= begun {
+                    let changes = self.changes.saturating_add(1);
+                    self.changes = changes;
+                    stretch.upto = timed.moment;
+                    self.try_to(stretch, changes);
+                }
+            }
+            Step::Begins(number) => {
+                if let Some(look) = looks.get_mut(number) {
+                    look.changes = self.changes;
+                }
+            }
+            Step::Ends(number) => {
+                if let Some(look) = looks.get(number).copied() {
+                    stretch.upto = look.call.begun;
+                    stretch.last = Some(look.call);
+                    self.try_to(stretch, look.changes);
+                }
+            }
+        }
+    }
+}
+
+/// Returns the smallest stretch whose changes leave the key in a state.
+fn smaller_stretch(
+    alloc: Global,
+    calls: &[StreamCall],
+    there: Presence,
+    left: Option<Presence>,
+    was: Presence,
+    best: Best,
+) -> Result<Best, AllocError> {
+    let mut steps = Steps::of(alloc, calls, was)?;
+    let mut best = best;
+    for call in calls {
+        if is_change_to(*call, was) {
+            let mut start = Stretch::from_change(was, call.begun);
+            best = steps.pass(start, left, best);
+            if let Some(look) = last_look(calls, was, call.begun) {
+                start.first = Some(look);
+                start.since = Some(look.begun);
+                best = steps.pass(start, left, best);
+            } else if there == was {
+                start.since = None;
+                best = steps.pass(start, left, best);
+            }
+        }
+    }
+    Ok(best)
+}
+
+/// Returns the stretch of the smallest count of the calls of a key, if there is one.
+pub(crate) fn smallest_stretch(
+    alloc: Global,
+    calls: &[StreamCall],
+    there: Presence,
+    left: Option<Presence>,
+) -> Result<Option<Stretch>, AllocError> {
+    let none = Best {
+        found: None,
+        size: usize::MAX,
+    };
+    let best = smaller_stretch(alloc, calls, there, left, Presence::Present, none)?;
+    let best = smaller_stretch(alloc, calls, there, left, Presence::Absent, best)?;
+    Ok(best.found)
+}
