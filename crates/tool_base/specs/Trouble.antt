@@ -1,4 +1,4 @@
--- What ends a run of the program with a line on stderr: its text and its exit status.
+-- The errors that end the program: the line on stderr, and the exit status.
 use Rattle.std.specs.Prelude.{ℕ, List, ◌++◌, codes}
 use Rattle.std.specs.Fmt.{decimal}
 use Rattle.lset_text.specs.declared.causes.Cause.{Cause}
@@ -17,7 +17,7 @@ use Rattle.tool_base.specs.declared.trouble.Trouble.{Trouble}
 use Rattle.tool_base.specs.declared.trouble.Trouble.TheVariants.{CannotRead, TooLong, CannotWrite, Memory, Line, Bad}
 use Rattle.tool_base.specs.declared.trouble.Trouble.TheVariants.{CannotListen, Work, Serve}
 
--- of a line that is refused
+-- the error for a line that is wrong
 abbrev pub of_line : ℕ → Cause → Trouble
 of_line number cause.Memory = Memory
 of_line number c = Line number c
@@ -25,14 +25,14 @@ of_line number c = Line number c
 abbrev pub of_line_fault : LineFault → Trouble
 of_line_fault fault = of_line fault.line fault.cause
 
--- of a schedule that is not replayed
+-- the error for a schedule that cannot be replayed
 abbrev pub of_replay : ReplayFault → Trouble
 of_replay (replay.NoThread number) = Line number cause.NoThread
 of_replay (replay.Busy number) = Line number cause.Busy
 of_replay (replay.Idle number) = Line number cause.Idle
 of_replay replay.Memory = Memory
 
--- of a schedule that is not generated
+-- the error for a schedule that cannot be generated
 abbrev pub of_generator : GenFault → Trouble
 of_generator generator.Threads = Bad value.Threads
 of_generator generator.Quota = Bad value.Quota
@@ -56,10 +56,13 @@ value_word value.Seats = codes "SEATS"
 value_word value.Port = codes "PORT"
 value_word value.Sessions = codes "SESSIONS"
 value_word value.Name = codes "NAME"
+value_word value.Unbroken = codes "NAME: this example has no broken report"
 value_word value.Lacks = codes "NAME: 'listset help replay' lists the names"
 value_word value.From = codes "FROM"
 value_word value.To = codes "TO"
 value_word value.Width = codes "WIDTH"
+value_word value.Key = codes "KEY"
+value_word value.Cause = codes "CAUSE"
 
 abbrev pub system_name : SystemCause → List ℕ
 system_name system.Programs = codes "Programs"

@@ -12,7 +12,7 @@ use std::io::Write;
 /// The most bytes of a line about an error.
 pub(crate) const LONGEST_LINE: usize = 64;
 
-/// The result of a tool: the text for its output, and the exit status if that is written.
+/// The result of a tool: the text for its output, and the exit status if the text is written.
 #[derive(Drop)]
 pub struct Answer {
     pub text: Vec<u8>,
@@ -20,7 +20,7 @@ pub struct Answer {
 }
 
 impl Answer {
-    /// Writes the answer's text, and gives its status.
+    /// Writes the answer's text to `output`. Returns the answer's exit status.
     fn write<W: Write>(&self, output: &mut W) -> Result<u8, Trouble>
         ensures { Delivers (view (Result.Ok self.now)) (W.contents output.old) (W.contents output.new) result }
     {
@@ -32,7 +32,7 @@ impl Answer {
     }
 }
 
-/// A line of a few words.
+/// Returns the line of four parts, with a newline.
 fn line_with(front: &str, number: &str, sign: &str, name: &str) -> ArrayString<LONGEST_LINE>
     requires { length front.now + length number.now + length sign.now + length name.now < LONGEST_LINE }
     ensures { result.bytes ≡ front.now ++ number.now ++ sign.now ++ name.now ++ codes "\n" }
@@ -69,8 +69,8 @@ pub fn line_of(trouble: Trouble) -> ArrayString<LONGEST_LINE>
 /// Ends a tool, and returns the exit status. Writes the text of an answer to `output`, or the one line about an error to
 /// `stderr`.
 ///
-/// A write that fails, or takes no byte, is not repeated. On `output` it is then the error, `CannotWrite`; on `stderr` it
-/// leaves the status as it is.
+/// A write that fails, or writes no byte, is not repeated. On `output` the error is then `CannotWrite`. On `stderr` the exit
+/// status stays that of the error.
 pub fn deliver<W: Write, E: Write>(
     made: Result<Answer, Trouble>,
     output: &mut W,

@@ -6,20 +6,20 @@ use crate::trouble::ValueName;
 use lset_text::{long_number, number, read_kind};
 use lset_words::{Kind, MOST_QUOTA, MOST_THREADS};
 
-/// The maximum number of calls that an argument may ask for.
+/// The maximum of the argument CALLS.
 pub const MOST_CALLS_ASKED: u32 = 10_000;
 
 /// The maximum number of rounds of `run`.
 pub const MOST_LIVES: u32 = 100;
 
-/// The maximum number of sessions that an argument may ask for.
+/// The maximum of the argument SESSIONS.
 pub const MOST_SESSIONS_ASKED: u32 = 10_000;
 
 /// The largest port.
 pub const MOST_PORT: u32 = 65_535;
 
-/// The arguments of `gen`, and the first ones of `run`: a list, the sizes and the calls of a run, and the seed from which
-/// they are drawn.
+/// The arguments of `gen`, and the first six of `run`: a list, the sizes of a run, the number of its calls, and the seed of
+/// the random draws.
 #[derive(Clone, Copy)]
 pub struct RandomRequest {
     /// The list.
@@ -28,15 +28,15 @@ pub struct RandomRequest {
     pub threads: u32,
     /// The quota of each thread, 0 to `MOST_QUOTA`.
     pub quota: u32,
-    /// How many calls are asked for, 0 to `MOST_CALLS_ASKED`.
+    /// The number of calls, 0 to `MOST_CALLS_ASKED`.
     pub calls: u32,
-    /// Keys are below this number, which is at least 1.
+    /// The number of keys, counted from 0, at least 1.
     pub keys: u32,
-    /// Any number.
+    /// The seed: any number.
     pub seed: u64,
 }
 
-/// The arguments of `run`: what the first round is, and how many rounds there are.
+/// The arguments of `run`: the first round, and the number of rounds.
 #[derive(Clone, Copy)]
 pub struct LivesRequest {
     /// The first round.
@@ -45,7 +45,7 @@ pub struct LivesRequest {
     pub lives: u32,
 }
 
-/// The arguments of `serve`: a list, the size of its set, the port, and how many sessions to serve.
+/// The arguments of `serve`: a list, the size of its set, the port, and the number of sessions.
 #[derive(Clone, Copy)]
 pub struct ServeRequest {
     /// The list.
@@ -56,19 +56,19 @@ pub struct ServeRequest {
     pub quota: u32,
     /// 0 to `MOST_PORT`; 0 lets the system choose.
     pub port: u16,
-    /// How many connections are served, 0 to `MOST_SESSIONS_ASKED`.
+    /// The number of connections, 0 to `MOST_SESSIONS_ASKED`.
     pub sessions: u32,
 }
 
-/// The list that the argument with this index, from 0, names; `None` if it is missing or names none.
+/// Returns the kind of list that argument `index` (from 0) names. `None` if the argument is missing or is no list name.
 fn kind_at(values: &[String], index: usize) -> Option<Kind>
     ensures { result ≡ kind_at (map string_bytes values.now) index }
 {
     read_kind(values.get(index)?.as_bytes())
 }
 
-/// The number from `low` to `high` that the argument with this index, from 0, spells as a decimal without leading zeros;
-/// `None` if it is missing or spells no such number.
+/// Returns the number from `low` to `high` that argument `index` (from 0) spells, as a decimal without leading zeros. `None`
+/// if the argument is missing or spells no such number.
 fn number_at(values: &[String], index: usize, low: u32, high: u32) -> Option<u32>
     ensures value { result ≡ number_at (map string_bytes values.now) index low high }
     ensures range { IfSome result (λ n. (low ≤ n) × (n ≤ high)) }
@@ -82,9 +82,12 @@ fn seed_at(values: &[String], index: usize) -> Option<u64>
     long_number(values.get(index)?.as_bytes(), 0, u64::MAX)
 }
 
-/// Reads the arguments KIND, THREADS, QUOTA, CALLS, KEYS and SEED, in this order, with the ranges of `RandomRequest`;
-/// numbers are decimals without leading zeros. The error names the first that is missing or wrong. Further arguments are not
-/// looked at.
+/// Reads the arguments KIND, THREADS, QUOTA, CALLS, KEYS and SEED, in this order, with the ranges of `RandomRequest`.
+/// Numbers are decimals without leading zeros. Further arguments are ignored.
+///
+/// # Errors
+///
+/// The first argument that is missing or wrong.
 #[tactic(auto, unfolding(crate::specs::Arguments::random_request_of))]
 pub fn read_random_request(values: &[String]) -> Result<RandomRequest, ValueName>
     ensures value { result ≡ random_request_of (map string_bytes values.now) }
@@ -106,7 +109,8 @@ pub fn read_random_request(values: &[String]) -> Result<RandomRequest, ValueName
     })
 }
 
-/// The number of rounds: the seventh argument, 1 to `MOST_LIVES`, and 1 if it is missing.
+/// Returns the number of rounds: argument 6 (from 0), 1 to `MOST_LIVES`, or 1 if the argument is missing. `None` if it is
+/// wrong.
 fn lives_in(values: &[String]) -> Option<u32> {
     match values.get(6) {
         Some(_) => number_at(values, 6, 1, MOST_LIVES),
@@ -114,17 +118,24 @@ fn lives_in(values: &[String]) -> Option<u32> {
     }
 }
 
-/// Reads the arguments of `run`: those of `read_random_request`, and then LIVES, a decimal without leading zeros, 1 to
-/// `MOST_LIVES`, and 1 if it is missing. The error names the first that is missing, except for LIVES, or wrong. Further
-/// arguments are not looked at.
+/// Reads the arguments of `run`: those of `read_random_request`, then LIVES, a decimal without leading zeros from 1 to
+/// `MOST_LIVES`. LIVES is 1 if it is missing. Further arguments are ignored.
+///
+/// # Errors
+///
+/// The first argument that is wrong, or missing and not LIVES.
 pub fn read_lives_request(values: &[String]) -> Result<LivesRequest, ValueName> {
     let run = read_random_request(values)?;
     let lives = lives_in(values).ok_or(ValueName::Lives)?;
     Ok(LivesRequest { run, lives })
 }
 
-/// Reads the arguments KIND, SEATS, QUOTA, PORT and SESSIONS, in this order, with the ranges of `ServeRequest`; numbers are
-/// decimals without leading zeros. The error names the first that is missing or wrong. Further arguments are not looked at.
+/// Reads the arguments KIND, SEATS, QUOTA, PORT and SESSIONS, in this order, with the ranges of `ServeRequest`. Numbers are
+/// decimals without leading zeros. Further arguments are ignored.
+///
+/// # Errors
+///
+/// The first argument that is missing or wrong.
 pub fn read_serve_request(values: &[String]) -> Result<ServeRequest, ValueName> {
     let kind = kind_at(values, 0).ok_or(ValueName::Kind)?;
     let seats = number_at(values, 1, 1, MOST_THREADS).ok_or(ValueName::Seats)?;

@@ -1,10 +1,12 @@
 use crate::answer::Answer;
-use crate::trouble::Trouble;
-use std::alloc::Global;
+use crate::trouble::{Trouble, ValueName};
+use lset_text::cut;
+use std::alloc::{AllocError, Global};
 
-/// Each error message of the program, and each cause in a sentence.
+/// The text of the command `faults`: each error message of the program, with each cause in a sentence.
 pub const FAULTS: &str = "\
-Error messages of listset. docs/TEXTS.md has examples.
+Error messages of listset. 'listset faults Idle' explains the cause Idle alone. 'listset explain FILE' explains the first error of a
+file. docs/TEXTS.md has examples.
 
 listset: line L: CAUSE, in a schedule; exit status 1
   Header    Line 1 must be 'listset-schedule 1' or 'listset-schedule 2'. To turn a draft into a schedule, use the command draft.
@@ -73,15 +75,17 @@ listset: line 1: Header, from a command that does not read this kind of file; ex
 
 not linearizable, from judge; exit status 1
   no order explains the calls of key K up to moment M
-            The replies of the calls that had ended by moment M fit no order.
+            No order gives the calls of key K that began by moment M their replies.
   no order explains the calls of key K and leaves it as it was left
             Every order leaves the key in the set and there is no line 'key K', or the reverse.
-  after the calls that ended by moment S the key is there (or: not there), by this change:
-            Every order of the key's calls up to moment S leaves it so. The next line is the last of them that changed it.
-  from there these calls have no order:
-            The error is in these calls. With the key as the lines above say, no order gives all of their replies.
-  N more calls of the key that began at moments A to B are not shown: whatever they did, these have no order
-            They overlap those that are shown, and are not needed to see the error.
+  contradiction: A, leaves key K absent, B, needs key K present, and no add K that returned true or is pending overlaps I to J
+            After A the key is absent, B needs key K present, and no call in between can make it so. (Or present and absent exchanged.)
+  contradiction: key K is absent at first, .. or .. key K is present at the end, ..
+            The opening state stands for A, or the final state for B.
+  contradiction in both orders: A, needs .. and leaves .., B, needs .. and leaves .., and no add K ..
+            A and B overlap. They contradict each other whichever comes first.
+  contradiction: A, B, .. need key K to become absent N times between I and J, and only M remove K .. overlap I to J
+            The calls need key K to become absent N times, and fewer calls can make it so. (Or present and absent exchanged.)
 
 refused FAULT ID, of the order in a report, from check; exit status 1
   Unknown     No call has this number.
@@ -107,12 +111,163 @@ Other messages
   listset: cannot write   A write failed; exit status 1.
   listset: cannot listen  The system refused the port; exit status 1.
   listset: bad NAME       The argument or option NAME is missing or out of range, or FROM is past the last moment; exit status 2.
-  listset: bad NAME: ..   --lacks takes one of the names that 'listset help replay' lists; exit status 2.
+  listset: bad NAME: ..   --lacks takes one of the names that 'listset help replay' lists; example --broken the name of an example with a
+                          broken report; exit status 2.
+  listset: bad KEY        The key of judge --only is no number from 0 to 4294967295, or the recording has no call of it; exit status 2.
+  listset: bad CAUSE      No message has this cause; exit status 2.
+  listset: an argument is not UTF-8  A file with such a name is read from the standard input: listset judge < FILE; exit status 2.
   listset: out of memory  An allocation failed; exit status 3.
 ";
 
-/// Returns the answer of the command `faults`: the text `FAULTS`. Allocates; `Trouble::Memory` if that fails.
+/// Returns the answer of the command `faults`: the text `FAULTS`. Allocates; the error is `Trouble::Memory`.
 pub fn list_faults(alloc: Global) -> Result<Answer, Trouble> {
     let text = Vec::from_slice(alloc, FAULTS.as_bytes())?;
+    Ok(Answer { text, status: 0 })
+}
+
+/// The name of a cause, a message or a part of `FAULTS`.
+#[derive(Clone, Copy)]
+pub struct FaultName {
+    name: &'static [u8],
+}
+
+/// The kinds of lines of `FAULTS` below its heading.
+#[derive(Clone, Copy, PartialEq, Eq)]
+enum FaultLine {
+    /// The title of a part, or the empty line before it.
+    Title,
+    /// The first line about a cause or a message. The line begins with the name.
+    Entry,
+    /// A further line about the cause or message above.
+    More,
+}
+
+impl FaultLine {
+    /// Returns the kind of a line.
+    fn of(line: &[u8]) -> FaultLine {
+        match line {
+            [b' ', b' ', b' ', ..] => FaultLine::More,
+            [b' ', ..] => FaultLine::Entry,
+            _ => FaultLine::Title,
+        }
+    }
+}
+
+/// Returns the rest of a line of `FAULTS` from its name on.
+fn from_name(line: &[u8]) -> &[u8] {
+    let line = line.strip_prefix(b"  ").unwrap_or(line);
+    let line = line.strip_prefix(b"listset: ").unwrap_or(line);
+    let line = line.strip_prefix(b"line L: ").unwrap_or(line);
+    line.strip_prefix(b"line 1: ").unwrap_or(line)
+}
+
+/// Returns the name at the front of a line of `FAULTS` if the name is `name`, in upper or lower case. Else `None`.
+fn name_of_line<'a>(line: &'a [u8], name: &[u8]) -> Option<&'a [u8]> {
+    let line = from_name(line);
+    let (first, rest) = (line.get(..name.len())?, line.get(name.len()..)?);
+    let is_whole = matches!(rest.first(), None | Some(b' ' | b',' | b':'));
+    if is_whole && !name.is_empty() && first.eq_ignore_ascii_case(name) {
+        Some(first)
+    } else {
+        None
+    }
+}
+
+/// Returns the name in an argument of `faults`: a cause, a message, or a whole error line.
+fn name_in(word: &[u8]) -> &[u8] {
+    let word = word.strip_prefix(b"listset: ").unwrap_or(word);
+    if word.starts_with(b"bad ") {
+        return b"bad NAME";
+    }
+    if let Some(fault) = word.strip_prefix(b"refused ") {
+        return match cut(fault, b' ') {
+            Some((name, _)) => name,
+            None => fault,
+        };
+    }
+    match cut(word, b':') {
+        Some((_, [b' ', cause @ ..])) => cause,
+        _ => word,
+    }
+}
+
+/// Returns `FAULTS` without its heading: the titles and their entries.
+fn parts() -> &'static [u8] {
+    let mut rest = FAULTS.as_bytes();
+    for _ in 0..FAULTS.len() {
+        match cut(rest, b'\n') {
+            Some(([], after)) => return after,
+            Some((_, after)) => rest = after,
+            None => return rest,
+        }
+    }
+    rest
+}
+
+/// Reads the argument of `faults`: the name of a cause, a message or a part, in upper or lower case, or a whole error line.
+/// The error is `ValueName::Cause` if no title and no entry of `FAULTS` begins with the name.
+pub fn read_fault_name(word: &[u8]) -> Result<FaultName, ValueName> {
+    let word = name_in(word);
+    let mut rest = parts();
+    for _ in 0..FAULTS.len() {
+        let (line, after) = cut(rest, b'\n').ok_or(ValueName::Cause)?;
+        rest = after;
+        if FaultLine::of(line) == FaultLine::More {
+            continue;
+        }
+        if let Some(name) = name_of_line(line, word) {
+            return Ok(FaultName { name });
+        }
+    }
+    Err(ValueName::Cause)
+}
+
+/// Appends a line, below the title of its part. `title` is empty if the text has this title already.
+fn put_line(out: &mut Vec<u8>, title: &[u8], line: &[u8]) -> Result<(), AllocError> {
+    if !title.is_empty() {
+        if !out.is_empty() {
+            out.extend_from_slice(b"\n")?;
+        }
+        out.extend_from_slice(title)?;
+        out.extend_from_slice(b"\n")?;
+    }
+    out.extend_from_slice(line)?;
+    out.extend_from_slice(b"\n")?;
+    Ok(())
+}
+
+/// Appends the lines of `FAULTS` about a name: all of a part whose title has the name; of each other part the title and the
+/// entries with the name.
+fn put_named(out: &mut Vec<u8>, name: &[u8]) -> Result<(), AllocError> {
+    let (mut title, mut is_whole, mut is_told) = (b"".as_slice(), false, false);
+    let mut rest = parts();
+    for _ in 0..FAULTS.len() {
+        let Some((line, after)) = cut(rest, b'\n') else {
+            break;
+        };
+        rest = after;
+        match FaultLine::of(line) {
+            FaultLine::Title => {
+                title = line;
+                is_whole = name_of_line(line, name).is_some();
+                is_told = false;
+                continue;
+            }
+            FaultLine::Entry => is_told = is_whole || name_of_line(line, name).is_some(),
+            FaultLine::More => {}
+        }
+        if is_told {
+            put_line(out, title, line)?;
+            title = b"";
+        }
+    }
+    Ok(())
+}
+
+/// Returns the answer of the command `faults` on a name: the lines of `FAULTS` about it. Allocates; the error is
+/// `Trouble::Memory`.
+pub fn explain_fault(alloc: Global, fault: FaultName) -> Result<Answer, Trouble> {
+    let mut text = Vec::new(alloc);
+    put_named(&mut text, fault.name)?;
     Ok(Answer { text, status: 0 })
 }

@@ -11,7 +11,7 @@ use std::io::{Read, Write};
 /// The maximum number of bytes of an input.
 pub const LONGEST: usize = 67_108_864;
 
-/// The maximum number of bytes that one read takes.
+/// The maximum number of bytes of one read.
 pub const READ_SIZE: usize = 4096;
 
 /// The bytes of an input that is not too long.
@@ -22,7 +22,7 @@ pub struct Input<'a> {
 }
 
 impl<'a> Input<'a> {
-    /// Takes the bytes, of which there may be `LONGEST`. The error is `TooLong`.
+    /// Wraps at most `LONGEST` bytes. The error for more is `TooLong`.
     pub fn new(bytes: &'a [u8]) -> Result<Input<'a>, Trouble>
         ensures { MatchResult result (λ input. input.bytes.now ≡ bytes.entry.now) (IsTooLong bytes.entry.now) }
     {
@@ -41,8 +41,12 @@ impl<'a> Input<'a> {
     }
 }
 
-/// Reads all bytes of an input, until a read returns none; of an input that is too long it reads some more than `LONGEST`.
-/// Allocates; blocks as the input does. The error is `CannotRead` if a read fails, which is not repeated, or `Memory`.
+/// Reads all bytes of an input, until a read returns none. Of an input that is too long it returns some more than `LONGEST`
+/// bytes. Allocates; blocks as the input does.
+///
+/// # Errors
+///
+/// `CannotRead` if a read fails; the read is not repeated. `Memory` if an allocation fails.
 pub fn read_all<R: Read>(alloc: Global, input: &mut R) -> Result<Vec<u8>, Trouble>
     ensures read { IfOk result (λ v. IfSome (R.remaining input.old) (IsReadOf v.items)) }
     ensures trouble { IfErr result (λ t. (t ≡ CannotRead) ⊎ (t ≡ Memory)) }
@@ -62,8 +66,8 @@ pub fn read_all<R: Read>(alloc: Global, input: &mut R) -> Result<Vec<u8>, Troubl
     Ok(bytes)
 }
 
-/// Writes a text, and returns whether all of it was written. A write that fails, or takes no byte, is not repeated; a prefix
-/// may have been written then.
+/// Writes a text, and returns whether all of it was written. A write that fails, or writes no byte, is not repeated: then
+/// only a prefix of the text was written.
 pub fn put<W: Write>(output: &mut W, text: &[u8]) -> bool
     ensures front { (done rest : List ℕ) × (text.now ≡ done ++ rest)
         × Appends (W.contents output.old) (W.contents output.new) done }

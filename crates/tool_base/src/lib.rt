@@ -1,5 +1,5 @@
-//! The tools of the program, over any reader and writers: each makes an answer of its input or of its arguments, writes it
-//! to an output, or one line about an error to another, and returns the exit status.
+//! The frame of the program's commands, over any reader and writers. A command computes an answer from its input or its
+//! arguments. The frame writes the answer to an output, or one line about an error to stderr, and returns the exit status.
 #![tactic(auto)]
 
 mod answer;
@@ -14,7 +14,7 @@ pub use arguments::{
     LivesRequest, MOST_CALLS_ASKED, MOST_LIVES, MOST_PORT, MOST_SESSIONS_ASKED, RandomRequest,
     ServeRequest, read_lives_request, read_random_request, read_serve_request,
 };
-pub use faults::{FAULTS, list_faults};
+pub use faults::{FAULTS, FaultName, explain_fault, list_faults, read_fault_name};
 pub use input::{Input, LONGEST, READ_SIZE, put, read_all};
 pub use tool::{Tool, answer_text, run_tool};
 pub use trouble::{SystemCause, Trouble, ValueName};

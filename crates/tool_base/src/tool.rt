@@ -9,15 +9,15 @@ use std::io::{Read, Write};
 
 /// A command that answers on all bytes of its input.
 pub trait Tool {
-    /// What it may answer on the bytes. Of most commands nothing is said.
+    /// The answers that are allowed on the bytes. By default every answer is.
     ghost answers: { Self → List ℕ → Made → Type 0 } = { λ tool bytes made. Unit {0} };
 
-    /// Answers on the input. Allocates.
+    /// Returns the answer on the input. Allocates.
     fn answer(&self, alloc: Global, input: Input<'_>) -> Result<Answer, Trouble>
         ensures { answers self.now input.entry.bytes.now (view result) };
 }
 
-/// Answers on a text, or with `TooLong`. Allocates.
+/// Returns a tool's answer on a text, or the error `TooLong`. Allocates.
 pub fn answer_text<T: Tool>(alloc: Global, tool: &T, text: &[u8]) -> Result<Answer, Trouble>
     ensures { OnText (T.answers tool.now) text.now (view result) }
 {
@@ -25,7 +25,7 @@ pub fn answer_text<T: Tool>(alloc: Global, tool: &T, text: &[u8]) -> Result<Answ
     tool.answer(alloc, input)
 }
 
-/// Answers on all bytes of an input.
+/// Returns a tool's answer on all bytes of an input.
 fn answer_input<T: Tool, R: Read>(alloc: Global, tool: &T, input: &mut R) -> Result<Answer, Trouble>
     ensures { IfSome (R.remaining input.old) (λ bytes. OnInput (T.answers tool.now) bytes (view result)) }
 {
@@ -34,8 +34,8 @@ fn answer_input<T: Tool, R: Read>(alloc: Global, tool: &T, input: &mut R) -> Res
 }
 
 /// Runs a command: reads all of `input`, and writes the answer to `output`, or one line about an error to `stderr` and
-/// nothing to `output`. Returns the exit status: that of the answer; 2 if an option is wrong, 3 if an allocation failed,
-/// else 1. A write to `stderr` that fails leaves it as it is. Allocates; blocks as its input and output do.
+/// nothing to `output`. Returns the exit status: that of the answer, 2 if an option is wrong, 3 if an allocation failed,
+/// else 1. A failed write to `stderr` does not change the exit status. Allocates; blocks as its input and output do.
 pub fn run_tool<T: Tool, R: Read, W: Write, E: Write>(
     alloc: Global,
     tool: &T,

@@ -21,28 +21,32 @@ pub enum ValueName {
     Port,
     Sessions,
     Name,
+    /// The name of an example that has no broken report.
+    Unbroken,
     Lacks,
     From,
     To,
     Width,
+    Key,
+    Cause,
 }
 
-/// Why programs or sessions are not run to their ends. A failed allocation is `Trouble::Memory`.
+/// The cause for which programs or sessions were not run to their ends. A failed allocation is `Trouble::Memory` instead.
 #[derive(Clone, Copy)]
 pub enum SystemCause {
-    /// The programs are not as many as the seats, or the seats do not hold all seats of the set.
+    /// There is not one program for each seat, or the seats do not hold all seats of the set.
     Programs,
-    /// A gate let a call not pass.
+    /// A gate did not let a call pass.
     Gate,
-    /// The keys that are left are more than a set may open with.
+    /// There are more final keys than a set may open with.
     Opening,
     /// The seats do not hold all seats of the set.
     Seats,
-    /// A connection was not accepted.
+    /// The system did not accept a connection.
     Accept,
-    /// A thread was refused.
+    /// The system did not start a thread.
     Spawn,
-    /// A connection was not taken by the channel of the workers.
+    /// The channel of the workers refused a connection.
     Send,
     /// The workers received fewer connections than were accepted.
     Left,
@@ -55,24 +59,24 @@ pub enum Trouble {
     CannotRead,
     /// The input has more bytes than an input may have.
     TooLong,
-    /// A write failed, or took no byte.
+    /// A write failed, or wrote no byte.
     CannotWrite,
-    /// Memory was refused.
+    /// An allocation failed.
     Memory,
-    /// A line of the input, counted from 1, is refused.
+    /// A line of the input is wrong: its number, from 1, and the cause.
     Line(u64, Cause),
     /// An argument or an option of the command line is missing or wrong.
     Bad(ValueName),
-    /// The system gives no listening socket.
+    /// The system refused a listening socket.
     CannotListen,
-    /// Programs were not run to their ends.
+    /// Programs were not run to their ends, for this cause.
     Work(SystemCause),
-    /// Sessions were not served to their ends.
+    /// Sessions were not served to their ends, for this cause.
     Serve(SystemCause),
 }
 
 impl Trouble {
-    /// Returns the exit status that the program ends with: 1, 2 or 3.
+    /// Returns the exit status of the program for this error: 1, 2 or 3.
     pub fn status(self) -> u8
         ensures { result ≡ status_of self }
     {
@@ -152,7 +156,7 @@ impl<T: Drop> From<AllocFailed<T>> for Trouble {
 }
 
 impl ValueName {
-    /// Returns the name of the argument or option, as the help and the line on stderr have it.
+    /// Returns the name of the argument or option in the line on stderr.
     pub fn word(self) -> &'static str
         ensures word { result.now ≡ value_word self }
         ensures short { length result.now ≤ 45 }
@@ -169,16 +173,19 @@ impl ValueName {
             ValueName::Port => "PORT",
             ValueName::Sessions => "SESSIONS",
             ValueName::Name => "NAME",
+            ValueName::Unbroken => "NAME: this example has no broken report",
             ValueName::Lacks => "NAME: 'listset help replay' lists the names",
             ValueName::From => "FROM",
             ValueName::To => "TO",
             ValueName::Width => "WIDTH",
+            ValueName::Key => "KEY",
+            ValueName::Cause => "CAUSE",
         }
     }
 }
 
 impl SystemCause {
-    /// Returns the cause's name, as the lines `listset: work: CAUSE` and `listset: serve: CAUSE` have it.
+    /// Returns the name of the cause in the lines `listset: work: CAUSE` and `listset: serve: CAUSE`.
     pub fn name(self) -> &'static str
         ensures name { result.now ≡ system_name self }
         ensures short { length result.now ≤ 8 }

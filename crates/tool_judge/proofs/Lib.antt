@@ -1,3 +1,4 @@
 pub mod AnswerOfBytes
+pub mod MoreLines
 pub mod OneReading
 pub mod RightAnswers

@@ -1,5 +1,5 @@
--- What `judge` makes of an input.
-use Rattle.std.specs.Prelude.{◌≡◌, ℕ, ◌⊎◌, List, ◌++◌, codes, length, Option, Some, None, Ok, Err}
+-- The answers of `judge` on the bytes of an input.
+use Rattle.std.specs.Prelude.{◌≡◌, ℕ, ◌⊎◌, List, [], ◌++◌, codes, length, Option, Some, None, Ok, Err}
 use Rattle.std.specs.Fmt.{decimal}
 use Rattle.lset_judge.specs.declared.stream.Refusal.{Refusal}
 use Rattle.lset_judge.specs.declared.judging.Verdict.{Verdict}
@@ -10,8 +10,10 @@ use Rattle.lset_recording.specs.Reading.{Says, IsVerdictOnRecording}
 use Rattle.tool_base.specs.declared.trouble.Trouble.TheVariants.{CannotRead, Memory}
 use Rattle.tool_base.specs.Trouble.{of_line_fault}
 use Rattle.tool_base.specs.Tools.{AnswerValue, Made}
+use Rattle.lset_judge.specs.declared.clash.Clash.{Clash}
+use Rattle.tool_judge.specs.Clashes.{clash_lines}
 
--- ---- what is written
+-- ---- the text of an answer
 
 abbrev pub ok_line : ℕ → List ℕ
 ok_line calls = codes "ok " ++ decimal calls ++ codes " calls\n"
@@ -26,14 +28,22 @@ extent None = codes " and leaves it as it was left\n"
 abbrev pub refused_lines : Refusal → List ℕ
 refused_lines r = calls_of_key r.key.0 ++ extent r.moment
 
--- a text begins so; of what comes then nothing is said here
+abbrev pub clash_text : ℕ → Option Clash → List ℕ
+clash_text key None = []
+clash_text key (Some c) = clash_lines key c
+
+-- the two lines of a refusal, and the three lines of the clash
+abbrev pub refused_text : Refusal → Option Clash → List ℕ
+refused_text r clash = refused_lines r ++ clash_text r.key.0 clash
+
+-- a text begins with `head`
 abbrev pub Begins : List ℕ → List ℕ → Type 0
 Begins head text = (more : List ℕ) × (text ≡ head ++ more)
 
--- WHAT IS WRITTEN OF A VERDICT on so many calls
+-- THE ANSWER WITH A VERDICT on so many calls
 abbrev pub IsAnswerTo : Verdict → ℕ → AnswerValue → Type 0
 IsAnswerTo Linearizable calls answer = Begins (ok_line calls) answer.text × (answer.status ≡ 0)
-IsAnswerTo (NotLinearizable refusal window) calls answer = Begins (refused_lines refusal) answer.text × (answer.status ≡ 1)
+IsAnswerTo (NotLinearizable refusal clash) calls answer = Begins (refused_text refusal clash) answer.text × (answer.status ≡ 1)
 
 -- THE ANSWER ON A RECORDING
 pub record IsAnswerOn (c : Recording) (answer : AnswerValue) : Type 0 where
@@ -42,7 +52,7 @@ pub record IsAnswerOn (c : Recording) (answer : AnswerValue) : Type 0 where
   pub verdict_is : IsVerdictOnRecording c verdict
   pub answer_is : IsAnswerTo verdict (length c.calls) answer
 
--- WHAT IS MADE OF THE BYTES OF AN INPUT: the answer on the recording that they say and whose text they are, or their first fault; or a read
+-- THE RESULT ON THE BYTES OF AN INPUT: the answer on the recording whose text they are, or the first wrong line with its cause; or a read
 -- failed, or an allocation failed
 abbrev pub Judges : List ℕ → Made → Type 0
 Judges bytes (Ok answer) = (c : Recording) × Says bytes (Ok c) × (bytes ≡ recording_text c) × IsAnswerOn c answer

@@ -1,2 +1,3 @@
+pub mod Clashes
 pub mod Judging
 pub mod Exact

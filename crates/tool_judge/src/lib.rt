@@ -1,13 +1,16 @@
-//! `listset judge`: whether any order explains a recording of a set, which is judged as it is read; and `listset show`, which says so of
-//! a refused report.
+//! The command `judge`: reads a recording of a set, and prints whether any order explains it. The command `show` prints the same of a report
+//! whose order is refused.
 #![tactic(auto)]
 
-mod bars;
+mod clashes;
+mod counts;
 mod judging;
+mod lines;
 mod showing;
 mod texts;
-mod windows;
 
-pub use judging::{answers_are_right, judge_bytes, judge_input};
+pub use clashes::put_call;
+pub use counts::{put_count, with_count};
+pub use judging::{answers_are_right, judge_briefly, judge_bytes, judge_input};
+pub use lines::with_lines;
 pub use showing::{Claim, ShowJudged, claim_on};
-pub use windows::put_call;

@@ -1,6 +1,8 @@
 use crate::texts::refused_text;
-use lset_judge::{Judged, Refusal, Window, is_judged, judge};
-use lset_words::increases;
+use lset_history::History;
+use lset_judge::{Clash, Judged, Refusal, StreamCall, is_judged, judge};
+use lset_text::{call_word, reply_word};
+use lset_words::{Call, CallRecord, Reply, increases};
 use std::alloc::{AllocError, Global};
 use tool_base::{Answer, Input, Tool, Trouble};
 use tool_show::{Form, Picture, Show};
@@ -12,47 +14,125 @@ const UNKNOWN: &[u8] = b"it is not known whether another order explains this rep
 const NOT_INCREASING: &[u8] =
     b"not linearizable\nno order leaves these keys, which do not increase\n";
 
-/// What is known of all orders of the calls of a report.
+/// The claim about all orders of the calls of a report.
 #[derive(Drop)]
 pub enum Claim {
-    /// No order leaves its keys, which do not increase.
+    /// No order leaves the keys of the report, since the keys do not increase.
     NotIncreasing,
-    /// No order explains the calls and leaves the keys: why, and the window that shows it, if there is one.
-    NotLinearizable(Refusal, Option<Window>),
-    /// Some order does.
+    /// No order explains the call with this number: no set returns the reply to the call.
+    NoSuchReply(u32, Call, Reply),
+    /// No order explains the calls and leaves the keys. Has the reason, and two calls that clash if they were found.
+    NotLinearizable(Refusal, Option<Clash>),
+    /// Some order explains the calls and leaves the keys.
     Explained,
-    /// The judge, which knows no `ceiling` and no quota, cannot say.
+    /// Not known: the judge does not decide calls of `ceiling`, and knows no quota.
     Unknown,
 }
 
-/// Returns what is known of all orders of the calls of a picture that leave its keys. Allocates; `AllocError` if that fails.
+/// Returns whether some set returns a reply to a call.
+fn is_reply_to(call: Call, reply: Reply) -> bool {
+    match call {
+        Call::Add(_) => matches!(reply, Reply::True | Reply::False | Reply::Full),
+        Call::Remove(_) | Call::Contains(_) => matches!(reply, Reply::True | Reply::False),
+        Call::Ceiling(key) => match reply {
+            Reply::At(found) => key.0 <= found.0,
+            Reply::Nothing => true,
+            _ => false,
+        },
+    }
+}
+
+/// Returns the claim about the first completed call whose reply no set returns.
+fn no_such_reply(calls: &[CallRecord]) -> Option<Claim> {
+    for (number, made) in calls.iter().enumerate() {
+        if let Some((_, reply)) = made.ended
+            && !is_reply_to(made.call, reply)
+        {
+            let number = u32::try_from(number).unwrap_or(u32::MAX);
+            return Some(Claim::NoSuchReply(number, made.call, reply));
+        }
+    }
+    None
+}
+
+/// Returns the call of a history that the judge read as `read`. (The judge reads a `ceiling`, and an `add` that returned full, as a
+/// `contains`.)
+fn recorded_call(history: &History, read: StreamCall) -> StreamCall {
+    let calls = history.calls();
+    let place = calls.partition_point(|made| u64::from(made.begun) < read.begun);
+    match calls.get(place) {
+        None => read,
+        Some(made) => StreamCall {
+            thread: made.thread,
+            call: made.call,
+            begun: u64::from(made.begun),
+            ended: made.ended.map(|(end, reply)| (u64::from(end), reply)),
+        },
+    }
+}
+
+/// Returns a clash with the calls of the history.
+fn as_made(history: &History, clash: Clash) -> Clash {
+    Clash {
+        was: clash.was,
+        first: clash.first.map(|call| recorded_call(history, call)),
+        second: clash.second.map(|call| recorded_call(history, call)),
+    }
+}
+
+/// Returns the claim about all orders of the calls of a picture that leave its keys. Allocates.
 pub fn claim_on(alloc: Global, picture: &Picture) -> Result<Claim, AllocError> {
     if !increases(&picture.keys) {
         return Ok(Claim::NotIncreasing);
     }
-    match judge(alloc, &picture.history, &picture.keys)? {
-        Judged::NotLinearizable(refusal, window) => Ok(Claim::NotLinearizable(refusal, window)),
-        Judged::Linearizable if is_judged(&picture.history) => Ok(Claim::Explained),
+    let history = &picture.history;
+    if let Some(claim) = no_such_reply(history.calls()) {
+        return Ok(claim);
+    }
+    match judge(alloc, history, &picture.keys)? {
+        Judged::NotLinearizable(refusal, clash) => {
+            let made = clash.map(|clash| as_made(history, clash));
+            Ok(Claim::NotLinearizable(refusal, made))
+        }
+        Judged::Linearizable if is_judged(history) => Ok(Claim::Explained),
         Judged::Linearizable | Judged::Undecided => Ok(Claim::Unknown),
     }
 }
 
+/// Returns the lines about a call whose reply no set returns.
+fn no_such_reply_text(
+    alloc: Global,
+    number: u32,
+    call: Call,
+    reply: Reply,
+) -> Result<Vec<u8>, AllocError> {
+    let (word, key, reply) = (call_word(call), call.key().0, reply_word(reply));
+    let text = format!(in alloc;
+        "not linearizable\nno order explains call {number}: {word} {key} never returns {reply}\n"
+    )?;
+    Ok(text.into_bytes())
+}
+
+/// Returns the lines of the claim about a picture.
 fn claim_text(alloc: Global, picture: &Picture) -> Result<Vec<u8>, AllocError> {
     match claim_on(alloc, picture)? {
         Claim::NotIncreasing => Vec::from_slice(alloc, NOT_INCREASING),
-        Claim::NotLinearizable(refusal, window) => refused_text(alloc, refusal, window, false),
+        Claim::NoSuchReply(number, call, reply) => {
+            no_such_reply_text(alloc, number, call, reply)
+        }
+        Claim::NotLinearizable(refusal, clash) => refused_text(alloc, refusal, clash),
         Claim::Explained => Vec::from_slice(alloc, EXPLAINED),
         Claim::Unknown => Vec::from_slice(alloc, UNKNOWN),
     }
 }
 
-/// The command `show`: the answer on a schedule or a report is its picture, of the moments in the window. The status is 1 if
-/// the order of the report or an event of the schedule is refused, else 0. A schedule with such an event is drawn up to it.
+/// The command `show`. The answer on a schedule or a report is its picture, limited to the moments of the window. The status is 1 if the order
+/// of the report is refused or an event of the schedule is not enabled, else 0. A schedule with such an event is drawn up to it.
 ///
-/// Below the text of a refused order, after an empty line, stands whether any other order explains the report and leaves its keys
-/// and, if none does, why, as `judge` says it. Of a report with `ceiling` or `full` it may be unknown.
+/// Below the picture of a refused order, after an empty line, the answer has whether any other order explains the report and leaves its keys.
+/// If no order does, it has the lines of `judge`. For a report with `ceiling` or `full` this can be unknown.
 ///
-/// The error is that of `Show::picture`; `Bad(From)` if all that happens in the picture is before the window; or `Memory`.
+/// The errors are those of `Show::picture`, `Bad(From)` if everything in the picture is before the window, and `Memory`.
 #[derive(Clone, Copy)]
 pub struct ShowJudged {
     pub show: Show,

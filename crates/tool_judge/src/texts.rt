@@ -1,18 +1,20 @@
 ghost use Rattle.std.specs.Prelude.{◌≡◌, IfOk};
-ghost use Rattle.tool_judge.specs.Judging.{Begins, calls_of_key, extent, ok_line, refused_lines};
+ghost use Rattle.tool_judge.specs.Judging.{Begins, calls_of_key, clash_text, extent, ok_line, refused_lines, refused_text};
 
-use crate::windows::window_text;
-use lset_judge::{Refusal, Window};
+use crate::clashes::clash_lines;
+use crate::judging::Detail;
+use lset_judge::{Clash, Refusal};
 use std::alloc::{AllocError, Global};
 
 const AS_LEFT: &[u8] = b" and leaves it as it was left\n";
 
 const HINT: &str =
-    "that is few, and a bug shows only if calls meet: take fewer keys, more threads, or pauses in the set\n";
+    "that is few, and a race shows only if calls meet: take fewer keys, more threads, or pauses in the set\n";
 
 const CUT_OFF: &str =
     "the recording was cut off: some keys left fit, and those that were left are not known\n";
 
+/// Returns the first line about a recording that some order explains.
 fn ok_line(alloc: Global, calls: u64) -> Result<Vec<u8>, AllocError>
     ensures { IfOk result (λ text. text.items ≡ ok_line calls) }
 {
@@ -20,15 +22,21 @@ fn ok_line(alloc: Global, calls: u64) -> Result<Vec<u8>, AllocError>
     Ok(text.into_bytes())
 }
 
-/// Whether fewer than 5 of 100 calls overlap a change of their key.
+/// Returns whether fewer than 5 of 100 calls overlap a change of their key.
 fn is_few(overlapped: u64, calls: u64) -> bool {
     overlapped.saturating_mul(20) < calls
 }
 
-/// The lines below the first about a recording that some order explains.
-fn notes(alloc: Global, calls: u64, overlapped: u64, cut_off: bool) -> Result<Vec<u8>, AllocError> {
+/// Returns the lines below the first about a recording that some order explains.
+fn notes(
+    alloc: Global,
+    calls: u64,
+    overlapped: u64,
+    cut_off: bool,
+    detail: Detail,
+) -> Result<Vec<u8>, AllocError> {
     let mut text = format!(in alloc; "{overlapped} of them overlap a change of their key\n")?;
-    if is_few(overlapped, calls) {
+    if detail == Detail::Whole && is_few(overlapped, calls) {
         text.push_str(HINT)?;
     }
     if cut_off {
@@ -37,21 +45,23 @@ fn notes(alloc: Global, calls: u64, overlapped: u64, cut_off: bool) -> Result<Ve
     Ok(text.into_bytes())
 }
 
-/// The lines about a recording that some order explains.
+/// Returns the lines about a recording that some order explains.
 pub(crate) fn ok_text(
     alloc: Global,
     calls: u64,
     overlapped: u64,
     cut_off: bool,
+    detail: Detail,
 ) -> Result<Vec<u8>, AllocError>
     ensures { IfOk result (λ text. Begins (ok_line calls) text.items) }
 {
     let mut text = ok_line(alloc, calls)?;
-    let notes = notes(alloc, calls, overlapped, cut_off)?;
+    let notes = notes(alloc, calls, overlapped, cut_off, detail)?;
     text.extend_from_slice(&notes)?;
     Ok(text)
 }
 
+/// Returns `not linearizable`, and the second line up to the key.
 fn calls_of_key(alloc: Global, key: u32) -> Result<Vec<u8>, AllocError>
     ensures { IfOk result (λ text. text.items ≡ calls_of_key key) }
 {
@@ -59,7 +69,7 @@ fn calls_of_key(alloc: Global, key: u32) -> Result<Vec<u8>, AllocError>
     Ok(text.into_bytes())
 }
 
-/// How far the calls of a key have no order.
+/// Returns the moment by which the calls of a key have no order, or that no order leaves the final state.
 fn extent(alloc: Global, moment: Option<u64>) -> Result<Vec<u8>, AllocError>
     ensures { IfOk result (λ text. text.items ≡ extent moment) }
 {
@@ -72,7 +82,7 @@ fn extent(alloc: Global, moment: Option<u64>) -> Result<Vec<u8>, AllocError>
     }
 }
 
-/// The first lines about a recording that no order explains.
+/// Returns the first two lines about a recording that no order explains.
 fn refused_lines(alloc: Global, refusal: Refusal) -> Result<Vec<u8>, AllocError>
     ensures { IfOk result (λ text. text.items ≡ refused_lines refusal) }
 {
@@ -81,22 +91,26 @@ fn refused_lines(alloc: Global, refusal: Refusal) -> Result<Vec<u8>, AllocError>
     Ok(text)
 }
 
-/// Returns the lines about calls that no order explains, as `judge_bytes` answers them: `not linearizable`, of which key and up to which
-/// moment, and below that the few calls of the window that show it, if there is one, with or without their bars. Allocates; `AllocError` if
-/// that fails.
+/// Returns the lines of a clash of calls of a key, or no lines if there is no clash.
+fn clash_text(alloc: Global, key: u32, clash: Option<Clash>) -> Result<Vec<u8>, AllocError>
+    ensures { IfOk result (λ text. text.items ≡ clash_text key clash) }
+{
+    match clash {
+        Some(clash) => clash_lines(alloc, key, clash),
+        None => Ok(Vec::new(alloc)),
+    }
+}
+
+/// Returns the lines about calls that no order explains: `not linearizable`, the key and the moment, and the three lines of the clash if
+/// there is one. Allocates.
 pub(crate) fn refused_text(
     alloc: Global,
     refusal: Refusal,
-    window: Option<Window>,
-    bars: bool,
+    clash: Option<Clash>,
 ) -> Result<Vec<u8>, AllocError>
-    ensures { IfOk result (λ text. Begins (refused_lines refusal) text.items) }
+    ensures { IfOk result (λ text. text.items ≡ refused_text refusal clash) }
 {
     let mut text = refused_lines(alloc, refusal)?;
-    let shown = match window {
-        Some(window) => window_text(alloc, &window, bars)?,
-        None => Vec::new(alloc),
-    };
-    text.extend_from_slice(&shown)?;
+    text.extend_from_slice(&clash_text(alloc, refusal.key.0, clash)?)?;
     Ok(text)
 }

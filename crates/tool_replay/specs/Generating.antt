@@ -1,4 +1,4 @@
--- What `gen` makes of its values.
+-- The contract of `gen`: which schedule it prints for its arguments.
 use Rattle.std.specs.Prelude.{◌≡◌, ℕ, List, Result, Ok, Err}
 use Rattle.lset_steps.specs.Steps.{Table}
 use Rattle.lset_lists.specs.Tables.{table_of}
@@ -12,19 +12,19 @@ use Rattle.tool_base.specs.declared.arguments.RandomRequest.{RandomRequest}
 use Rattle.tool_base.specs.Arguments.{random_request_of}
 use Rattle.tool_base.specs.Tools.{Made}
 
--- A schedule as a request asks for it, of the machine of this table:
+-- The schedule has what the request asks for, and fits the machine with this table:
 pub record IsRequested (T : Table) (request : RandomRequest) (p : Plan) : Type 0 where
   pub version_is : p.version ≡ One
   pub kind_is : p.kind ≡ request.kind
   pub threads_are : p.threads ≡ request.threads
   pub quota_is : p.quota ≡ request.quota
   pub schedule : IsSchedule p
-  -- its events are enabled, and its calls and keys are within those asked for
+  -- its events are enabled, and its calls and keys are within the request
   pub generated : IsGenerated T request.threads request.quota request.calls request.keys p.lines
-  -- they are the lines that the seed stands for
+  -- its lines are drawn with the seed
   pub drawn : AreOfSeed T request.threads request.quota request.calls request.keys request.seed p.lines
 
--- what is made of a request: the text of a schedule as it asks for it, or that an allocation failed; a wrong value is named
+-- the contract for a request: the text of a schedule for it, or a failed allocation; a wrong argument is named
 abbrev pub Answers : Result RandomRequest ValueName → Made → Type 0
 Answers (Ok request) (Ok answer) =
     (p : Plan) × IsRequested (table_of request.kind) request p × (answer ≡ record { text = schedule_text p; status = 0 })

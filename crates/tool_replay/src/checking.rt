@@ -11,8 +11,9 @@ use std::alloc::Global;
 use std::io::{Read, Write};
 use tool_base::{Answer, Input, Tool, Trouble, run_tool};
 
-/// Returns the line that `check` prints about an order with this fault: `refused`, its name and, except for `WrongSet`, the
-/// number of the call. Of `Memory`, which is no fault of the order, it is empty.
+/// Returns the line that `check` prints for an order with this fault: `refused`, the name of the fault and, except for
+/// `WrongSet`, the number of the call. The error is `Memory` if the fault is `Memory`, which is no fault of an order,
+/// or if an allocation failed.
 fn refusal_text(alloc: Global, fault: OrderFault) -> Result<Vec<u8>, Trouble>
     ensures of_the_order { OnOk result (fault ≢ order.Memory) }
     ensures line { IfOk result (λ text. text.items ≡ refusal_text fault) }
@@ -30,7 +31,7 @@ fn refusal_text(alloc: Global, fault: OrderFault) -> Result<Vec<u8>, Trouble>
     Ok(text.into_bytes())
 }
 
-/// The answer on a report: `ok`, or the first fault of its order.
+/// Checks the order of a report and returns the answer: `ok`, or the first fault of the order.
 fn answer_on(alloc: Global, report: &Report) -> Result<Answer, Trouble>
     ensures judged { IfOk (view result) (IsAnswerOn (reports.view report.now)) }
     ensures memory { IfErr result (λ trouble. trouble ≡ Memory) }
@@ -47,9 +48,9 @@ fn answer_on(alloc: Global, report: &Report) -> Result<Answer, Trouble>
     }
 }
 
-/// The command `check`: the answer on a report is `ok` with status 0, or, with status 1, `refused`, the name of the first
-/// fault of its order and, except for `WrongSet`, the number of the call. The error is `Line` with the first error of a text
-/// that is not a report, or `Memory`.
+/// The command `check`. The answer for a report is `ok` with status 0. For a refused order it is `refused`, the name of
+/// the first fault and, except for `WrongSet`, the number of the call, with status 1. The error is `Line` with the
+/// first error of a text that is not a report, or `Memory`.
 #[derive(Clone, Copy)]
 pub struct Check {}
 
@@ -62,10 +63,11 @@ impl Tool for Check {
     }
 }
 
-/// Does what `check` does: judges whether the order of the report on `input` linearizes its calls (Herlihy and Wing) and
-/// leaves exactly its keys, writes what it finds to `output`, or one line about an error to `faults` and nothing to
-/// `output`, and returns the exit status: 0 if `ok` was written, 3 if an allocation failed, else 1. Allocates; blocks as its
-/// input and output do.
+/// Implements the command `check`: reads a report from `input`, decides whether its order linearizes its calls (Herlihy
+/// and Wing) and leaves exactly its keys, and writes the answer to `output`.
+///
+/// On an error it writes one line to `faults` and nothing to `output`. Returns the exit status: 0 if `ok` was written,
+/// 3 if an allocation failed, otherwise 1. Allocates; blocks as its input and output do.
 pub fn tool_check<R: Read, W: Write, F: Write>(
     alloc: Global,
     input: &mut R,

@@ -5,11 +5,12 @@ ghost use Rattle.lset_words.specs.declared.TheConstants.{MOST_OPENING, MOST_QUOT
 use lset_schedule::{FIRST_LINE, Line};
 use lset_words::Kind;
 
-/// The largest row to which a line of a draft may send a thread.
+/// The largest row that a line of a draft can name.
 pub const MOST_ROW: u32 = 255;
 
-/// A line of a draft. `Plain` is a line of a schedule. `Out(thread)`: the thread makes steps until its call has ended.
-/// `To(thread, row)`: it makes steps until it is at that row of its list's table, 1 to 255. Both make at least one step.
+/// A line of a draft. `Plain` is a line of a schedule. `Out(thread)` steps the thread until its call has ended.
+/// `To(thread, row)` steps the thread until it is at row `row` of its list's table, 1 to 255. Both make at least one
+/// step.
 #[derive(Clone, Copy)]
 pub enum DraftLine {
     Plain(Line),
@@ -18,7 +19,7 @@ pub enum DraftLine {
 }
 
 impl DraftLine {
-    /// The smallest number of events for which the line can come to stand.
+    /// Returns the smallest number of events that the line can expand to.
     pub(crate) fn smallest_count(self) -> u32 {
         match self {
             DraftLine::Plain(line) => line.event_count(),
@@ -27,9 +28,9 @@ impl DraftLine {
     }
 }
 
-/// A draft of a schedule: the kind of list, its threads, 1 to 64, the quota of each, 0 to 16,384, the keys with which its
-/// set opens, at most 1,048,576 and in strictly increasing order, and its lines, of at most 1,000,000 events if each line
-/// without a count counts as one.
+/// A draft of a schedule: the list, the number of threads (1 to 64), the quota of each thread (0 to 16,384), at most
+/// 1,048,576 opening keys in strictly increasing order, and the lines. The lines have at most 1,000,000 events if each
+/// line without a count counts as one.
 #[derive(Drop)]
 pub struct Draft {
     pub kind: Kind,
@@ -42,8 +43,8 @@ pub struct Draft {
 }
 
 impl Draft {
-    /// Returns the number of the line of the first event, counted from 1, in the text of this draft and in that of its
-    /// schedule.
+    /// Returns the line number of the first event, counted from 1. It is the same in the text of the draft and in the
+    /// text of its schedule.
     pub fn first_event_line(&self) -> u64 {
         FIRST_LINE + self.opening.len() as u64
     }

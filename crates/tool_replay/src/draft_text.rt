@@ -44,7 +44,7 @@ fn event(line: &[u8]) -> Result<DraftLine, Cause> {
     }
 }
 
-/// The field of the key in a line `opening K`; `None` for any other line.
+/// Returns the key field of a line `opening K`; `None` for any other line.
 fn opening_piece(line: &[u8]) -> Option<&[u8]> {
     match cut(line, b' ')? {
         (b"opening", key) if !key.contains(&b' ') => Some(key),
@@ -52,7 +52,8 @@ fn opening_piece(line: &[u8]) -> Option<&[u8]> {
     }
 }
 
-/// Puts an opening key behind the others.
+/// Appends an opening key. `TooMany` if `MOST_OPENING` keys come before it, `Opening` if it is not above the previous
+/// key.
 #[tactic(auto, using(lset_text::proofs::OpeningLaws::increases_more))]
 fn add_opening(opening: &mut Vec<u32>, key: u32) -> Result<(), Cause>
     requires increasing { IsStrictlyIncreasing opening.old.items }
@@ -71,7 +72,8 @@ fn add_opening(opening: &mut Vec<u32>, key: u32) -> Result<(), Cause>
 }
 
 impl Draft {
-    /// Adds a line, where so many events are left, and returns how many are left after it.
+    /// Adds a line to the draft. `left` is how many more events the draft can have; returns how many remain after the
+    /// line.
     fn add_line(&mut self, line: &[u8], left: u32) -> Result<u32, Cause> {
         if self.lines.is_empty()
             && let Some(key) = opening_piece(line)
@@ -89,12 +91,13 @@ impl Draft {
     }
 }
 
-/// Reads a draft from its bytes. A line without a count counts as one event. Allocates.
+/// Reads a draft. Allocates.
 ///
 /// # Errors
 ///
-/// The first line that is wrong, and the first check that it fails, in the order in which `read_schedule` makes them on a
-/// schedule of version 2. A thread or a row that is not a number is `Number`, and so is a row outside 1 to 255.
+/// The first wrong line, with the first check that it fails. The checks are those of `read_schedule` for version 2, in
+/// the same order. A thread that is not a number, or a row that is not a number from 1 to 255, is `Number`. A line
+/// without a count counts as one event.
 pub fn read_draft(alloc: Global, bytes: &[u8]) -> Result<Draft, LineFault> {
     let (header, text) = read_header(TITLE.as_bytes(), bytes)?;
     let mut draft = Draft {

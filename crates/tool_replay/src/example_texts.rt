@@ -1,4 +1,4 @@
-//! The texts of the examples, as they lie in `examples/`; `tests/examples.py` compares the two.
+//! The texts of the examples. `tests/examples.py` checks that the files in `examples/` have the same texts.
 
 pub(crate) const FAILED_TRIES: &str = "\
 listset-schedule 1

@@ -3,17 +3,18 @@ use lset_text::kind_word;
 use std::alloc::{AllocError, Global};
 use tool_base::{Answer, Trouble, ValueName};
 
-/// What `example` is to print.
+/// A request to `example`: what it prints.
 #[derive(Clone, Copy)]
 pub enum ExampleRequest {
     /// The names of all examples.
     Names,
-    /// A schedule, or the report that a broken list would make of it.
+    /// The text of a schedule, or of the report of a broken list.
     Text(&'static str),
 }
 
-/// Finds what `example` prints: the names if none is given, else the schedule of the example with this name or, with
-/// `broken`, its broken report. The error is `Name` if no example has that under this name.
+/// Reads the arguments of `example`. Without a name the request is for the names, with one for the schedule of that
+/// example, and with `broken` for its broken report. The error is `Name` if no example has this name, `Unbroken` if the
+/// example has no broken report.
 pub fn read_example_request(
     name: Option<&[u8]>,
     broken: bool,
@@ -25,11 +26,11 @@ pub fn read_example_request(
     if !broken {
         return Ok(ExampleRequest::Text(example.schedule));
     }
-    let report = example.broken_report.ok_or(ValueName::Name)?;
+    let report = example.broken_report.ok_or(ValueName::Unbroken)?;
     Ok(ExampleRequest::Text(report))
 }
 
-/// A line for each example: its name, its list and what happens in it.
+/// Returns a line for each example: its name, its list and what happens in it.
 fn write_names(alloc: Global) -> Result<Vec<u8>, AllocError> {
     let mut out = String::new(alloc);
     for example in &ALL {
@@ -41,7 +42,7 @@ fn write_names(alloc: Global) -> Result<Vec<u8>, AllocError> {
     Ok(out.into_bytes())
 }
 
-/// Returns what `example` prints, with status 0. Allocates; `Memory` if that fails.
+/// Returns the text that `example` prints, with status 0. Allocates; `Memory` if that fails.
 pub fn print_example(alloc: Global, request: ExampleRequest) -> Result<Answer, Trouble> {
     let text = match request {
         ExampleRequest::Names => write_names(alloc)?,

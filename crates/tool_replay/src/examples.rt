@@ -1,24 +1,24 @@
 use crate::example_texts as texts;
 use lset_words::Kind;
 
-/// A classic interleaving of calls on one of the five lists: a schedule in which the list needs the one thing that it is
-/// remembered by. Most of them are from Herlihy and Shavit's chapter on linked lists, with steps of the tables here.
+/// A classic interleaving on one of the five lists. It shows why the list needs the step or check that it is known for.
+/// Most are from Herlihy and Shavit's chapter on linked lists, with the steps of the tables here.
 #[derive(Clone, Copy)]
 pub(crate) struct Example {
-    /// The name by which `example` prints it.
+    /// The name of the example, as `example NAME` reads it.
     pub name: &'static str,
-    /// The list that it is about.
+    /// The list of the schedule.
     pub kind: Kind,
-    /// What happens in it, in half a line.
+    /// What happens, in a few words.
     pub about: &'static str,
-    /// The text of its schedule, on that list.
+    /// The text of the schedule.
     pub schedule: &'static str,
-    /// The text of the report that a list without the check in question would make of the schedule; only six examples have
-    /// one. No order explains its calls and keys: neither the one in it, which `check` refuses, nor another.
+    /// The text of a report that the list would make without the check in question. Only six examples have one. No
+    /// order explains the calls and the final keys of this report, and `check` refuses the order in it.
     pub broken_report: Option<&'static str>,
 }
 
-/// All examples, in the order of the lists that they are about.
+/// All examples, sorted by their lists.
 pub(crate) const ALL: [Example; 18] = [
     Example {
         name: "failed-tries",
@@ -148,7 +148,7 @@ pub(crate) const ALL: [Example; 18] = [
     },
 ];
 
-/// Returns the example whose name these bytes are; `None` if no example has it.
+/// Returns the example with this name; `None` if no example has it.
 pub fn named(name: &[u8]) -> Option<Example> {
     for example in &ALL {
         if example.name.as_bytes() == name {

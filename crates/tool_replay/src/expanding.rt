@@ -12,7 +12,7 @@ use lset_words::layout_opening;
 use std::alloc::{AllocError, Global};
 use tool_base::Trouble;
 
-/// Executes the events of a line of a schedule, if that many events are left.
+/// Makes the events of a line of a schedule. `TooMany` if the line has more than `left` events.
 fn make_plain<M: Machine>(world: &mut World<M>, line: Line, left: u32) -> Result<(), Cause> {
     if line.event_count() > left {
         return Err(Cause::TooMany);
@@ -26,7 +26,7 @@ fn make_plain<M: Machine>(world: &mut World<M>, line: Line, left: u32) -> Result
     Ok(())
 }
 
-/// Executes the events that a line stands for, if that many events are left, and returns the line of a schedule.
+/// Makes the events of a line of a draft, at most `left`, and returns the line of the schedule that it expands to.
 fn make_line<M: Machine>(world: &mut World<M>, line: DraftLine, left: u32) -> Result<Line, Cause> {
     let most = left.min(MOST_STEPS);
     match line {
@@ -45,7 +45,7 @@ fn make_line<M: Machine>(world: &mut World<M>, line: DraftLine, left: u32) -> Re
     }
 }
 
-/// The world before any event of a draft.
+/// Opens the set of a draft, before any event.
 fn start_of<M: Machine>(alloc: Global, draft: &Draft) -> Result<World<M>, AllocError> {
     let keys = draft.opening.as_slice();
     let Ok(layout) = layout_opening(draft.threads, draft.quota, keys.len() as u32) else {
@@ -54,7 +54,7 @@ fn start_of<M: Machine>(alloc: Global, draft: &Draft) -> Result<World<M>, AllocE
     World::<M>::opened(alloc, layout, keys)
 }
 
-/// The lines of a schedule that the lines of a draft stand for on the list of the machine `M`.
+/// Expands the lines of a draft, on the list of the machine `M`.
 fn lines_on<M: Machine>(alloc: Global, draft: &Draft) -> Result<Vec<Line>, Trouble> {
     let mut world = start_of::<M>(alloc, draft)?;
     let mut number = draft.first_event_line();
@@ -71,7 +71,7 @@ fn lines_on<M: Machine>(alloc: Global, draft: &Draft) -> Result<Vec<Line>, Troub
     Ok(lines)
 }
 
-/// The lines of the schedule of a draft, whatever its list.
+/// The task of expanding a draft's lines, on any list.
 #[derive(Clone, Copy)]
 struct Expanding<'a> {
     alloc: Global,
@@ -90,18 +90,19 @@ impl Task for Expanding<'_> {
     }
 }
 
-/// Turns a draft into a schedule on the list of its kind: each line gets the number of steps that it stands for. Allocates.
+/// Expands a draft into a schedule: each line without a count gets its number of steps. Allocates.
 ///
-/// `draft` must be within the limits, as every draft from `read_draft` is. A line without a count gets the smallest, at
-/// least 1, after which the thread's call has ended, or the thread is at the row; all else stays. The schedule has version 1
-/// if it has no opening keys and begins no `ceiling`, else version 2.
+/// `draft` must be within the limits, as every draft from `read_draft` is. A line without a count gets the smallest
+/// number of steps, at least 1, after which the thread's call has ended or the thread is at the row. Other lines do not
+/// change. The schedule has version 1 if it has no opening keys and begins no `ceiling`, otherwise version 2.
 ///
 /// # Errors
 ///
-/// `Line` for the first line that stands for no line of a schedule, with its number:
-/// - `TooMany`: with it there are more than 1,000,000 events;
+/// `Line` with the number of the first line that cannot be expanded:
+/// - `TooMany`: the line brings the number of events above 1,000,000;
 /// - `NoThread`, `Busy`, `Idle`: an event is not enabled;
-/// - `Waits`: the thread does not get to where the line sends it within 10,000 steps or the events left.
+/// - `Waits`: the thread's call does not end, or the thread does not reach the row, within 10,000 steps and the events
+///   that remain.
 ///
 /// `Memory`: an allocation failed.
 pub fn schedule_of(alloc: Global, draft: &Draft) -> Result<Schedule, Trouble>

@@ -13,7 +13,7 @@ use std::alloc::Global;
 use std::io::Write;
 use tool_base::{Answer, RandomRequest, Trouble, deliver, read_random_request};
 
-/// The generating of a schedule, whatever its list.
+/// The task of generating a schedule, on any list.
 #[derive(Clone, Copy)]
 struct Generating {
     alloc: Global,
@@ -41,7 +41,7 @@ impl Task for Generating {
     }
 }
 
-/// A schedule of the list that the request names.
+/// Generates a schedule for the list that the request names.
 fn schedule_for(alloc: Global, request: RandomRequest) -> Result<Schedule, GenFault>
     requires { IsAccepted request.threads request.quota request.keys }
     ensures { MatchResult result (λ s. IsRequested (table_of request.kind) request (view s)) (λ fault. fault ≡ Memory) }
@@ -49,7 +49,8 @@ fn schedule_for(alloc: Global, request: RandomRequest) -> Result<Schedule, GenFa
     on_list(request.kind, Generating { alloc, request })
 }
 
-/// Returns the text of the schedule that `gen` prints, with status 0. Allocates; `Memory` if that fails.
+/// Returns the text of the schedule that `gen` prints for this request, with status 0. Allocates; `Memory` if that
+/// fails.
 pub fn generate_text(alloc: Global, request: RandomRequest) -> Result<Answer, Trouble>
     requires { IsAccepted request.threads request.quota request.keys }
     ensures { Answers (Ok request) (tools.view result) }
@@ -59,8 +60,8 @@ pub fn generate_text(alloc: Global, request: RandomRequest) -> Result<Answer, Tr
     Ok(Answer { text, status: 0 })
 }
 
-/// Returns the text of the schedule that `gen` prints for these values, which are those of `tool_gen`, with status 0.
-/// Allocates. The error is `Bad` with the first value that is missing or wrong, or `Memory`.
+/// Reads the arguments of `gen` and returns the text of the schedule that it prints, with status 0. Allocates. The
+/// error is `Bad` with the first missing or wrong argument, or `Memory`.
 pub fn generate_for(alloc: Global, values: &[String]) -> Result<Answer, Trouble>
     ensures { Generates (map string_bytes values.now) (tools.view result) }
 {
@@ -68,11 +69,12 @@ pub fn generate_for(alloc: Global, values: &[String]) -> Result<Answer, Trouble>
     generate_text(alloc, request)
 }
 
-/// Does what `gen` does: writes a random schedule, of version 1, to `output`, and returns the exit status.
+/// Implements the command `gen`: writes a random schedule, of version 1, to `output`, and returns the exit status.
 ///
-/// `values` are those of `read_random_request`. The schedule ends at 10,000 events, so it may begin fewer calls. The status
-/// is 0 if it was written. Else one line on `faults` says why, if it can be written: status 2 for the first value that is
-/// missing or wrong, 3 if an allocation failed, 1 for anything else. Allocates.
+/// `values` are the arguments, as `read_random_request` reads them. The schedule ends at 10,000 events, so it can begin
+/// fewer calls than requested. The status is 0 if the schedule was written. Otherwise one line on `faults` names the
+/// error, if that line can be written, and the status is 2 for the first missing or wrong argument, 3 if an allocation
+/// failed, and 1 for any other error. Allocates.
 pub fn tool_gen<W: Write, F: Write>(
     alloc: Global,
     values: &[String],

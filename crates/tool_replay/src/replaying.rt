@@ -10,8 +10,8 @@ use std::alloc::Global;
 use std::io::{Read, Write};
 use tool_base::{Answer, Input, Tool, Trouble, run_tool};
 
-/// The command `replay`: the answer on a schedule is the text of its report, with status 0. The error is `Line` with the
-/// first error of the text, or with the first event that is not enabled; or `Memory`.
+/// The command `replay`: the answer for a schedule is the text of its report, with status 0. The error is `Line` with
+/// the first error of the text, or with the first event that is not enabled, or `Memory`.
 #[derive(Clone, Copy)]
 pub struct Replay {}
 
@@ -26,8 +26,8 @@ impl Tool for Replay {
     }
 }
 
-/// The command `replay --lacks NAME`: the answer on a schedule is the text of the report of its run on the broken list, of
-/// version 2, with status 0. The error is `Line` with an error of `report_broken`, or `Memory`.
+/// The command `replay --lacks NAME`: the answer for a schedule is the report of its run on the broken list, of version
+/// 2, with status 0. The error is `Line` with an error of `report_broken`, or `Memory`.
 #[derive(Clone, Copy)]
 pub struct ReplayBroken {
     pub broken: BrokenList,
@@ -41,9 +41,10 @@ impl Tool for ReplayBroken {
     }
 }
 
-/// Does what `replay` does: replays the schedule on `input`, writes its report to `output`, or one line about an error to
-/// `faults` and nothing to `output`, and returns the exit status: 0 if the report was written, 3 if an allocation failed,
-/// else 1. Allocates; blocks as its input and output do.
+/// Implements the command `replay`: reads a schedule from `input`, replays it, and writes its report to `output`.
+///
+/// On an error it writes one line to `faults` and nothing to `output`. Returns the exit status: 0 if the report was
+/// written, 3 if an allocation failed, otherwise 1. Allocates; blocks as its input and output do.
 pub fn tool_replay<R: Read, W: Write, F: Write>(
     alloc: Global,
     input: &mut R,

@@ -1,9 +1,9 @@
-//! A thread steps: a number of times, or until it is at a row.
+//! Steps a thread: a number of times, or until it is at a row.
 
 use lset_steps::{Event, Machine, StepFault, World};
 use lset_text::Cause;
 
-/// Why the line of an event that is not enabled is refused.
+/// Maps the error of a step to the cause that a refused line names.
 pub(crate) fn cause_of(fault: StepFault) -> Cause {
     match fault {
         StepFault::NoThread => Cause::NoThread,
@@ -12,8 +12,8 @@ pub(crate) fn cause_of(fault: StepFault) -> Cause {
     }
 }
 
-/// Steps a thread until it is at a row (0: it has no call pending), at least once and at most `most` times; returns how many
-/// steps it made.
+/// Steps a thread until it is at row `row`, at least once and at most `most` times, and returns the number of steps.
+/// Row 0 means that the call has ended. `Waits` if the thread is not there after `most` steps.
 pub(crate) fn steps_to<M: Machine>(
     world: &mut World<M>,
     thread: u32,
@@ -31,7 +31,7 @@ pub(crate) fn steps_to<M: Machine>(
     Err(Cause::Waits)
 }
 
-/// Makes this many steps of a thread.
+/// Makes `steps` steps of a thread.
 pub(crate) fn take_steps<M: Machine>(
     world: &mut World<M>,
     thread: u32,

@@ -1,4 +1,4 @@
-//! The text of a trace: what each event of a schedule did, one line for each.
+//! Writes a trace: a line for each event of a schedule, with what the event did.
 
 mod chunks;
 mod events;
@@ -13,14 +13,15 @@ use std::alloc::Global;
 use std::io::{Read, Write};
 use tool_base::{Answer, Input, Tool, Trouble, read_all};
 
-/// The command `trace`: the answer on a schedule has a line for each event. Its status is 0 if the run makes every event, and 1
-/// if it ends at one that it cannot make. The error is `Line` with the first error of a text that is not a schedule (for a
-/// broken list, of `read_broken_schedule`), or `Memory`.
+/// The command `trace`: the answer for a schedule has a line for each event. The status is 0 if the run makes every
+/// event, and 1 if an event cannot be made, which ends the trace. The error is `Line` with the first error of a text
+/// that is not a schedule (for a broken list, of `read_broken_schedule`), or `Memory`.
 #[derive(Clone, Copy)]
 pub struct Trace {
-    /// Whether the chain comes after each event that changed it.
+    /// Whether the chain is written after each event that changed it.
     pub chains: bool,
-    /// The broken list that runs the schedule, named below its list in a line `lacks NAME`, or the list that the schedule names.
+    /// The broken list to run, which a line `lacks NAME` in the header names; `None` for the list that the schedule
+    /// names.
     pub lacks: Option<BrokenList>,
 }
 
@@ -32,9 +33,9 @@ impl Tool for Trace {
     }
 }
 
-/// Traces the schedule on `input` to `output`. The events are written as they are made, so that the whole text is not held in
-/// memory; the answer has the status of `Trace`, and no text. If an allocation or a write fails, a part may have been written.
-/// Allocates.
+/// Traces the schedule in `input` to `output`. Each event is written when it is made, so the text is never in memory as
+/// a whole. The answer has the status of `Trace` and no text. If an allocation or a write fails, a part of the trace
+/// can have been written. Allocates.
 pub fn trace_events<R: Read, W: Write>(
     alloc: Global,
     trace: Trace,

@@ -2,19 +2,20 @@ use crate::{Show, Window};
 use lset_text::number;
 use tool_base::ValueName;
 
-/// The width of a picture as text, in characters, if no option names one.
+/// The width of a text picture, in characters, if `--width` is absent.
 const DEFAULT_WIDTH: u32 = 100;
 
-/// How a picture is drawn: as text of a width, or as an SVG.
+/// The format of a picture.
 #[derive(Clone, Copy)]
 pub enum Form {
-    /// As text, with as many columns as let its rows have at most so many characters.
+    /// Text: as many columns as fit if no row has more than this many characters.
     Text(u32),
-    /// As an SVG.
+    /// SVG.
     Svg,
 }
 
-/// The number from `smallest` on that the text spells, or `absent` if there is no text.
+/// Reads a number from `smallest` to 4,294,967,295; returns `absent` if there is no text, and `None` if the text is not
+/// such a number.
 fn number_or(text: Option<&str>, smallest: u32, absent: u32) -> Option<u32> {
     match text {
         Some(text) => number(text.as_bytes(), smallest, u32::MAX),
@@ -22,10 +23,12 @@ fn number_or(text: Option<&str>, smallest: u32, absent: u32) -> Option<u32> {
     }
 }
 
-/// Reads the options of `show`: whether `--svg` is on, and the values of `--from`, `--to` and `--width`, which are decimals
-/// without leading zeros: `from` at least 1, which is meant if it is not given; `to` at least `from`, and any number if it is
-/// not given; a width, in characters, at least 1, and 100 if it is not given. An SVG has no width, but a width that is given
-/// with it must be right too. The error names the first option that is wrong.
+/// Reads the options of `show`: whether `--svg` is on, and the values of `--from`, `--to` and `--width`. A value is a
+/// decimal without leading zeros.
+///
+/// `from` is at least 1, and 1 if it is absent. `to` is at least `from`, and the last moment if it is absent. `width`
+/// is at least 1, and 100 if it is absent. An SVG has no width, but `width` is checked with `--svg` too. The error
+/// names the first wrong option.
 pub fn read_show(
     svg: bool,
     from: Option<&str>,

@@ -1,9 +1,9 @@
-//! Where the picture of a refused order begins.
+//! Finds where the picture of a refused order begins.
 use crate::picture::Picture;
 use crate::refusal::Refusal;
 use lset_words::CallRecord;
 
-/// The first key of one of two lists, both ascending, that the other has not.
+/// Returns the smallest key that one of two increasing lists has and the other has not.
 fn first_apart(keys: &[u32], others: &[u32]) -> Option<u32> {
     for (key, other) in keys.iter().zip(others.iter()) {
         if key != other {
@@ -18,7 +18,7 @@ fn first_apart(keys: &[u32], others: &[u32]) -> Option<u32> {
     rest.copied()
 }
 
-/// The moment at which the first call of a key begins.
+/// Returns when the first call of a key begins.
 fn first_begun(calls: &[CallRecord], key: u32) -> Option<u32> {
     for made in calls {
         if made.call.key().0 == key {
@@ -28,8 +28,8 @@ fn first_begun(calls: &[CallRecord], key: u32) -> Option<u32> {
     None
 }
 
-/// Returns the moment at which the call begins that a refusal is about: the call that it names, of two the one that had
-/// ended; or, if the set is wrong, the first call of the first key that is.
+/// Returns when the call that a refusal is about begins: the call that the refusal names; of two calls, the one that
+/// had ended; for wrong keys, the first call of the first key that differs.
 pub(crate) fn clash_begins(picture: &Picture) -> Option<u32> {
     let calls = picture.history.calls();
     match &picture.refusal {

@@ -24,9 +24,9 @@ fn clashes_in(keys: &[u32], refusal: &Refusal, number: usize, made: &CallRecord)
     }
 }
 
-/// Whether the call with that number, `made`, clashes in the order of a picture that is refused: the refusal names it or, if
-/// the set is wrong, its key is one that the order leaves and the keys lack, or the reverse. No call clashes if nothing is
-/// refused.
+/// Decides whether the call `made`, with this number, is drawn as a clash: the refusal of the order names it or, if the
+/// keys are wrong, its key is in only one of the order's final keys and the report's keys. No call clashes if the order
+/// is not refused.
 pub(crate) fn is_clash(picture: &Picture, number: usize, made: &CallRecord) -> bool {
     match &picture.refusal {
         None => false,

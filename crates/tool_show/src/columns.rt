@@ -1,4 +1,4 @@
-//! What is drawn of a picture in a window: a column for each moment at which something happens.
+//! Computes the columns of a picture in a window: one for each moment at which something happens.
 use crate::MOST_WIDTH;
 use crate::beginning::clash_begins;
 use crate::moments::{moments_shown, next_moment};
@@ -8,8 +8,8 @@ use lset_text::{call_word, reply_word};
 use lset_words::{Call, CallRecord, Reply};
 use std::alloc::{AllocError, Global};
 
-/// What is drawn on a thread's row at a moment: a call begins, takes effect and changes the set, takes effect and changes
-/// nothing, ends.
+/// A sign on a thread's row at a moment: a call begins; takes effect and changes the set; takes effect without a
+/// change; ends.
 #[derive(Clone, Copy)]
 pub(crate) enum Sign {
     Begin(Call),
@@ -18,14 +18,15 @@ pub(crate) enum Sign {
     End(Reply),
 }
 
-/// A sign, and the thread on whose row it is drawn.
+/// A sign, and the thread whose row it is on.
 #[derive(Clone, Copy)]
 pub(crate) struct Mark {
     pub thread: u32,
     pub sign: Sign,
 }
 
-/// What is drawn at a moment: the signs of the rows, the text of the set, if it is shown there, and its width in characters.
+/// A column: the signs of one moment, the text of the set (empty if it is not shown here), and the column's width in
+/// characters.
 #[derive(Drop)]
 pub(crate) struct Column {
     pub moment: u32,
@@ -34,7 +35,7 @@ pub(crate) struct Column {
     pub width: usize,
 }
 
-/// Where something is: at moments before those that are drawn, after them, or at least in part at them.
+/// A position relative to the drawn moments: before them, at least partly within them, or after them.
 #[derive(Clone, Copy)]
 pub(crate) enum Side {
     Before,
@@ -42,8 +43,8 @@ pub(crate) enum Side {
     After,
 }
 
-/// The columns of a picture, whether its points are known, the first and last moment that are drawn, and whether something
-/// happens before or after them.
+/// A drawing: its columns, whether the picture's points are known, the first and the last moment drawn, and whether
+/// anything happens before or after them.
 #[derive(Drop)]
 pub(crate) struct Drawing {
     pub columns: Vec<Column>,
@@ -55,12 +56,12 @@ pub(crate) struct Drawing {
 }
 
 impl Drawing {
-    /// Whether something happens at moments that are not drawn.
+    /// Decides whether anything happens at a moment that is not drawn.
     pub fn is_cut(&self) -> bool {
         self.before || self.after
     }
 
-    /// Returns the window to draw instead of all moments, if they do not fit: of a refused order it begins at the clash.
+    /// Returns the window to draw if not all moments fit: for a refused order it begins at the clash.
     pub fn window_of_clash(&self, picture: &Picture, window: Window) -> Option<Window> {
         if !(self.after && window.is_whole()) {
             return None;
@@ -69,7 +70,7 @@ impl Drawing {
         Some(Window { from, ..window })
     }
 
-    /// Returns where a stretch of moments is, from its first one to its last, if it has one.
+    /// Returns the position of the moments from `first` to `last`, or from `first` on if `last` is `None`.
     pub fn side_of(&self, first: u32, last: Option<u32>) -> Side {
         if self.last < first {
             Side::After
@@ -80,7 +81,7 @@ impl Drawing {
         }
     }
 
-    /// Returns where the bar of a call is.
+    /// Returns the position of a call's bar.
     pub fn side_of_bar(&self, made: CallRecord) -> Side {
         self.side_of(made.begun, made.ended.map(|(end, _)| end))
     }
@@ -138,7 +139,7 @@ pub(crate) fn put_call(out: &mut String, call: Call) -> Result<(), AllocError> {
     write!(out, "{word} {key}")
 }
 
-/// Writes a sign with what parts it from the next: the bar goes on after each sign but the last.
+/// Writes a sign and what separates it from the next one: the bar continues after every sign but the last.
 fn put_sign(out: &mut String, sign: Sign) -> Result<(), AllocError> {
     match sign {
         Sign::Begin(call) => {
@@ -155,7 +156,7 @@ fn put_sign(out: &mut String, sign: Sign) -> Result<(), AllocError> {
     }
 }
 
-/// Appends the signs of a thread among those of a moment, such as `[add 5-*-`.
+/// Appends the signs of one thread, such as `[add 5-*-`.
 pub(crate) fn put_signs(out: &mut String, marks: &[Mark], thread: u32) -> Result<(), AllocError> {
     for mark in marks {
         if mark.thread == thread {
@@ -165,7 +166,7 @@ pub(crate) fn put_signs(out: &mut String, marks: &[Mark], thread: u32) -> Result
     Ok(())
 }
 
-/// How many characters a column is wide: as its longest piece, with what parts it from the next.
+/// Returns the width of a column: its longest entry with the separator, at most `MOST_WIDTH`.
 fn width_of(alloc: Global, moment: u32, marks: &[Mark], set: &str) -> Result<usize, AllocError> {
     let mut most = format!(in alloc; "{moment} ")?.len();
     if set.len() >= most {
@@ -179,7 +180,8 @@ fn width_of(alloc: Global, moment: u32, marks: &[Mark], set: &str) -> Result<usi
     Ok(most.min(MOST_WIDTH))
 }
 
-/// The columns of these moments. The set is shown, if points are known, in the first one and in those with a change.
+/// Computes the columns of these moments. The set is shown in the first column and in each with a change, if points are
+/// known.
 fn columns_at(
     alloc: Global,
     picture: &Picture,
@@ -212,7 +214,7 @@ fn columns_at(
     Ok(columns)
 }
 
-/// Returns what is drawn of a picture in a window. Allocates.
+/// Computes the drawing of a picture in a window. Allocates.
 pub(crate) fn drawing_in(
     alloc: Global,
     picture: &Picture,
@@ -232,7 +234,7 @@ pub(crate) fn drawing_in(
     Ok(drawing)
 }
 
-/// Ends a drawing with its last column.
+/// Sets `last` to the moment of the last column, and `after` accordingly.
 pub(crate) fn end_at_last(picture: &Picture, drawing: &mut Drawing) {
     if let Some(column) = drawing.columns.last() {
         drawing.last = column.moment;

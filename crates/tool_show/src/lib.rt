@@ -1,5 +1,7 @@
-//! Pictures of schedules and of reports, which `show` prints. A picture has a bar for each call, the point where it
-//! takes effect, the set below, and the order; of a refused order it says why, and of a refused event which. It is text or SVG.
+//! The pictures that `show` prints, of schedules and of reports, as text or SVG.
+//!
+//! A picture has a bar for each call, the point where the call takes effect, the set below, and the order. It states
+//! why an order is refused, or which event of a schedule is.
 #![tactic(auto)]
 
 mod asking;
@@ -30,9 +32,8 @@ pub use tool::Show;
 /// The maximum number of columns of a picture.
 const MOST_COLUMNS: usize = 64;
 
-/// The maximum number of keys of a set that are shown; of more keys a picture has the number.
+/// The maximum number of keys shown of a set. The number of further keys is printed.
 const MOST_KEYS_SHOWN: usize = 8;
 
-/// The maximum number of characters of a column that are left free for its pieces; no piece of a history with an order is
-/// longer.
+/// The maximum width of a column. No entry of a history with an order is wider.
 const MOST_WIDTH: usize = 255;

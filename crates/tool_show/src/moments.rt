@@ -1,17 +1,17 @@
-//! The moments at which something happens in a picture.
+//! Finds the moments at which something happens in a picture.
 
 use crate::MOST_COLUMNS;
 use crate::picture::{Picture, Window, points_of};
 use std::alloc::{AllocError, Global};
 
-/// Whether a moment, counted from 1, comes after the last one at which a call of the picture begins, takes effect or ends,
-/// so that a window from there has no column. Of a picture without calls no moment does.
+/// Decides whether a window that begins at `from`, counted from 1, has no column because every call begins, takes
+/// effect and ends before it. For a picture without calls the answer is no.
 pub(crate) fn is_past_the_last(picture: &Picture, from: u32) -> bool {
     let is_empty = picture.history.calls().is_empty() && points_of(picture).is_empty();
     !is_empty && next_moment(picture, u64::from(from)).is_none()
 }
 
-/// The earlier of two moments; the second counts if it is not before `from`.
+/// Returns the earlier of `best` and `moment`, or `best` if `moment` is before `from`.
 fn sooner(best: Option<u32>, from: u64, moment: u32) -> Option<u32> {
     match best {
         _ if u64::from(moment) < from => best,

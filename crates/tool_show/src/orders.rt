@@ -1,4 +1,4 @@
-//! The lines above and below the rows of a picture: its heading, which moments are drawn, and its order.
+//! Writes the lines above and below the rows of a picture: the heading, which moments are drawn, and the order.
 use crate::columns::{Drawing, Side, put_call};
 use crate::picture::{Picture, Standing, standing_at};
 use crate::refusal::Refusal;
@@ -7,7 +7,7 @@ use lset_text::{kind_word, reply_word};
 use lset_words::Placed;
 use std::alloc::AllocError;
 
-/// Writes how many there are of something, as `2 calls` or `1 call`.
+/// Writes a count with its noun, such as `2 calls` or `1 call`.
 fn put_counted(out: &mut String, count: usize, word: &str) -> Result<(), AllocError> {
     let plural = if count == 1 { "" } else { "s" };
     write!(out, "{count} {word}{plural}")
@@ -28,7 +28,7 @@ pub(crate) fn put_heading(out: &mut String, picture: &Picture) -> Result<(), All
     Ok(())
 }
 
-/// Appends which moments are drawn, and which options draw those before and after them:
+/// Appends which moments are drawn, and the options that draw those before and after them, such as
 /// `moments 20 to 33 of 35; --to 19 goes before; --from 34 goes on`.
 pub(crate) fn put_cut(
     out: &mut String,
@@ -52,7 +52,7 @@ pub(crate) fn put_cut(
     Ok(())
 }
 
-/// Writes a place of the order, as `   2  at 21    thread 0  add 5 true`.
+/// Writes a place of the order, such as `   2  at 21    thread 0  add 5 true`.
 fn put_place(out: &mut String, number: usize, standing: Standing) -> Result<(), AllocError> {
     write!(out, "{number:>4}  ")?;
     match standing.point {
@@ -81,8 +81,8 @@ fn put_place(out: &mut String, number: usize, standing: Standing) -> Result<(), 
     writeln!(out, " {reply}{no_change}{still_open}")
 }
 
-/// Where a place is: its point or, if that is not known, the bar of its call. Of a call that the history has not, it is
-/// nowhere.
+/// Returns the position of a place: that of its point or, without a point, that of its call's bar. `None` if the
+/// history has no such call.
 fn side_of(standing: Standing, drawing: &Drawing) -> Option<Side> {
     match standing.point {
         Some(point) => Some(drawing.side_of(point.moment, Some(point.moment))),
@@ -90,7 +90,8 @@ fn side_of(standing: Standing, drawing: &Drawing) -> Option<Side> {
     }
 }
 
-/// Whether a place that is nowhere is shown: if all is drawn, or the refusal is of its call.
+/// Decides whether a place whose call is not in the history is written: if all moments are drawn, or if the refusal
+/// names the call.
 fn is_told(picture: &Picture, drawing: &Drawing, place: Placed) -> bool {
     match &picture.refusal {
         _ if !drawing.is_cut() => true,
@@ -99,14 +100,15 @@ fn is_told(picture: &Picture, drawing: &Drawing, place: Placed) -> bool {
     }
 }
 
-/// How many places are not drawn: before the moments that are, after them, and of calls that the history has not.
+/// The numbers of places that are not drawn: before the drawn moments, after them, and of calls that the history has
+/// not.
 struct LeftOut {
     before: usize,
     after: usize,
     unknown: usize,
 }
 
-/// Writes the places that are drawn, and gives how many are not.
+/// Writes the places that are drawn, and returns how many are not.
 fn put_places(
     out: &mut String,
     picture: &Picture,
@@ -163,8 +165,8 @@ fn put_order(out: &mut String, picture: &Picture, drawing: &Drawing) -> Result<(
     put_left_out(out, left)
 }
 
-/// Appends what is below the rows: the order, as far as its points are drawn, with how many places are left out, and the
-/// remaining keys; `legend`, if there are points; and last, if an event of a schedule is refused, which.
+/// Appends the lines below the rows: the order with the number of places left out, the final keys, `legend` if the
+/// points are known, and at last the refused event of a schedule, if any.
 pub(crate) fn put_lines_below(
     out: &mut String,
     picture: &Picture,

@@ -2,26 +2,26 @@ use crate::refusal::Refusal;
 use lset_history::History;
 use lset_words::{CallRecord, Kind, Placed, Point};
 
-/// The picture of a history: its bars are the calls, by number; the order of the calls, with the point of each place if they
-/// are known; the remaining keys; of a refused order, why; and of a schedule, which event is refused. The points never
-/// decrease along the order; they are drawn if there is one for each place and no refusal.
+/// A picture of a history: the bars are its calls, by number.
+///
+/// `points` never decrease along the order. They are drawn if there is one for each place and the order is not refused.
 #[derive(Drop)]
 pub struct Picture {
     pub kind: Kind,
     pub history: History,
-    /// Of a schedule: how many events were made.
+    /// The number of events made; `None` for the picture of a report.
     pub events: Option<u32>,
     pub order: Vec<Placed>,
-    /// One for each place of the order, or none if the order is refused.
+    /// One point for each place of the order; empty if the order is refused.
     pub points: Vec<Point>,
     pub keys: Vec<u32>,
     pub refusal: Option<Refusal>,
-    /// Of a schedule: the number of the line of its first event that is not enabled, and the name of the cause.
+    /// The line number of a schedule's first event that is not enabled, and the name of the cause.
     pub refused: Option<(u64, &'static str)>,
 }
 
-/// The moments that are drawn, from the first to the last, counted from 1; of those only the first 64 at which something
-/// happens.
+/// The first and the last moment to draw, counted from 1. Only the first 64 moments in a window at which something
+/// happens are drawn.
 #[derive(Clone, Copy)]
 pub struct Window {
     pub from: u32,
@@ -29,18 +29,18 @@ pub struct Window {
 }
 
 impl Window {
-    /// Whether the window has every moment.
+    /// Decides whether the window has every moment.
     pub fn is_whole(self) -> bool {
         self.from <= 1 && self.to == u32::MAX
     }
 }
 
-/// Whether there is a point for each place of the order, and no refusal.
+/// Decides whether the points are known: the order is not refused, and each place has a point.
 pub(crate) fn are_known(picture: &Picture) -> bool {
     picture.refusal.is_none() && picture.points.len() == picture.order.len()
 }
 
-/// Returns the points that are drawn.
+/// Returns the points that are drawn: all if they are known, otherwise none.
 pub(crate) fn points_of(picture: &Picture) -> &[Point] {
     if are_known(picture) {
         &picture.points
@@ -49,7 +49,7 @@ pub(crate) fn points_of(picture: &Picture) -> &[Point] {
     }
 }
 
-/// A place of the order with its call, if the history has it, and its point, if it is known.
+/// A place of the order, with its call if the history has it, and its point if it is known.
 #[derive(Clone, Copy)]
 pub(crate) struct Standing {
     pub placed: Placed,
@@ -65,7 +65,7 @@ fn standing_of(picture: &Picture, index: usize, placed: Placed) -> Standing {
     }
 }
 
-/// Returns the place of the order with this index, from 0.
+/// Returns the place with index `index`, from 0; `None` if the order is shorter.
 pub(crate) fn standing_at(picture: &Picture, index: usize) -> Option<Standing> {
     let placed = picture.order.get(index)?;
     Some(standing_of(picture, index, *placed))

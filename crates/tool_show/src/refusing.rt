@@ -1,4 +1,4 @@
-//! Why an order is refused: the fault that `check_order` names, and what shows it.
+//! Finds the facts that prove the fault that `check_order` returned.
 
 ghost use Rattle.std.specs.Prelude.{◌≡◌, ◌<◌, length, IfOk, IfSome};
 
@@ -6,7 +6,7 @@ use crate::refusal::Refusal;
 use lset_history::{CallRecord, History, Oracle, OrderFault, Placed, check_order};
 use std::alloc::{AllocError, Global};
 
-/// The index of the first place of a call, from this index on.
+/// Returns the index of the first place of a call at or after the index `from`.
 fn place_from(order: &[Placed], from: usize, call: u32) -> Option<usize>
     ensures { IfSome result (λ place. place < length order.now) }
 {
@@ -22,7 +22,7 @@ fn record_of(history: &History, call: u32) -> Option<CallRecord> {
     history.calls().get(call as usize).copied()
 }
 
-/// The sequential set after these places.
+/// Returns the sequential set after these places.
 fn set_after(alloc: Global, history: &History, places: &[Placed]) -> Result<Oracle, AllocError>
     ensures { IfOk result (λ o. o.threads ≡ history.now.opening.threads) }
 {
@@ -57,7 +57,7 @@ fn missing(history: &History, call: u32) -> Option<Refusal> {
     })
 }
 
-/// The call comes before another one that had ended when it began.
+/// Finds a later place whose call had ended when `call` began.
 fn too_early(history: &History, order: &[Placed], call: u32) -> Option<Refusal> {
     let begun = record_of(history, call)?.begun;
     let place = place_from(order, 0, call)?;
@@ -77,7 +77,8 @@ fn too_early(history: &History, order: &[Placed], call: u32) -> Option<Refusal> 
     None
 }
 
-/// The reply of the call's place is not that of the history, or else not that of the sequential set.
+/// Finds the reply that contradicts the reply of the call's place: that of the history or, if they agree, that of the
+/// sequential set.
 fn wrong_reply(
     alloc: Global,
     history: &History,
@@ -112,7 +113,7 @@ fn wrong_reply(
     }))
 }
 
-/// Returns why the order does not explain the calls of the history and leave the keys; `None` if it does. It takes about as long as
+/// Returns why the order does not explain the history with these final keys; `None` if it does. Takes about as long as
 /// `check_order`. Allocates; `AllocError` if that fails.
 pub(crate) fn why_refused(
     alloc: Global,

@@ -5,8 +5,8 @@ use lset_report::Report;
 use lset_words::{Effect, Point};
 use std::alloc::{AllocError, Global};
 
-/// The first points of an order that explains its calls: for each place the later of the moment at which its call began and the
-/// point before it. (Herlihy and Wing's linearization points.)
+/// Returns a linearization point for each place of an order that explains its calls (Herlihy and Wing): the later of
+/// the begin of its call and the point of the place before.
 fn first_points(
     alloc: Global,
     history: &History,
@@ -26,9 +26,10 @@ fn first_points(
     Ok(points)
 }
 
-/// Returns the picture of a report, whose order and keys may be any: its history, its order and its keys, with the first
-/// points of the order if it explains the history and leaves exactly the keys, and else with what `check_order` refuses, and
-/// no points. It takes about as long as `check_order`. Allocates; `AllocError` if that fails. (The pictures of Herlihy and
+/// Returns the picture of a report: its history, its order and its keys. If the order explains the history and leaves
+/// exactly the keys, the picture has points; otherwise it has the fault that `check_order` finds, and no points.
+///
+/// Takes about as long as `check_order`. Allocates; `AllocError` if that fails. (The pictures are those of Herlihy and
 /// Wing's histories.)
 pub fn picture_of_report(alloc: Global, report: Report) -> Result<Picture, AllocError> {
     let order = report.order.as_slice();

@@ -6,7 +6,7 @@ use lset_replay::{RunCalls, calls_of, run_of};
 use lset_schedule::Schedule;
 use std::alloc::{AllocError, Global};
 
-/// The run of a schedule, whatever its list.
+/// The task of running a schedule, on any list.
 #[derive(Clone, Copy)]
 struct Running<'a> {
     alloc: Global,
@@ -26,11 +26,12 @@ impl Task for Running<'_> {
     }
 }
 
-/// Returns the picture of a schedule's run: the calls of its history, the order that explains it, with the linearization
-/// points of the run, and the remaining keys. `schedule` must be within the limits, as every schedule from `read_schedule` is.
-/// If an event is not enabled, it is the picture of the events before the first such one, with the number of its line and the
-/// cause (`NoThread`, `Busy` or `Idle`). Allocates; `AllocError` if that fails. (The pictures of Herlihy and Wing's histories,
-/// with their linearization points.)
+/// Runs a schedule and returns its picture: the calls, the order that explains them, the linearization points of the
+/// run, and the final keys.
+///
+/// `schedule` must be within the limits, as every schedule from `read_schedule` is. If an event is not enabled, the
+/// picture ends before it and names the number of its line and the cause (`NoThread`, `Busy` or `Idle`). Allocates;
+/// `AllocError` if that fails. (The pictures are those of Herlihy and Wing's histories.)
 pub(crate) fn picture_of_replay(alloc: Global, schedule: &Schedule) -> Result<Picture, AllocError>
     requires { IsSchedule (view schedule.now) }
 {

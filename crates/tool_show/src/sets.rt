@@ -1,19 +1,19 @@
-//! The set under a picture, and sets as text.
+//! Computes the set below a picture, and writes sets as text.
 use crate::MOST_KEYS_SHOWN;
 use crate::picture::{Picture, Standing, standing_at};
 use lset_words::Call;
 use std::alloc::{AllocError, Global};
 use std::collections::BTreeSet;
 
-/// The set that the changes of the first places leave.
+/// The set after the changes of the first `next` places.
 #[derive(Drop)]
 pub(crate) struct Reached {
     keys: BTreeSet<u32>,
-    /// How many places these are.
+    /// How many places have been applied.
     next: usize,
 }
 
-/// Returns the set with which a history opens.
+/// Returns the set of the opening keys.
 pub(crate) fn reached_at_first(alloc: Global, picture: &Picture) -> Result<Reached, AllocError> {
     let mut keys = BTreeSet::new(alloc);
     for key in picture.history.opening() {
@@ -35,7 +35,8 @@ fn change_set(keys: &mut BTreeSet<u32>, call: Call) -> Result<(), AllocError> {
     Ok(())
 }
 
-/// The change that a place makes, if it is not after the moment.
+/// Returns the call of a place that changes the set. `Some(None)` if the place changes nothing, `None` if it has no
+/// point or its point is after the moment.
 fn settled(standing: Standing, moment: u32) -> Option<Option<Call>> {
     let point = standing.point?;
     if moment < point.moment {
@@ -45,7 +46,7 @@ fn settled(standing: Standing, moment: u32) -> Option<Option<Call>> {
     Some(made.map(|made| made.call))
 }
 
-/// Makes the changes up to a moment.
+/// Applies the changes up to a moment.
 pub(crate) fn go_on(
     reached: &mut Reached,
     picture: &Picture,
@@ -66,7 +67,7 @@ pub(crate) fn go_on(
     Ok(())
 }
 
-/// Writes the first keys of a set, which has so many, with a separator between two, and how many more there are.
+/// Writes the first keys of a set of `count` keys, with a separator between two, and the number of further keys.
 fn put_keys(
     out: &mut String,
     separator: &str,
@@ -96,7 +97,7 @@ pub(crate) fn put_set(out: &mut String, keys: &[u32]) -> Result<(), AllocError> 
     out.push_str("}")
 }
 
-/// Returns the text of the set that was reached. It reads no more keys than are shown.
+/// Returns the text of a set. Reads no more keys than are shown.
 pub(crate) fn set_text(alloc: Global, reached: &Reached) -> Result<String, AllocError> {
     let mut first = Vec::new(alloc);
     let mut others = reached.keys.iter();
@@ -112,7 +113,7 @@ pub(crate) fn set_text(alloc: Global, reached: &Reached) -> Result<String, Alloc
     Ok(out)
 }
 
-/// Appends the line of the remaining keys, such as `keys  5 9`.
+/// Appends the line of the final keys, such as `keys  5 9`.
 pub(crate) fn put_keys_line(out: &mut String, keys: &[u32]) -> Result<(), AllocError> {
     out.push_str("keys")?;
     if !keys.is_empty() {

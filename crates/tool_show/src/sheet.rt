@@ -1,8 +1,8 @@
-//! The elements of an SVG, each on a line of its own, and where they lie. All numbers are in pixels.
+//! Writes the elements of an SVG, one on a line, and computes their positions. All numbers are in pixels.
 use crate::columns::Column;
 use std::alloc::AllocError;
 
-/// The classes of what is of a thread: the colours are used in turn.
+/// The classes that colour a thread's elements. They are used in turn.
 const THREADS: [&str; 8] = [
     "thread-0", "thread-1", "thread-2", "thread-3", "thread-4", "thread-5", "thread-6", "thread-7",
 ];
@@ -12,14 +12,14 @@ pub(crate) fn thread_class(thread: u32) -> &'static str {
     THREADS[(thread % 8) as usize]
 }
 
-/// A place on the sheet, by its distances from the left and from the top, in pixels of the SVG.
+/// A position on the sheet: the distances from the left and from the top.
 #[derive(Clone, Copy)]
 pub(crate) struct Spot {
     pub x: u64,
     pub y: u64,
 }
 
-/// Returns the distance of a moment from the left: it is after the columns of earlier moments.
+/// Returns the distance of a moment from the left: the widths of the columns of earlier moments come before.
 pub(crate) fn x_of(columns: &[Column], moment: u64) -> u64 {
     let mut x = 88u64;
     for column in columns {
@@ -30,22 +30,22 @@ pub(crate) fn x_of(columns: &[Column], moment: u64) -> u64 {
     x
 }
 
-/// Returns the distance of the columns' end from the left.
+/// Returns the distance of the right end of the columns from the left.
 pub(crate) fn right_edge(columns: &[Column]) -> u64 {
     x_of(columns, 4_294_967_296)
 }
 
-/// Returns the distance of a thread's row from the top; the row of the set is below the last one.
+/// Returns the distance of a thread's row from the top. The row of the set is one row below the last thread.
 pub(crate) fn lane_y(thread: u32) -> u64 {
     40 * u64::from(thread) + 90
 }
 
-/// Returns the distance from the top of a line of text below the rows.
+/// Returns the distance from the top of line `number` of the text below the rows.
 pub(crate) fn line_y(threads: u32, number: usize) -> u64 {
     40 * u64::from(threads) + 126 + 16 * number.min(1_000_000) as u64
 }
 
-/// Appends a text of these classes that begins at a place.
+/// Appends a text with these classes that begins at `start`.
 pub(crate) fn put_text(
     out: &mut String,
     class: &str,
@@ -60,12 +60,12 @@ pub(crate) fn put_text(
     )
 }
 
-/// Appends a text that belongs to no thread.
+/// Appends a text in the plain colour.
 pub(crate) fn put_plain(out: &mut String, x: u64, y: u64, text: &str) -> Result<(), AllocError> {
     put_text(out, "plain", "", Spot { x, y }, text)
 }
 
-/// Appends a line of a class between two places.
+/// Appends a line of a class from `start` to `end`.
 pub(crate) fn put_line(
     out: &mut String,
     class: &str,
@@ -80,7 +80,7 @@ pub(crate) fn put_line(
     )
 }
 
-/// Appends a circle of these classes around a place.
+/// Appends a circle with these classes around `centre`.
 pub(crate) fn put_circle(
     out: &mut String,
     kind: &str,

@@ -1,6 +1,7 @@
-/// The style sheet of each SVG: what the elements of each class look like. Its rules apply inside the sheet only, also if
-/// the SVG is part of a page. Readers who do not see all colours can tell the threads' colours apart, and each has a
-/// contrast of at least 4.5 to its ground; what clashes is thick as well as red.
+/// The style sheet of each SVG, by class. Its rules apply inside the SVG only, even if the SVG is part of a page.
+///
+/// The threads' colours differ for readers who do not see all colours, and each has a contrast of at least 4.5 to its
+/// ground. A clash is thick as well as red.
 pub(crate) const STYLE: &str = "\
 <style>
 .listset { color: #1b1f24 }

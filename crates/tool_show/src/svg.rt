@@ -1,4 +1,5 @@
-//! The SVG of a picture: a line for each call, a circle for each point, the set below them, and the order as text.
+//! Writes a picture as an SVG: a line for each call, a circle for each point, the set below them, and the order as
+//! text.
 use crate::clashes::is_clash;
 use crate::columns::{Drawing, Side, drawing_in, put_call};
 use crate::orders::{put_cut, put_heading, put_lines_below};
@@ -15,17 +16,17 @@ use std::alloc::{AllocError, Global};
 const LEGEND: &str =
     "filled: changes the set    open: changes nothing, its reply fits there    dashed: still open";
 
-/// How many characters at most a line of text makes the sheet wide for.
+/// The number of characters up to which a line of text widens the sheet.
 const MOST_CHARACTERS: usize = 255;
 
-/// The lines above the rows: the heading, and why the order is refused, or nothing.
+/// The lines above the rows: the heading, and why the order is refused (empty if it is not).
 #[derive(Clone, Copy)]
 struct Above<'a> {
     heading: &'a str,
     refusal: &'a str,
 }
 
-/// Adds the sheet, wide enough for the columns and for each line of text, its title, style and ground.
+/// Begins the sheet, with its title, style and ground. It is wide enough for the columns and the lines of text.
 fn put_sheet(
     out: &mut String,
     threads: u32,
@@ -51,7 +52,7 @@ fn put_sheet(
     out.push_str("<rect class=\"ground\" width=\"100%\" height=\"100%\"/>\n")
 }
 
-/// Adds the lines above the rows: the heading, why the order is refused, and which moments are drawn, if not all.
+/// Adds the lines above the rows: the heading, why the order is refused, and which moments are drawn if some are not.
 fn put_above(
     alloc: Global,
     out: &mut String,
@@ -128,7 +129,7 @@ fn put_bar(
     put_line(out, &class, Spot { x, y }, Spot { x: end, y })
 }
 
-/// Adds the call above its begin, if it begins in the window.
+/// Adds the text of a call above its begin, if it begins in the window.
 fn put_begin(
     alloc: Global,
     out: &mut String,
@@ -146,7 +147,7 @@ fn put_begin(
     put_text(out, thread_class(made.thread), clash, Spot { x, y }, &call)
 }
 
-/// Adds the reply after the end, if that is in the window.
+/// Adds the reply after the end of a call, if the end is in the window.
 fn put_end(
     alloc: Global,
     out: &mut String,
@@ -168,7 +169,7 @@ fn put_end(
     put_text(out, thread_class(thread), clash, Spot { x, y }, &text)
 }
 
-/// Adds the bars of the calls that begin or go on in the window, with those that clash marked.
+/// Adds the bars of the calls that are at least partly in the window. A call that clashes is marked.
 fn put_bars(
     alloc: Global,
     out: &mut String,
@@ -190,7 +191,8 @@ fn put_bars(
     Ok(())
 }
 
-/// Where the point of a place is, if it is drawn, its thread, and whether the set changes there.
+/// Returns the position of a place's point, its thread, and whether it changes the set; `None` if the point is unknown
+/// or not drawn.
 fn dot_of(standing: Standing, drawing: &Drawing) -> Option<(Spot, u32, bool)> {
     let (made, point) = (standing.made?, standing.point?);
     if point.moment < drawing.from || drawing.last < point.moment {
@@ -201,7 +203,7 @@ fn dot_of(standing: Standing, drawing: &Drawing) -> Option<(Spot, u32, bool)> {
     Some((Spot { x, y }, made.thread, point.change))
 }
 
-/// Adds a thin line from each point down to the set, or a circle for each.
+/// Adds a circle for each point if `circles`, otherwise a thin line from each point down to the set.
 fn put_points(
     out: &mut String,
     picture: &Picture,
@@ -226,7 +228,7 @@ fn put_points(
     Ok(())
 }
 
-/// Adds the rows: their labels, the moments and the sets, and then the thin lines, the bars, and the circles over them.
+/// Adds the rows: labels, moments and sets, then the thin lines, the bars, and the circles on top.
 fn put_rows(
     alloc: Global,
     out: &mut String,
@@ -248,14 +250,14 @@ fn put_below(out: &mut String, threads: u32, below: &str) -> Result<(), AllocErr
     Ok(())
 }
 
-/// Draws a picture as an SVG, of the moments in `window`, counted from 1; of those only the first 64 at which something
+/// Draws a picture as an SVG, with the moments in `window`, counted from 1, but only the first 64 at which something
 /// happens.
 ///
-/// If a window of all moments is not drawn whole, it begins, of a refused order, with the call that the refusal is about. A
-/// call is a line in the colour of its thread, dashed if it is pending, thick if it clashes in a refused order (`is_clash`).
-/// A point is a circle, filled if the set changes, with a thin line down to the set. Below is the order as text. The style
-/// sheet has a dark ground for readers who prefer one; nothing in it is a script or a reference to anything outside.
-/// Allocates; `AllocError` if that fails.
+/// If a window of all moments does not fit, the drawing of a refused order begins with the call that the refusal is
+/// about. A call is a line in the colour of its thread, dashed if it is pending, thick if it clashes in a refused order
+/// (`is_clash`). A point is a circle, filled if the set changes, with a thin line down to the set. The order is below
+/// as text. The style sheet has a dark ground for readers who prefer one. The SVG has no script and refers to nothing
+/// outside. Allocates; `AllocError` if that fails.
 pub(crate) fn write_svg(
     alloc: Global,
     picture: &Picture,

@@ -1,5 +1,5 @@
-//! A picture as text: a row for each thread, a bar for each call, a point where the call takes effect, the set below
-//! them, and the order.
+//! Writes a picture as text: a row for each thread, a bar for each call, a point where the call takes effect, the set
+//! below them, and the order.
 use crate::MOST_COLUMNS;
 use crate::columns::{Column, Drawing, Mark, Sign, drawing_in, end_at_last, put_signs};
 use crate::orders::{put_cut, put_heading, put_lines_below};
@@ -8,7 +8,7 @@ use crate::refusals::put_refusal;
 use lset_words::CallRecord;
 use std::alloc::{AllocError, Global};
 
-/// How many characters a row has before its cells.
+/// The number of characters before the cells of a row.
 const LABEL: usize = 10;
 
 const LEGEND: &str = "* changes the set    o changes nothing, its reply fits there    > still open";
@@ -16,7 +16,8 @@ const LEGEND: &str = "* changes the set    o changes nothing, its reply fits the
 const LEGEND_OF_CUT: &str =
     "* changes the set    o changes nothing, its reply fits there    > goes on    < began before";
 
-/// Whether the bar of a thread goes on after the signs of a moment.
+/// Decides whether the bar of a thread continues after the signs of a moment. `before` is whether it was drawn before
+/// them.
 fn goes_on(marks: &[Mark], thread: u32, before: bool) -> bool {
     let mut drawn = before;
     for mark in marks {
@@ -31,7 +32,7 @@ fn goes_on(marks: &[Mark], thread: u32, before: bool) -> bool {
     drawn
 }
 
-/// Fills what a row has from `start` on up to a width.
+/// Pads a row from `start` on to a width.
 fn fill(row: &mut String, start: usize, width: usize, with: char) -> Result<(), AllocError> {
     for _done in row.len().saturating_sub(start)..width {
         row.push(with)?;
@@ -39,8 +40,8 @@ fn fill(row: &mut String, start: usize, width: usize, with: char) -> Result<(), 
     Ok(())
 }
 
-/// Adds the cell of a thread at a column, where its bar is drawn before it or not: whether it is drawn after it. A bar that
-/// began before the first column has a start there.
+/// Appends the cell of a thread in a column, and returns whether its bar continues after the column. `before` is
+/// whether the bar was drawn before it. A bar that began before the first column is marked there.
 fn put_cell(
     row: &mut String,
     column: &Column,
@@ -58,12 +59,12 @@ fn put_cell(
     Ok(drawn)
 }
 
-/// Whether the bar of a call of the thread is drawn already before a moment.
+/// Decides whether a call of the thread began before a moment and is still drawn at it.
 fn spans(made: &CallRecord, thread: u32, moment: u32) -> bool {
     made.thread == thread && made.begun < moment && made.ended.is_none_or(|(end, _)| moment <= end)
 }
 
-/// Ends a row: it has no white space at its end.
+/// Appends a row without the white space at its end.
 fn put_row(out: &mut String, row: &str) -> Result<(), AllocError> {
     out.push_str(row.trim_end())?;
     out.push_str("\n")
@@ -112,7 +113,7 @@ fn put_sets(alloc: Global, out: &mut String, columns: &[Column]) -> Result<(), A
     put_row(out, &row)
 }
 
-/// Writes the rows: the moments, the threads and, if points are known, the set.
+/// Writes the rows: moments, threads and, if points are known, the set.
 fn put_rows(
     alloc: Global,
     out: &mut String,
@@ -133,7 +134,7 @@ fn has_longer(rows: &str, width: u32) -> bool {
     rows.lines().any(|row| row.len() > width as usize)
 }
 
-/// Whether no row of a drawing is longer than the width.
+/// Decides whether every row of a drawing fits the width.
 fn fits(
     alloc: Global,
     picture: &Picture,
@@ -141,7 +142,7 @@ fn fits(
     width: u32,
 ) -> Result<bool, AllocError> {
     let mut rows = String::new(alloc);
-    // The row of the moments is the first to be too long, in all but few pictures.
+    // The row of the moments is nearly always the longest, and writing it alone is quick.
     put_moments(alloc, &mut rows, &drawing.columns)?;
     if has_longer(&rows, width) {
         return Ok(false);
@@ -150,7 +151,7 @@ fn fits(
     Ok(!has_longer(&rows, width))
 }
 
-/// Takes columns off the end of a drawing until its rows fit the width; a first column is drawn at any width.
+/// Drops columns from the end of a drawing until its rows fit the width. At least one column remains.
 fn fit(
     alloc: Global,
     picture: &Picture,
@@ -167,7 +168,7 @@ fn fit(
     Ok(())
 }
 
-/// What is drawn in a window in rows that fit the width.
+/// Computes the drawing of a window whose rows fit the width.
 fn fitted(
     alloc: Global,
     picture: &Picture,
@@ -183,7 +184,7 @@ fn fitted(
     Ok(drawing)
 }
 
-/// Writes which moments are drawn, if not all, and the rows; of a history without calls nothing.
+/// Writes the rows, and above them which moments are drawn if some are not. Writes nothing for a history without calls.
 fn put_drawn_rows(
     alloc: Global,
     out: &mut String,
@@ -203,10 +204,10 @@ fn put_drawn_rows(
 
 /// Draws a picture as text: a row for each thread, with a bar for each call and its point; the set; and the order.
 ///
-/// It draws the moments, counted from 1, from `window.from` to `window.to`: of those only the first 64 at which something
-/// happens, and only as many as let each row have at most `width` characters, but at least one. If a window of all moments
-/// is not drawn whole, it begins, of a refused order, with the call that the refusal is about. Allocates; `AllocError` if
-/// that fails. (The picture with bars and points is Herlihy and Wing's.)
+/// The moments are those from `window.from` to `window.to`, counted from 1, but only the first 64 at which something
+/// happens, and only as many as fit in rows of `width` characters, at least one. If a window of all moments does not
+/// fit, the drawing of a refused order begins with the call that the refusal is about. Allocates; `AllocError` if that
+/// fails. (The picture with bars and points is Herlihy and Wing's.)
 pub(crate) fn write_picture(
     alloc: Global,
     picture: &Picture,

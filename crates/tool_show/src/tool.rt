@@ -11,24 +11,24 @@ use lset_schedule::read_schedule;
 use std::alloc::Global;
 use tool_base::{Answer, Trouble, ValueName};
 
-/// The first line of a report's text of version 1.
+/// The first line of a report of version 1.
 const TITLE_ONE: &[u8] = b"listset-report 1\n";
 
-/// The first line of a report's text of version 2.
+/// The first line of a report of version 2.
 const TITLE_TWO: &[u8] = b"listset-report 2\n";
 
-/// What `show` draws of a text, and how.
+/// The options of `show`.
 #[derive(Clone, Copy)]
 pub struct Show {
-    /// As text or as an SVG.
+    /// Text or SVG.
     pub form: Form,
-    /// The moments that are drawn.
+    /// The moments to draw.
     pub window: Window,
-    /// The broken list that runs the schedule, or the list that the schedule names.
+    /// The broken list that runs the schedule; `None` for the list that the schedule names.
     pub lacks: Option<BrokenList>,
 }
 
-/// 1 if the picture states a refusal, of an order or of an event, else 0.
+/// Returns 1 if the picture states a refusal, of an order or of an event, otherwise 0.
 fn status_of(picture: &Picture) -> u8 {
     if picture.refusal.is_none() && picture.refused.is_none() {
         0
@@ -38,9 +38,11 @@ fn status_of(picture: &Picture) -> u8 {
 }
 
 impl Show {
-    /// Returns the picture of the schedule or the report whose text the bytes are, or of the report of the schedule's run on the
-    /// broken list. Allocates. The error is `Line` with the first error of `read_report` in a text with the first line of a report,
-    /// of either version, of `read_schedule` in any other, and of `report_broken` for a broken list; or `Memory`.
+    /// Reads a schedule or a report, and returns its picture. With a broken list the text must be a schedule, and the
+    /// picture is that of the report of its run on that list. Allocates.
+    ///
+    /// The error is `Line` with the first error of `report_broken` for a broken list, of `read_report` for a text whose
+    /// first line is that of a report, and of `read_schedule` for any other; or `Memory`.
     pub fn picture(self, alloc: Global, bytes: &[u8]) -> Result<Picture, Trouble> {
         if let Some(broken) = self.lacks {
             let report = report_broken(alloc, broken, bytes)?;
@@ -54,8 +56,9 @@ impl Show {
         Ok(picture_of_replay(alloc, &schedule)?)
     }
 
-    /// Draws a picture, of the moments in the window. The status is 1 if it states a refusal, of an order or of an event, else 0.
-    /// Allocates. The error is `Bad(From)` if the window begins past the last moment at which something happens, or `Memory`.
+    /// Draws the moments of a picture that are in the window. The status is 1 if the picture states a refusal, of an
+    /// order or of an event, otherwise 0. Allocates. The error is `Bad(From)` if the window begins after the last
+    /// moment at which something happens, or `Memory`.
     pub fn draw(self, alloc: Global, picture: &Picture) -> Result<Answer, Trouble> {
         if is_past_the_last(picture, self.window.from) {
             return Err(Trouble::Bad(ValueName::From));

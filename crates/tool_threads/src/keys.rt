@@ -1,4 +1,4 @@
-//! The keys of a set, as the lines of a text.
+//! Reads and writes the keys of a set as lines `key K`.
 
 use lset_text::{Cause, LineFault, cut, is_above, number};
 use lset_words::MOST_OPENING;
@@ -12,14 +12,14 @@ pub(crate) fn put_keys(out: &mut String, keys: &[u32]) -> Result<(), AllocError>
     Ok(())
 }
 
-/// What is left of a text, and the number of its first line.
+/// The remaining lines of an input, and the number of the first of them.
 #[derive(Clone, Copy)]
 struct Remaining<'a> {
     line: u64,
     text: &'a [u8],
 }
 
-/// What a line has after the word, if that is one further field.
+/// Returns the second field of a line if the line has exactly two fields and the first is `word`.
 fn piece_after<'a>(line: &'a [u8], word: &[u8]) -> Option<&'a [u8]> {
     let (first, piece) = cut(line, b' ')?;
     if first != word {
@@ -32,7 +32,7 @@ fn piece_after<'a>(line: &'a [u8], word: &[u8]) -> Option<&'a [u8]> {
 }
 
 impl<'a> Remaining<'a> {
-    /// The text without its first line, if that is the word and one further field; else the text.
+    /// Drops the first line if it is `word` and one more field.
     fn without(self, word: &[u8]) -> Remaining<'a> {
         match cut(self.text, b'\n') {
             Some((first, rest)) if piece_after(first, word).is_some() => Remaining {
@@ -44,7 +44,7 @@ impl<'a> Remaining<'a> {
     }
 }
 
-/// What comes after the lines that a server prints before its keys, as far as they are there.
+/// Skips the lines that a server prints before its keys. Each of them is optional.
 fn after_head(text: &[u8]) -> Remaining<'_> {
     let whole = Remaining { line: 1, text };
     whole
@@ -53,13 +53,13 @@ fn after_head(text: &[u8]) -> Remaining<'_> {
         .without(b"calls")
 }
 
-/// The key in a line.
+/// Returns the key in a line `key K`.
 fn key_of_line(line: &[u8]) -> Result<u32, Cause> {
     let piece = piece_after(line, b"key").ok_or(Cause::Line)?;
     number(piece, 0, u32::MAX).ok_or(Cause::Number)
 }
 
-/// Puts the key of a line behind these keys.
+/// Appends the key in a line `key K`.
 fn add_key(keys: &mut Vec<u32>, line: &[u8]) -> Result<(), Cause> {
     let key = key_of_line(line)?;
     if keys.len() >= MOST_OPENING as usize {
@@ -72,7 +72,7 @@ fn add_key(keys: &mut Vec<u32>, line: &[u8]) -> Result<(), Cause> {
     Ok(())
 }
 
-/// The keys of the lines that are left, all of them lines of keys.
+/// Reads the remaining lines, each of which must be `key K`.
 fn keys_of_lines(alloc: Global, left: Remaining<'_>) -> Result<Vec<u32>, LineFault> {
     let mut keys = Vec::new(alloc);
     let mut line = left.line;
@@ -87,19 +87,19 @@ fn keys_of_lines(alloc: Global, left: Remaining<'_>) -> Result<Vec<u32>, LineFau
     Ok(keys)
 }
 
-/// Reads the keys with which a set opens: lines `key K`, each K above the one before. Allocates.
+/// Reads the opening keys of a set: lines `key K`, in strictly increasing order. Allocates.
 ///
-/// The lines that a server prints before its keys, `listening A`, `sessions N` and `calls N`, may come first, each or not,
-/// in this order, whatever A and N are. So what one server printed opens the next.
+/// The lines that a server prints before its keys are skipped: `listening A`, `sessions N` and `calls N`, in this
+/// order, each optional, with any A and N. Therefore the output of one server is an input for the next.
 ///
 /// # Errors
 ///
-/// The first line that is refused, with the first check that it fails:
+/// The first refused line, with the first check that it fails:
 /// - it has bytes and no newline;
-/// - `Line`: it is not `key` and one further field;
+/// - `Line`: it is not `key` and one more field;
 /// - `Number`: the key is not a decimal from 0 to 4,294,967,295 without leading zeros;
-/// - `TooMany`: there are `MOST_OPENING` keys above it;
-/// - `Opening`: the key is not above the one before;
+/// - `TooMany`: `MOST_OPENING` keys come before it;
+/// - `Opening`: the key is not above the previous key;
 /// - `Memory`: an allocation failed.
 pub fn read_keys(alloc: Global, text: &[u8]) -> Result<Vec<u32>, LineFault> {
     keys_of_lines(alloc, after_head(text))

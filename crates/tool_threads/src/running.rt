@@ -15,7 +15,7 @@ use std::sync::Wait;
 use std::thread::Threads;
 use tool_base::{Answer, LivesRequest, RandomRequest, Trouble, deliver, read_lives_request};
 
-/// How many calls were made, and how many of them returned true, false and full.
+/// The number of calls, and how many of them returned true, false and full.
 #[derive(Clone, Copy)]
 struct Counts {
     calls: u64,
@@ -25,7 +25,7 @@ struct Counts {
 }
 
 impl Counts {
-    /// Counts one call more.
+    /// Counts a call with this reply. Replies of `ceiling` count as calls only.
     fn add(&mut self, reply: Reply) {
         self.calls = self.calls.wrapping_add(1);
         match reply {
@@ -37,8 +37,8 @@ impl Counts {
     }
 }
 
-/// Runs the programs of a round in threads, on a set of the list `M`, which must be that of the request, and which opens with
-/// these keys. `SystemCause::Opening` if they are more than 1,048,576.
+/// Runs the programs of one round in threads, on a set of the list `M` that opens with the keys `opening`. `M` must be
+/// the list that the request names. `SystemCause::Opening` if there are more than 1,048,576 keys.
 fn run_round<M: Running + Send + Sync, R: Threads + Wait + Sync>(
     rt: &R,
     alloc: Global,
@@ -60,7 +60,7 @@ fn run_round<M: Running + Send + Sync, R: Threads + Wait + Sync>(
     }
 }
 
-/// The counts, the number of keys, and each key.
+/// Returns the lines of the counts, the number of keys, and a line for each key.
 fn summary_text(alloc: Global, counts: Counts, keys: &[u32]) -> Result<Vec<u8>, AllocError> {
     let mut out = String::new(alloc);
     writeln!(
@@ -73,7 +73,7 @@ fn summary_text(alloc: Global, counts: Counts, keys: &[u32]) -> Result<Vec<u8>, 
     Ok(out.into_bytes())
 }
 
-/// Runs the rounds on sets of the list `M`, which is that of the request. The first set opens empty.
+/// Runs all rounds, on sets of the list `M`, which must be the list that the request names. The first set opens empty.
 fn run_rounds<M: Running + Send + Sync, R: Threads + Wait + Sync>(
     rt: &R,
     alloc: Global,
@@ -103,12 +103,12 @@ fn run_rounds<M: Running + Send + Sync, R: Threads + Wait + Sync>(
     Ok(summary_text(alloc, counts, &keys)?)
 }
 
-/// Runs random programs in threads, in rounds on one set after another. The answer says what came of them, with status 0.
+/// Runs random programs in threads, in rounds, each on a set of its own. The answer has status 0.
 ///
-/// Round `i`, from 0, runs its programs at the same time on one set. They are drawn from the wrapping sum of the seed and
-/// `64 * i`. The first set opens empty, each other one with the keys that the round before left. The text has the lines
-/// `calls N`, `true N`, `false N`, `full N`, `keys N` and each key (`key k`) that the last round left, in increasing order.
-/// Allocates, and blocks until its threads have ended.
+/// Round `i`, from 0, runs its programs at the same time on one set. The programs are drawn with the seed plus `64 *
+/// i`, with wrapping. The first set opens empty, every other one with the final keys of the previous round. The text
+/// has the lines `calls N`, `true N`, `false N`, `full N`, `keys N` and, in increasing order, `key k` for each final
+/// key of the last round. Allocates, and blocks until its threads have ended.
 pub fn run_lives<R: Threads + Wait + Sync>(
     rt: &R,
     alloc: Global,
@@ -127,10 +127,13 @@ pub fn run_lives<R: Threads + Wait + Sync>(
     })
 }
 
-/// Does what `run` does on these values, which are those of `read_lives_request`: writes the answer of `run_lives` to
-/// `output`, and returns the exit status. It is 0 if that was written. Else one line on `faults` says why, if it can be
-/// written: 2 for the first argument that is missing or wrong, 3 if an allocation failed, 1 for anything else, such as a
-/// round that would open with more than 1,048,576 keys. Allocates, and blocks until its threads have ended.
+/// Implements the command `run`: writes the answer of `run_lives` to `output` and returns the exit status. `values` are
+/// the arguments, as `read_lives_request` reads them.
+///
+/// The status is 0 if the answer was written. Otherwise one line on `faults` names the error, if that line can be
+/// written, and the status is 2 for the first missing or wrong argument, 3 if an allocation failed, and 1 for any other
+/// error, such as a round that would open with more than 1,048,576 keys. Allocates, and blocks until its threads have
+/// ended.
 pub fn tool_run<R: Threads + Wait + Sync, W: Write, F: Write>(
     rt: &R,
     alloc: Global,

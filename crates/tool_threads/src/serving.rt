@@ -16,7 +16,7 @@ use std::thread::Threads;
 use std::time::Clock;
 use tool_base::{Answer, Input, ServeRequest, Trouble, put, read_all};
 
-/// The lines that a server prints at its end: how many sessions it served and how many calls it made, and each remaining key.
+/// Returns the lines that a server prints at its end: the number of sessions, the number of calls, and each final key.
 fn served_text(alloc: Global, served: &Served) -> Result<Vec<u8>, AllocError> {
     let mut out = String::new(alloc);
     let (sessions, calls) = (served.sessions, served.calls);
@@ -25,7 +25,7 @@ fn served_text(alloc: Global, served: &Served) -> Result<Vec<u8>, AllocError> {
     Ok(out.into_bytes())
 }
 
-/// Writes the line that names the port, whole and at once.
+/// Writes the line `listening 127.0.0.1:PORT` and flushes it.
 fn announce<W: Write>(alloc: Global, output: &mut W, port: u16) -> Result<(), Trouble> {
     let line = format!(in alloc; "listening 127.0.0.1:{port}\n")?;
     if put(output, line.as_bytes()) && output.flush().is_ok() {
@@ -35,7 +35,7 @@ fn announce<W: Write>(alloc: Global, output: &mut W, port: u16) -> Result<(), Tr
     }
 }
 
-/// Listens on the port of the loopback, and says so.
+/// Listens on a port of the loopback, and announces the port on `output`.
 fn listen<R: Net<Listener = TcpListener, Stream = TcpStream>, W: Write>(
     rt: &R,
     alloc: Global,
@@ -52,7 +52,8 @@ fn listen<R: Net<Listener = TcpListener, Stream = TcpStream>, W: Write>(
     Ok(listener)
 }
 
-/// Opens a set of the list `M`, which is that of the request, with these keys, listens, says so, and serves.
+/// Opens a set of the list `M` with the keys `keys`, listens, announces the port, and serves. `M` must be the list that
+/// the request names.
 fn serve_list<
     M: Running + Send + Sync,
     R: Net<Listener = TcpListener, Stream = TcpStream> + Threads + Wait + Clock + Sync,
@@ -77,12 +78,15 @@ fn serve_list<
     }
 }
 
-/// Serves a set, which opens with these keys, on the loopback. The answer has the lines `sessions N`, `calls N` and each
-/// remaining key (`key k`), in increasing order, with status 0.
+/// Serves a set on the loopback. The set opens with the keys `keys`. The answer has status 0 and the lines `sessions
+/// N`, `calls N` and, in increasing order, `key k` for each final key.
 ///
-/// It opens the set, listens, writes `listening 127.0.0.1:P` to `output`, flushes it, and only then starts its threads and
-/// accepts: if a thread is refused, that line is written. Allocates, and blocks until its connections have ended. (The list is
-/// chosen by a `match` of its own, since the tasks of `lset_lists::on_list` are for machines, and not for running sets.)
+/// The server opens the set, listens, writes `listening 127.0.0.1:P` to `output` and flushes it. Only then does it
+/// start its threads and accept connections, so the line is written even if a thread cannot be started. Allocates, and
+/// blocks until its connections have ended.
+///
+/// The list is chosen by a `match` here, since the tasks of `lset_lists::on_list` are for machines and not for running
+/// sets.
 pub fn serve_set<
     R: Net<Listener = TcpListener, Stream = TcpStream> + Threads + Wait + Clock + Sync,
     W: Write,
@@ -102,8 +106,8 @@ pub fn serve_set<
     }
 }
 
-/// Serves as `serve_set` does, a set that opens with the keys of the input, as `read_keys` reads them: what a server has
-/// printed opens the next set. It is read to its end before the set opens. The server keeps nothing.
+/// Serves a set that opens with the keys in `input`, which is read to its end first. The keys have the format of
+/// `read_keys`, so the output of one server opens the next. The server stores nothing.
 pub fn serve_set_of<
     R: Net<Listener = TcpListener, Stream = TcpStream> + Threads + Wait + Clock + Sync,
     I: Read,

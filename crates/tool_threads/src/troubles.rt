@@ -3,7 +3,7 @@ use lset_server::ServeCause;
 use lset_work::WorkCause;
 use tool_base::{SystemCause, Trouble, ValueName};
 
-/// The error of a set that is not opened. Its seats and quota were read, so they are within the limits.
+/// Maps the error of `open_with`. Seats and quota were read from arguments, so they are within the limits.
 pub(crate) fn opening_trouble(fault: OpenFault) -> Trouble {
     match fault {
         OpenFault::Seats => Trouble::Bad(ValueName::Threads),
@@ -13,7 +13,7 @@ pub(crate) fn opening_trouble(fault: OpenFault) -> Trouble {
     }
 }
 
-/// The error of programs that were not run to their ends.
+/// Maps the error of `work`.
 pub(crate) fn work_trouble(cause: WorkCause) -> Trouble {
     match cause {
         WorkCause::Programs => Trouble::Work(SystemCause::Programs),
@@ -23,7 +23,7 @@ pub(crate) fn work_trouble(cause: WorkCause) -> Trouble {
     }
 }
 
-/// The error of sessions that were not served to their ends.
+/// Maps the error of `serve`.
 pub(crate) fn serve_trouble(cause: ServeCause) -> Trouble {
     match cause {
         ServeCause::Seats => Trouble::Serve(SystemCause::Seats),

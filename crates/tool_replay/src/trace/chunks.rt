@@ -1,17 +1,18 @@
-//! A piece of a text that is being written, with room for the longest line of an event and more: it does not allocate.
+//! A buffer of fixed size for the trace. It is larger than the longest line of an event, so writing to it does not
+//! allocate.
 use arrayvec::ArrayString;
 use itoa::Buffer;
 
-/// The bytes of a chunk.
+/// The size of a chunk, in bytes.
 const ROOM: usize = 16_384;
 
-/// More bytes than the line of an event has, or a key of a chain.
+/// An upper bound for the bytes of an event's line, and for the bytes of one key in the line of a chain.
 const MOST_OF_LINE: usize = 1_024;
 
-/// A piece of a text.
+/// The part of a trace that is not yet passed to its sink.
 pub(crate) type Chunk = ArrayString<ROOM>;
 
-/// Whether a chunk has no space for a further line.
+/// Decides whether a chunk has too little space for one more line.
 pub(crate) fn is_full(chunk: &Chunk) -> bool {
     ROOM - MOST_OF_LINE < chunk.as_str().len()
 }

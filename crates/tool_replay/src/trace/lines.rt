@@ -1,4 +1,4 @@
-//! The text of a trace as it is made, and where it goes.
+//! Builds the text of a trace and passes it to a sink.
 
 use crate::trace::chunks::{Chunk, is_full, put, put_number};
 use crate::trace::events::put_event;
@@ -13,20 +13,20 @@ use tool_base::{Trouble, put as put_out};
 /// Line 1 of a trace.
 const TITLE: &str = "listset-trace 1";
 
-/// Where a text goes, piece by piece.
+/// A destination for text that arrives in pieces.
 pub trait Sink {
-    /// Takes the next piece.
+    /// Appends a piece of the text.
     fn take(&mut self, text: &str) -> Result<(), Trouble>;
 }
 
-/// A text in memory.
+/// A sink that collects the text in memory.
 impl Sink for Vec<u8> {
     fn take(&mut self, text: &str) -> Result<(), Trouble> {
         Ok(self.extend_from_slice(text.as_bytes())?)
     }
 }
 
-/// What is written to an output.
+/// A sink that writes the text to an output.
 #[derive(Drop)]
 pub(crate) struct Output<'a, W> {
     pub output: &'a mut W,
@@ -42,8 +42,8 @@ impl<W: Write> Sink for Output<'_, W> {
     }
 }
 
-/// Returns what a trace has before its first event: its header, in which a check that the list lacks comes after it, and the
-/// keys with which the set opens, which are the first chain.
+/// Returns the text of a trace before its first event: the header, with a line `lacks NAME` after the list if `lacks`
+/// names a check, and the opening keys, which are the first chain.
 pub(crate) fn head_of(
     alloc: Global,
     schedule: &Schedule,
@@ -61,7 +61,7 @@ pub(crate) fn head_of(
     Ok(head)
 }
 
-/// The lines of a trace, of which full chunks have gone to a sink.
+/// A trace that is being written. Full chunks have been passed to the sink.
 #[derive(Drop)]
 pub struct Lines<'a, S> {
     chunk: Chunk,
@@ -69,7 +69,7 @@ pub struct Lines<'a, S> {
 }
 
 impl<S: Sink> Lines<'_, S> {
-    /// Before the first event.
+    /// Starts a trace, before its first event.
     pub fn to(sink: &mut S) -> Lines<'_, S> {
         Lines {
             chunk: Chunk::new(),
@@ -77,7 +77,7 @@ impl<S: Sink> Lines<'_, S> {
         }
     }
 
-    /// Adds the lines of an event.
+    /// Appends the line of an event and, if the event has a chain, the line of the chain.
     #[inline(always)]
     pub fn add(&mut self, event: &TracedEvent) -> Result<(), Trouble> {
         self.pour_full()?;
@@ -88,7 +88,7 @@ impl<S: Sink> Lines<'_, S> {
         }
     }
 
-    /// Adds the last line: the trace ends with all events, or at an event, by the number of its line and the word for the
+    /// Appends the last line: `end` or, if an event could not be made, the number of its line and the name of the
     /// cause.
     pub fn end(&mut self, refused: Option<(u64, &str)>) -> Result<(), Trouble> {
         self.pour_full()?;
@@ -118,7 +118,7 @@ impl<S: Sink> Lines<'_, S> {
         Ok(())
     }
 
-    /// Adds the line of a chain, each of whose nodes that is marked has a star.
+    /// Appends the line of a chain. A marked node has a star.
     fn add_chain(&mut self, chain: &[ChainKey]) -> Result<(), Trouble> {
         put(&mut self.chunk, "chain");
         for place in chain {

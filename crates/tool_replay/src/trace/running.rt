@@ -1,4 +1,4 @@
-//! The run of a schedule, told into memory or onto an output.
+//! Runs a schedule and writes its trace to a sink.
 
 ghost use Rattle.lset_schedule.specs.Plan.{IsSchedule, view};
 
@@ -17,7 +17,8 @@ use lset_words::Kind;
 use std::alloc::Global;
 use tool_base::Trouble;
 
-/// Traces a run from its first event on, and returns the status: 1 if it ends at an event that cannot be made, else 0.
+/// Traces a run from its first event on, and returns the status: 1 if an event cannot be made, which ends the trace,
+/// otherwise 0.
 fn trace<W: Steps + Drop, S: Sink>(
     schedule: &Schedule,
     run: Run<W>,
@@ -57,7 +58,8 @@ fn trace_on<M: Machine, S: Sink>(
     trace(schedule, run, sink)
 }
 
-/// Traces a schedule on the list that it names. (A task of `on_list` cannot hold the sink.)
+/// Traces a schedule on the list that it names. The list is chosen by a `match` here, since a task of `on_list` cannot
+/// hold the sink.
 fn trace_named<S: Sink>(
     alloc: Global,
     schedule: &Schedule,
@@ -75,8 +77,8 @@ fn trace_named<S: Sink>(
     }
 }
 
-/// Traces the schedule whose text this is into the sink, and returns the status: 1 if the run ends at an event that it cannot
-/// make, else 0.
+/// Reads a schedule from `text`, traces it into the sink, and returns the status: 1 if an event cannot be made, which
+/// ends the trace, otherwise 0.
 pub(crate) fn trace_into<S: Sink>(
     alloc: Global,
     options: Trace,

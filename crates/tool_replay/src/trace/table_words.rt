@@ -1,10 +1,10 @@
-//! The words of a list's table as text: three of the list, and three of each node.
+//! Writes the words of a list: three of the list itself, and three of each node.
 use crate::trace::chunks::{Chunk, put, put_number};
 
 /// The key word of the tail.
 const ABOVE_ALL_KEYS: u64 = 4_294_967_297;
 
-/// A word of a list's table: one of the three of the list, or one of the three of the node with this number.
+/// A word of a list: one of the three of the list itself, or one of the three of the node with this number.
 #[derive(Clone, Copy)]
 pub(crate) enum TableWord {
     ListLock,
@@ -16,7 +16,7 @@ pub(crate) enum TableWord {
 }
 
 impl TableWord {
-    /// Returns the word with this index in the table. Every index has one, also past the end of a table.
+    /// Returns the word at `index`. Every index has a word, even past the end of the table.
     pub fn at(index: u64) -> TableWord {
         let Some(past) = index.checked_sub(3) else {
             return match index {
@@ -84,7 +84,8 @@ pub(crate) fn put_name(out: &mut Chunk, word: TableWord) {
     put(out, field);
 }
 
-/// Appends a value of a word: of a link the next node, with a star if it is marked.
+/// Appends the value of a word, in the notation of the word. A link is written as the next node, with a star if it is
+/// marked.
 pub(crate) fn put_value(out: &mut Chunk, word: TableWord, value: u64) {
     match word {
         TableWord::Key(_) => put_key(out, value),

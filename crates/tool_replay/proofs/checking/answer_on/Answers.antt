@@ -1,7 +1,7 @@
 use Rattle.std.proofs.Common.{Some, sym, refl}
 use Rattle.tool_replay.proofs.checking.answer_on.Goals as goal
 
--- what `check_order` named is the first fault, and the line tells it
+-- `check_order` returned the first fault of the order, and the line names this fault
 pub returns-in_ok-refusal_text-in-Err-clause-judged :
     goal.returns-in_ok-refusal_text-in-Err-clause-judged
 returns-in_ok-refusal_text-in-Err-clause-judged c =

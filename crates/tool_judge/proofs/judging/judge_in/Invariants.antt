@@ -1,7 +1,7 @@
 use Rattle.std.proofs.Common.{ℕ, List}
 use Rattle.std.specs.Io.KnownBytes.{Consumes}
 use Rattle.lset_recording.specs.Kept.{IsRead}
-use Rattle.tool_judge.proofs.judging.judge_input.Given as goal
+use Rattle.tool_judge.proofs.judging.judge_in.Given as goal
 
 abbrev pub invariant-loop : goal.invariant-loop
 invariant-loop g l =

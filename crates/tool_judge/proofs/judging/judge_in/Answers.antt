@@ -5,7 +5,7 @@ use Rattle.std.proofs.lemmas.Result.{err_from_is_err_and}
 use Rattle.tool_base.specs.Tools.{view}
 use Rattle.tool_judge.specs.Judging.{Judges}
 use Rattle.tool_judge.proofs.AnswerOfBytes.{of_fault, if_read}
-use Rattle.tool_judge.proofs.judging.judge_input.Goals as goal
+use Rattle.tool_judge.proofs.judging.judge_in.Goals as goal
 
 pub loop-init : goal.loop-init
 loop-init g c = ([], Consumes-nil _, c.new-reader.ensures)

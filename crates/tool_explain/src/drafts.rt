@@ -1,0 +1,101 @@
+//! The next steps of a thread: drafts and traces of the lines before an error.
+
+use crate::events::thread_text;
+use crate::kinds::Place;
+use crate::lined::{Lines, field_or_empty, number_at};
+use std::alloc::{AllocError, Global};
+use tool_base::{Tool, answer_text};
+use tool_replay::{Expand, Trace};
+
+/// Returns a text with a title, the lines from 2 to before the place, and a line `go` of the place's thread if `last` has one.
+fn text_up_to(
+    alloc: Global,
+    title: &[u8],
+    lines: &Lines<'_>,
+    place: Place<'_>,
+    last: &str,
+) -> Result<Vec<u8>, AllocError> {
+    let mut text = Vec::from_slice(alloc, title)?;
+    for number in 2..place.number {
+        text.extend_from_slice(lines.line(number))?;
+        text.extend_from_slice(b"\n")?;
+    }
+    if !last.is_empty() {
+        let thread = thread_text(place.line);
+        let line = format!(in alloc; "go {thread} {last}\n")?;
+        text.extend_from_slice(line.as_bytes())?;
+    }
+    Ok(text)
+}
+
+/// Returns a tool's answer on a text. `None` if the answer is an error.
+fn answer_on<T: Tool>(alloc: Global, tool: &T, text: &[u8]) -> Option<Vec<u8>> {
+    match answer_text(alloc, tool, text) {
+        Ok(answer) => Some(answer.text),
+        Err(_) => None,
+    }
+}
+
+/// Returns the number of steps after which the pending call of the place's thread ends. `None` if the thread has no pending
+/// call, or does not end it alone.
+pub(crate) fn steps_out(
+    alloc: Global,
+    lines: &Lines<'_>,
+    place: Place<'_>,
+) -> Result<Option<u32>, AllocError> {
+    let draft = text_up_to(alloc, b"listset-draft 2\n", lines, place, "out")?;
+    let Some(schedule) = answer_on(alloc, &Expand {}, &draft) else {
+        return Ok(None);
+    };
+    let made = Lines::of(alloc, &schedule)?;
+    Ok(number_at(made.line(made.count()), 2))
+}
+
+/// Explains a line of a draft whose thread does not reach its row: the thread waits for a lock, or its call ends before.
+pub(crate) fn put_lock(
+    alloc: Global,
+    out: &mut String,
+    lines: &Lines<'_>,
+    place: Place<'_>,
+) -> Result<(), AllocError> {
+    let thread = thread_text(place.line);
+    let draft = text_up_to(alloc, b"listset-draft 2\n", lines, place, "")?;
+    if let Some(mut schedule) = answer_on(alloc, &Expand {}, &draft) {
+        let line = format!(in alloc; "go {thread} 10000\n")?;
+        schedule.extend_from_slice(line.as_bytes())?;
+        let trace = Trace {
+            chains: false,
+            lacks: None,
+        };
+        if let Some(trace) = answer_on(alloc, &trace, &schedule) {
+            return put_last_step(alloc, out, &trace, thread);
+        }
+    }
+    writeln!(
+        out,
+        "Thread {thread} does not get there within 10000 steps. Another thread can hold a lock that it waits for."
+    )
+}
+
+/// Explains the last step of a trace: an attempt to take a lock that another thread holds, or the end of the call.
+fn put_last_step(
+    alloc: Global,
+    out: &mut String,
+    trace: &[u8],
+    thread: &str,
+) -> Result<(), AllocError> {
+    let lines = Lines::of(alloc, trace)?;
+    let step = lines.line(lines.count().saturating_sub(1));
+    let word = str::from_utf8(field_or_empty(step, 7)).unwrap_or("a lock");
+    let seen = str::from_utf8(field_or_empty(step, 13)).unwrap_or("");
+    match seen.strip_prefix('t') {
+        Some(holder) if field_or_empty(step, 6) == b"exchange".as_slice() => writeln!(
+            out,
+            "Thread {thread} waits for {word}, which thread {holder} holds. Let thread {holder} release it first, by a line above this one."
+        ),
+        _ => writeln!(
+            out,
+            "Thread {thread}'s call ends, or continues for 10000 steps, and does not come to that row. The command trace shows its rows."
+        ),
+    }
+}

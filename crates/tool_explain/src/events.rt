@@ -1,0 +1,143 @@
+//! Errors in the events of a schedule or of a draft.
+
+use crate::drafts::{put_lock, steps_out};
+use crate::kinds::{Place, TextKind};
+use crate::lined::{Lines, count_fields, field, field_or_empty, number_at, put_quoted};
+use crate::written::{put_no_call, put_number};
+use lset_text::Cause;
+use std::alloc::{AllocError, Global};
+
+const CALLS: &str = "add, remove, contains and, in version 2, ceiling";
+
+/// Explains a line of an event that is wrong.
+pub(crate) fn put_event(
+    alloc: Global,
+    out: &mut String,
+    lines: &Lines<'_>,
+    place: Place<'_>,
+    cause: Cause,
+) -> Result<(), AllocError> {
+    match cause {
+        Cause::Event => put_form(out, lines, place),
+        Cause::Number => put_event_number(out, place),
+        Cause::NoThread => put_no_thread(out, lines, place),
+        Cause::Busy => put_busy(out, lines, place),
+        Cause::Idle => put_idle(alloc, out, lines, place),
+        Cause::Waits => put_lock(alloc, out, lines, place),
+        _ => out.push_str(
+            "Up to this line there are more than 1000000 events, or more than 1048576 opening keys. Make the schedule shorter.\n",
+        ),
+    }
+}
+
+/// Explains a line that does not have the form of an event.
+fn put_form(out: &mut String, lines: &Lines<'_>, place: Place<'_>) -> Result<(), AllocError> {
+    let line = place.line;
+    let is_first = lines.line(1) == b"listset-schedule 1".as_slice();
+    match (field_or_empty(line, 0), count_fields(line)) {
+        (b"begin", 4) if field_or_empty(line, 2) == b"ceiling".as_slice() => out.push_str(
+            "The call ceiling needs version 2: make line 1 'listset-schedule 2'.\n",
+        ),
+        (b"begin", 4) => {
+            if !put_no_call(out, place, 2, CALLS)? {
+                out.push_str("Expected 'begin THREAD CALL KEY'.\n")?;
+            }
+            Ok(())
+        }
+        (b"begin", _) => out.push_str(
+            "A begin has four fields: begin THREAD CALL KEY, as in 'begin 0 add 5'.\n",
+        ),
+        (b"go", _) => out.push_str("A go has three fields: go THREAD STEPS, as in 'go 0 7'.\n"),
+        (b"opening", 2) if is_first => {
+            out.push_str("Opening keys need version 2: make line 1 'listset-schedule 2'.\n")
+        }
+        (b"opening", 2) => out.push_str(
+            "Opening keys come before the first event: move the line up, below line 4.\n",
+        ),
+        _ => {
+            put_quoted(out, field_or_empty(line, 0))?;
+            out.push_str(
+                " begins no event. An event is 'begin THREAD CALL KEY' or 'go THREAD STEPS'.\n",
+            )
+        }
+    }
+}
+
+/// Explains an event with a number that is wrong, or a line of a draft in a schedule.
+fn put_event_number(out: &mut String, place: Place<'_>) -> Result<(), AllocError> {
+    let (line, file) = (place.line, place.file);
+    let is_stop = matches!(field_or_empty(line, 2), b"out" | b"to");
+    match field_or_empty(line, 0) {
+        b"go" if is_stop && place.kind == TextKind::Schedule => writeln!(
+            out,
+            "This is a line of a draft. Make line 1 'listset-draft 2', then: listset draft {file} | listset replay"
+        ),
+        _ => put_number(out, place),
+    }
+}
+
+/// Explains an event of a thread that does not exist.
+fn put_no_thread(out: &mut String, lines: &Lines<'_>, place: Place<'_>) -> Result<(), AllocError> {
+    let count = number_at(lines.line(3), 1).unwrap_or(1);
+    let last = count.saturating_sub(1);
+    out.push_str("There is no thread ")?;
+    out.push_str(thread_text(place.line))?;
+    writeln!(
+        out,
+        ": line 3 has 'threads {count}', and threads are numbered from 0 to {last}. Raise the number in line 3, or name another thread."
+    )
+}
+
+/// Returns the number of the last line before a place that begins a call of the place's thread.
+fn begun_before(lines: &Lines<'_>, place: Place<'_>) -> Option<usize> {
+    let thread = number_at(place.line, 1)?;
+    lines.last_before(place.number, |line| {
+        field(line, 0) == Some(b"begin".as_slice()) && number_at(line, 1) == Some(thread)
+    })
+}
+
+/// Returns the thread of an event, as the line spells it.
+pub(crate) fn thread_text(line: &[u8]) -> &str {
+    match str::from_utf8(field_or_empty(line, 1)) {
+        Ok(text) => text,
+        Err(_) => "?",
+    }
+}
+
+/// Explains a begin of a thread that has a pending call.
+fn put_busy(out: &mut String, lines: &Lines<'_>, place: Place<'_>) -> Result<(), AllocError> {
+    let thread = thread_text(place.line);
+    match begun_before(lines, place) {
+        Some(since) => writeln!(
+            out,
+            "Thread {thread} has had a pending call since line {since}. Let that call end first, by a line 'go {thread} STEPS' above this one, or let another thread begin this call."
+        ),
+        None => writeln!(out, "Thread {thread} has a pending call."),
+    }
+}
+
+/// Explains a step of a thread that has no pending call.
+fn put_idle(
+    alloc: Global,
+    out: &mut String,
+    lines: &Lines<'_>,
+    place: Place<'_>,
+) -> Result<(), AllocError> {
+    let thread = thread_text(place.line);
+    let Some(since) = begun_before(lines, place) else {
+        return writeln!(
+            out,
+            "Thread {thread} has begun no call, so there is no step to make. Add a line such as 'begin {thread} add 5' above this one."
+        );
+    };
+    match steps_out(alloc, lines, place)? {
+        Some(steps) => writeln!(
+            out,
+            "Thread {thread}'s call of line {since} ends after {steps} steps of this line. Write 'go {thread} {steps}'."
+        ),
+        None => writeln!(
+            out,
+            "Thread {thread} has no pending call: its call of line {since} has ended. Remove this line, or begin a call above it."
+        ),
+    }
+}

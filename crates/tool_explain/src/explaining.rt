@@ -1,0 +1,203 @@
+use crate::events::put_event;
+use crate::keyed::{put_key_line, wrong_key};
+use crate::kinds::{Place, TextKind};
+use crate::lined::{Lines, put_visible};
+use crate::recorded::put_recording_line;
+use crate::reported::put_report_line;
+use crate::spoiled::{put_encoding, put_no_title, put_not_ended, put_spoiled};
+use crate::written::{put_header, put_opening};
+use lset_text::{Cause, cut};
+use std::alloc::{AllocError, Global};
+use tool_base::{Answer, LONGEST, Trouble, answer_text};
+use tool_judge::judge_bytes;
+use tool_replay::{Check, Expand, Replay};
+
+/// Explains a text: its kind, the first line with an error, and in the last line what is wrong and what to do. Of a text
+/// without an error the last line names the commands that read it. `file` is the file's name in these commands. The exit
+/// status is 0. Allocates; the error is `Trouble::Memory`.
+pub fn explain_text(alloc: Global, file: &str, text: &[u8]) -> Result<Answer, Trouble> {
+    let mut out = String::new(alloc);
+    if text.len() > LONGEST {
+        put_too_long(&mut out, file, text)?;
+    } else if !put_encoding(&mut out, file, text)? {
+        put_text(alloc, &mut out, file, text)?;
+    }
+    let text = out.into_bytes();
+    Ok(Answer { text, status: 0 })
+}
+
+/// Explains a text that is too long for every command but `judge`.
+fn put_too_long(out: &mut String, file: &str, text: &[u8]) -> Result<(), AllocError> {
+    let first = match cut(text, b'\n') {
+        Some((first, _)) => first,
+        None => b"",
+    };
+    if TextKind::of(first) == TextKind::Recording {
+        return writeln!(
+            out,
+            "{file} has recorded calls, more than {LONGEST} bytes of them.\nThis is more than explain reads. To find the first line with an error: listset judge {file}; what its cause means: listset faults"
+        );
+    }
+    writeln!(
+        out,
+        "{file} has more than {LONGEST} bytes.\nNo command but judge reads more than {LONGEST} bytes. Make the text shorter."
+    )
+}
+
+/// Explains a text that is not too long.
+fn put_text(alloc: Global, out: &mut String, file: &str, text: &[u8]) -> Result<(), Trouble> {
+    let lines = Lines::of(alloc, text)?;
+    let kind = TextKind::of(lines.line(1));
+    let said = match kind {
+        TextKind::Schedule => answer_text(alloc, &Replay {}, text),
+        TextKind::Draft => answer_text(alloc, &Expand {}, text),
+        TextKind::Report => answer_text(alloc, &Check {}, text),
+        TextKind::Recording => judge_bytes(alloc, text),
+        TextKind::Keys => said_of_keys(alloc, &lines),
+        TextKind::Trace | TextKind::Course => no_answer(alloc),
+        TextKind::Unknown => Err(Trouble::Line(1, Cause::Header)),
+    };
+    match said {
+        Ok(answer) => put_right(out, file, kind, &answer)?,
+        Err(Trouble::Line(number, cause)) => {
+            let number = usize::try_from(number).unwrap_or(usize::MAX);
+            let place = Place {
+                file,
+                kind,
+                number,
+                line: lines.line(number),
+            };
+            put_place(out, place, cause)?;
+            put_sentence(alloc, out, &lines, place, cause)?;
+        }
+        Err(trouble) => return Err(trouble),
+    }
+    Ok(())
+}
+
+/// Returns an answer without a text.
+fn no_answer(alloc: Global) -> Result<Answer, Trouble> {
+    let text = Vec::new(alloc);
+    Ok(Answer { text, status: 0 })
+}
+
+/// Returns an answer without a text, or the first error of the keys for `serve`.
+fn said_of_keys(alloc: Global, lines: &Lines<'_>) -> Result<Answer, Trouble> {
+    match wrong_key(lines) {
+        Some((number, cause)) => Err(Trouble::Line(number as u64, cause)),
+        None => no_answer(alloc),
+    }
+}
+
+/// Explains a text without an error.
+fn put_right(
+    out: &mut String,
+    file: &str,
+    kind: TextKind,
+    answer: &Answer,
+) -> Result<(), AllocError> {
+    let what = kind.predicate();
+    writeln!(out, "{file} {what}, and no line has an error.")?;
+    if answer.status != 0 {
+        let first = match cut(&answer.text, b'\n') {
+            Some((first, _)) => first,
+            None => b"",
+        };
+        put_visible(out, first)?;
+        out.push_str("\n")?;
+    }
+    put_use(out, file, kind, answer.status != 0)
+}
+
+/// Prints the commands that read a text without an error. `is_refused` is whether its order, or every order of it, is refused.
+fn put_use(
+    out: &mut String,
+    file: &str,
+    kind: TextKind,
+    is_refused: bool,
+) -> Result<(), AllocError> {
+    match kind {
+        TextKind::Schedule => writeln!(
+            out,
+            "For its report: listset replay {file}; for its picture: listset show {file}"
+        ),
+        TextKind::Draft => writeln!(out, "For its schedule: listset draft {file}"),
+        TextKind::Report if is_refused => writeln!(
+            out,
+            "The order of the report is refused. Which call shows it: listset show {file}; what the fault means: listset faults refused"
+        ),
+        TextKind::Report => writeln!(
+            out,
+            "Its order is right. For its picture: listset show {file}"
+        ),
+        TextKind::Recording if is_refused => writeln!(
+            out,
+            "No order explains the calls and leaves the keys of the 'key K' lines. What is wrong: listset judge {file}; if the final keys are not known, write 'cut' instead of the 'key' lines and 'end'"
+        ),
+        TextKind::Recording => writeln!(
+            out,
+            "Some order explains these calls. How many they are: listset judge {file}"
+        ),
+        TextKind::Trace => out.push_str(
+            "No command reads a trace. To make one of a schedule: listset trace\n",
+        ),
+        TextKind::Course => {
+            out.push_str("Paste it into page/index.html, under Solve. No command reads it.\n")
+        }
+        TextKind::Keys | TextKind::Unknown => writeln!(
+            out,
+            "A server opens with these keys: listset serve KIND SEATS QUOTA PORT SESSIONS {file}"
+        ),
+    }
+}
+
+/// Prints the number, the cause and the text of the first line with an error.
+fn put_place(out: &mut String, place: Place<'_>, cause: Cause) -> Result<(), AllocError> {
+    let Place {
+        file,
+        kind,
+        number,
+        ..
+    } = place;
+    let (what, cause) = (kind.predicate(), cause.name());
+    writeln!(
+        out,
+        "{file} {what}, and line {number} has an error, {cause}:"
+    )?;
+    out.push_str("    ")?;
+    put_visible(out, place.line)?;
+    out.push_str("\n")
+}
+
+/// Prints what is wrong with the line, and what to do, in one line.
+fn put_sentence(
+    alloc: Global,
+    out: &mut String,
+    lines: &Lines<'_>,
+    place: Place<'_>,
+    cause: Cause,
+) -> Result<(), AllocError> {
+    let is_line = place.number <= lines.count();
+    if cause == Cause::NotEnded {
+        return put_not_ended(out, place, is_line);
+    }
+    if cause == Cause::Header {
+        return put_no_title(out, lines, place);
+    }
+    if !is_line {
+        return put_header(out, place.number);
+    }
+    if put_spoiled(out, place)? {
+        return Ok(());
+    }
+    match (cause, place.kind) {
+        (Cause::Kind | Cause::Threads | Cause::Quota, _) => put_header(out, place.number),
+        (Cause::Opening, _) => {
+            put_opening(out, place, lines.line(place.number.saturating_sub(1)))
+        }
+        (_, TextKind::Report) => put_report_line(out, lines, place, cause),
+        (_, TextKind::Recording) => put_recording_line(out, lines, place, cause),
+        (_, TextKind::Keys) => put_key_line(out, lines, place, cause),
+        _ => put_event(alloc, out, lines, place, cause),
+    }
+}

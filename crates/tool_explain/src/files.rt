@@ -1,0 +1,43 @@
+use crate::explaining::explain_text;
+use std::alloc::Global;
+use std::io::{ErrorKind, Read};
+use tool_base::{Answer, LONGEST, READ_SIZE, Trouble};
+
+/// Explains why a file was not opened, or not read. `file` is the file's name. Allocates; the error is `Trouble::Memory`.
+pub fn explain_unopened(alloc: Global, file: &str, kind: ErrorKind) -> Result<Answer, Trouble> {
+    let why = match kind {
+        ErrorKind::NotFound =>
+            "there is no such file. Look at its name, and at the folder that you are in: ls",
+        ErrorKind::PermissionDenied =>
+            "you have no right to read this file. To see whose it is: ls -l",
+        ErrorKind::IsADirectory => "this is a folder. Name a file in it.",
+        ErrorKind::NotADirectory => "a part of this path is a file, and no folder.",
+        _ => "the system did not read this file.",
+    };
+    let text = format!(in alloc; "{file}: {why}\n")?;
+    Ok(Answer {
+        text: text.into_bytes(),
+        status: 0,
+    })
+}
+
+/// Explains the text of an input, as `explain_text` does, or why the input cannot be read. Reads at most some more than
+/// `LONGEST` bytes. Allocates; blocks as the input does. The error is `Trouble::Memory`.
+pub fn explain_input<R: Read>(alloc: Global, file: &str, input: &mut R) -> Result<Answer, Trouble> {
+    let mut text = Vec::new(alloc);
+    let mut buffer = [0u8; READ_SIZE];
+    for _ in 0..u64::MAX {
+        if text.len() > LONGEST {
+            break;
+        }
+        let count = match input.read(&mut buffer) {
+            Ok(count) => count,
+            Err(error) => return explain_unopened(alloc, file, error.kind()),
+        };
+        if count == 0 {
+            return explain_text(alloc, file, &text);
+        }
+        text.extend_from_slice(&buffer[..count])?;
+    }
+    explain_text(alloc, file, &text)
+}

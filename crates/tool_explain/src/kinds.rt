@@ -1,0 +1,60 @@
+use crate::lined::field_or_empty;
+
+/// The kind of a text, by its first line.
+#[derive(Clone, Copy, PartialEq, Eq)]
+pub(crate) enum TextKind {
+    Schedule,
+    Draft,
+    Report,
+    Recording,
+    Trace,
+    Course,
+    /// Keys with which `serve` opens.
+    Keys,
+    /// The first line is no title of a text of listset.
+    Unknown,
+}
+
+impl TextKind {
+    /// Returns the kind of a text with this first line.
+    pub(crate) fn of(first: &[u8]) -> TextKind {
+        match first {
+            b"listset-schedule 1" | b"listset-schedule 2" => TextKind::Schedule,
+            b"listset-draft 2" => TextKind::Draft,
+            b"listset-report 1" | b"listset-report 2" => TextKind::Report,
+            b"listset-calls 1" => TextKind::Recording,
+            b"listset-trace 1" => TextKind::Trace,
+            b"listset-course 1" => TextKind::Course,
+            _ => match field_or_empty(first, 0) {
+                b"key" | b"listening" | b"sessions" => TextKind::Keys,
+                _ => TextKind::Unknown,
+            },
+        }
+    }
+
+    /// Returns what a file with a text of this kind is or has, as the predicate of a sentence.
+    pub(crate) fn predicate(self) -> &'static str {
+        match self {
+            TextKind::Schedule => "is a schedule",
+            TextKind::Draft => "is a draft",
+            TextKind::Report => "is a report",
+            TextKind::Recording => "has recorded calls",
+            TextKind::Trace => "is a trace",
+            TextKind::Course => "is a course",
+            TextKind::Keys => "has keys for serve",
+            TextKind::Unknown => "is no text of listset",
+        }
+    }
+}
+
+/// The first error of a text: its line, and the kind of the text.
+#[derive(Clone, Copy)]
+pub(crate) struct Place<'a> {
+    /// The file's name in commands about the file.
+    pub(crate) file: &'a str,
+    pub(crate) kind: TextKind,
+    /// The number of the line, counted from 1.
+    pub(crate) number: usize,
+    /// The line without its newline.
+    pub(crate) line: &'a [u8],
+}

@@ -1,0 +1,17 @@
+//! The command `explain`: prints the kind of a text, its first line with an error, what is wrong there, and what to do.
+#![tactic(auto)]
+
+mod drafts;
+mod events;
+mod explaining;
+mod files;
+mod keyed;
+mod kinds;
+mod lined;
+mod recorded;
+mod reported;
+mod spoiled;
+mod written;
+
+pub use explaining::explain_text;
+pub use files::{explain_input, explain_unopened};

@@ -1,0 +1,125 @@
+use lset_text::{cut, long_number, number};
+use std::alloc::{AllocError, Global};
+
+/// The most bytes of a line that are printed.
+const MOST_PRINTED: usize = 100;
+
+/// The lines of a text, counted from 1.
+#[derive(Drop)]
+pub(crate) struct Lines<'a> {
+    lines: Vec<&'a [u8]>,
+    /// Whether the last line ends with a newline.
+    pub(crate) is_ended: bool,
+}
+
+impl<'a> Lines<'a> {
+    /// Splits a text into its lines.
+    pub(crate) fn of(alloc: Global, text: &'a [u8]) -> Result<Lines<'a>, AllocError> {
+        let mut lines = Vec::new(alloc);
+        let mut rest = text;
+        for _ in 0..text.len() {
+            if rest.is_empty() {
+                break;
+            }
+            let Some((line, after)) = cut(rest, b'\n') else {
+                lines.push(rest)?;
+                let is_ended = false;
+                return Ok(Lines { lines, is_ended });
+            };
+            lines.push(line)?;
+            rest = after;
+        }
+        let is_ended = true;
+        Ok(Lines { lines, is_ended })
+    }
+
+    /// Returns the number of the lines.
+    pub(crate) fn count(&self) -> usize {
+        self.lines.len()
+    }
+
+    /// Returns line `number` without its newline, or no bytes if there is no such line.
+    pub(crate) fn line(&self, number: usize) -> &'a [u8] {
+        match self.lines.get(number.saturating_sub(1)) {
+            Some(line) => *line,
+            None => b"",
+        }
+    }
+
+    /// Returns the number of the last line before line `number` for which `is_meant` holds.
+    pub(crate) fn last_before<F: Fn(&[u8]) -> bool + Drop>(
+        &self,
+        number: usize,
+        is_meant: F,
+    ) -> Option<usize>
+        requires { F.IsAlwaysCallable is_meant }
+    {
+        let mut found = None;
+        for (index, line) in self.lines.iter().enumerate() {
+            let at = index.saturating_add(1);
+            if at < number && is_meant(line) {
+                found = Some(at);
+            }
+        }
+        found
+    }
+}
+
+/// Returns field `index` (from 0) of a line. Fields are separated by one space. `None` if the line has no such field.
+pub(crate) fn field(line: &[u8], index: usize) -> Option<&[u8]> {
+    let mut rest = line;
+    for _ in 0..index {
+        let (_, after) = cut(rest, b' ')?;
+        rest = after;
+    }
+    match cut(rest, b' ') {
+        Some((first, _)) => Some(first),
+        None => Some(rest),
+    }
+}
+
+/// Returns field `index` (from 0) of a line, or no bytes if the line has no such field.
+pub(crate) fn field_or_empty(line: &[u8], index: usize) -> &[u8] {
+    field(line, index).unwrap_or(b"")
+}
+
+/// Returns the number of fields of a line.
+pub(crate) fn count_fields(line: &[u8]) -> usize {
+    line.iter()
+        .filter(|byte| **byte == b' ')
+        .count()
+        .saturating_add(1)
+}
+
+/// Returns the number in field `index`, if it is in the range of threads, keys and calls.
+pub(crate) fn number_at(line: &[u8], index: usize) -> Option<u32> {
+    number(field(line, index)?, 0, u32::MAX)
+}
+
+/// Returns the number in field `index`, if it is a moment.
+pub(crate) fn moment_at(line: &[u8], index: usize) -> Option<u64> {
+    long_number(field(line, index)?, 1, u64::MAX)
+}
+
+/// Appends at most 100 bytes of a text in visible characters: a tab becomes `\t`, and a byte that is not ASCII `\xHH`.
+pub(crate) fn put_visible(out: &mut String, bytes: &[u8]) -> Result<(), AllocError> {
+    for byte in bytes.iter().take(MOST_PRINTED) {
+        match *byte {
+            b'\t' => out.push_str("\\t")?,
+            b'\r' => out.push_str("\\r")?,
+            b' '..=b'~' => out.push(char::from(*byte))?,
+            other => write!(out, "\\x{other:02x}")?,
+        }
+    }
+    if bytes.len() > MOST_PRINTED {
+        out.push_str("..")?;
+    }
+    Ok(())
+}
+
+/// Appends bytes in visible characters, between apostrophes.
+pub(crate) fn put_quoted(out: &mut String, bytes: &[u8]) -> Result<(), AllocError> {
+    out.push_str("'")?;
+    put_visible(out, bytes)?;
+    out.push_str("'")
+}

@@ -1,0 +1,82 @@
+//! Errors in recorded calls.
+
+use crate::kinds::Place;
+use crate::lined::{Lines, count_fields, field, field_or_empty, put_quoted};
+use crate::reported::{CallFields, put_moments};
+use crate::written::{put_no_call, put_number};
+use lset_text::Cause;
+use std::alloc::AllocError;
+
+const OF_RECORDING: CallFields = CallFields {
+    thread: 1,
+    begin: 4,
+    end: 5,
+};
+
+/// Explains a line of a recording below the title.
+pub(crate) fn put_recording_line(
+    out: &mut String,
+    lines: &Lines<'_>,
+    place: Place<'_>,
+    cause: Cause,
+) -> Result<(), AllocError> {
+    match cause {
+        Cause::Line => put_recording_form(out, lines, place),
+        Cause::Number => put_number(out, place),
+        _ => put_moments(out, lines, place, OF_RECORDING),
+    }
+}
+
+/// Explains a line of a recording that has not the form of a line there.
+fn put_recording_form(
+    out: &mut String,
+    lines: &Lines<'_>,
+    place: Place<'_>,
+) -> Result<(), AllocError> {
+    let ended = lines.last_before(place.number, |line| matches!(line, b"end" | b"cut"));
+    if let Some(number) = ended {
+        return writeln!(
+            out,
+            "The text ended with line {number}. Nothing comes after that line: remove this line and those below."
+        );
+    }
+    match (field_or_empty(place.line, 0), count_fields(place.line)) {
+        (b"call", 7) => put_call_words(out, place),
+        (b"call", _) => out.push_str(
+            "A call has seven fields: call THREAD CALL KEY BEGIN END REPLY, as in 'call 1 add 5 3 9 true'; a pending one has '-' for END and REPLY.\n",
+        ),
+        (b"opening", 2) => out.push_str(
+            "Lines 'opening K' come before all calls: move the line up, below line 1.\n",
+        ),
+        _ => out.push_str(
+            "Expected 'opening K', 'call THREAD CALL KEY BEGIN END REPLY', 'key K', in this order, then 'end'; or 'cut' instead of the 'key' lines and 'end'.\n",
+        ),
+    }
+}
+
+/// Explains a line of a call with seven fields that is no call of a recording.
+fn put_call_words(out: &mut String, place: Place<'_>) -> Result<(), AllocError> {
+    let (line, file) = (place.line, place.file);
+    let reply = field_or_empty(line, 6);
+    let is_unjudged = field(line, 2) == Some(b"ceiling".as_slice()) || reply == b"full".as_slice();
+    if is_unjudged {
+        return writeln!(
+            out,
+            "The judge takes no ceiling, and no add that returned full. Leave their lines out: grep -v -e ceiling -e full {file} | listset judge"
+        );
+    }
+    if put_no_call(out, place, 2, "add, remove and contains")? {
+        return Ok(());
+    }
+    let is_pending = field(line, 5) == Some(b"-".as_slice());
+    if is_pending || reply == b"-".as_slice() {
+        return out.push_str(
+            "A pending call has '-' for END and for REPLY. This one has '-' for one of them only.\n",
+        );
+    }
+    if matches!(reply, b"true" | b"false") {
+        return out.push_str("Lines of calls come before lines of keys: move this line up.\n");
+    }
+    put_quoted(out, reply)?;
+    out.push_str(" is no reply. A reply is true or false, in lower case.\n")
+}

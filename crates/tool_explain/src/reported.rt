@@ -1,0 +1,155 @@
+//! Errors in reports, and conflicts of calls in reports and in recordings.
+
+use crate::kinds::{Place, TextKind};
+use crate::lined::{Lines, field, moment_at, number_at};
+use crate::written::put_number;
+use lset_text::Cause;
+use std::alloc::AllocError;
+
+/// The fields of a line of a call that have its thread and its moments.
+#[derive(Clone, Copy)]
+pub(crate) struct CallFields {
+    pub(crate) thread: usize,
+    pub(crate) begin: usize,
+    pub(crate) end: usize,
+}
+
+const OF_REPORT: CallFields = CallFields {
+    thread: 2,
+    begin: 5,
+    end: 6,
+};
+
+/// Explains a line of a report below the header.
+pub(crate) fn put_report_line(
+    out: &mut String,
+    lines: &Lines<'_>,
+    place: Place<'_>,
+    cause: Cause,
+) -> Result<(), AllocError> {
+    match cause {
+        Cause::Line => out.push_str(
+            "Expected 'call ID THREAD CALL KEY BEGIN END REPLY' (or 'open' for END and REPLY), then 'place ID REPLY', then 'key K', then 'end'. A report of listset replay has these lines in this order.\n",
+        ),
+        Cause::Number => put_number(out, place),
+        Cause::TooMany => out.push_str(
+            "A report has at most 1000000 calls, 1000000 places, and 1048576 keys (2097152 in version 2).\n",
+        ),
+        _ => put_report_history(out, lines, place),
+    }
+}
+
+/// Explains a call of a report that conflicts with the header, or with the calls above.
+fn put_report_history(
+    out: &mut String,
+    lines: &Lines<'_>,
+    place: Place<'_>,
+) -> Result<(), AllocError> {
+    let above = lines.last_before(place.number, is_call);
+    let due = match above {
+        Some(number) => number_at(lines.line(number), 1)
+            .unwrap_or(0)
+            .saturating_add(1),
+        None => 0,
+    };
+    if number_at(place.line, 1) != Some(due) {
+        return writeln!(
+            out,
+            "The number of this call must be {due}: calls are numbered from 0, in order."
+        );
+    }
+    let threads = number_at(lines.line(3), 1).unwrap_or(0);
+    if number_at(place.line, 2).unwrap_or(0) >= threads {
+        return writeln!(
+            out,
+            "Line 3 has 'threads {threads}', and the number of the call's thread is not below {threads}."
+        );
+    }
+    put_moments(out, lines, place, OF_REPORT)
+}
+
+/// Returns whether a line is of a call.
+pub(crate) fn is_call(line: &[u8]) -> bool {
+    field(line, 0) == Some(b"call".as_slice())
+}
+
+/// Explains why the moments of a call conflict with each other, or with a call above.
+pub(crate) fn put_moments(
+    out: &mut String,
+    lines: &Lines<'_>,
+    place: Place<'_>,
+    fields: CallFields,
+) -> Result<(), AllocError> {
+    let line = place.line;
+    let begin = moment_at(line, fields.begin).unwrap_or(0);
+    if let Some(end) = moment_at(line, fields.end)
+        && end <= begin
+    {
+        return writeln!(
+            out,
+            "The call ends at moment {end}, which is not after moment {begin}, at which the call begins."
+        );
+    }
+    for moment in [Some(begin), moment_at(line, fields.end)] {
+        let is_taken = |above: &[u8]| {
+            is_call(above)
+                && moment.is_some()
+                && (moment_at(above, fields.begin) == moment
+                    || moment_at(above, fields.end) == moment)
+        };
+        if let (Some(taken), Some(moment)) = (lines.last_before(place.number, is_taken), moment) {
+            return writeln!(
+                out,
+                "Moment {moment} is in line {taken} too. Each begin and each end needs a moment of its own: take all of them from one counter."
+            );
+        }
+    }
+    put_order(out, lines, place, fields, begin)
+}
+
+/// Explains why a call conflicts with the calls above: calls are in the order of their begins, and a thread has one at a time.
+fn put_order(
+    out: &mut String,
+    lines: &Lines<'_>,
+    place: Place<'_>,
+    fields: CallFields,
+    begin: u64,
+) -> Result<(), AllocError> {
+    if let Some(above) = lines.last_before(place.number, is_call) {
+        let before = moment_at(lines.line(above), fields.begin).unwrap_or(0);
+        if begin < before {
+            writeln!(
+                out,
+                "The call begins at moment {begin}, before the call of line {above}, which begins at {before}. Calls must be in the order of their begins."
+            )?;
+            return put_sorting(out, place);
+        }
+    }
+    let thread = field(place.line, fields.thread);
+    let pending = lines.last_before(place.number, |above| {
+        is_call(above)
+            && field(above, fields.thread) == thread
+            && moment_at(above, fields.end).is_none_or(|end| end > begin)
+    });
+    match pending {
+        Some(above) => writeln!(
+            out,
+            "The thread's call of line {above} has not ended at moment {begin}. A thread has one call at a time: use another number for each thread."
+        ),
+        None => out.push_str("The call conflicts with a call above.\n"),
+    }
+}
+
+/// Appends the command that sorts the calls of a recording, to the line before.
+fn put_sorting(out: &mut String, place: Place<'_>) -> Result<(), AllocError> {
+    if place.kind != TextKind::Recording {
+        return Ok(());
+    }
+    let file = place.file;
+    // (the line before ends with a newline; the command goes into the same line)
+    let _newline = out.pop();
+    writeln!(
+        out,
+        " To sort them: (grep -E '^(listset|opening)' {file}; grep '^call' {file} | sort -n -k 5,5; grep -E '^(key|end|cut)' {file}) | listset judge"
+    )
+}

@@ -1,0 +1,130 @@
+//! Lines and fields that are spelled wrong: the header, words and numbers.
+
+use crate::kinds::{Place, TextKind};
+use crate::lined::{field, field_or_empty, put_quoted};
+use lset_text::long_number;
+use std::alloc::AllocError;
+
+/// The largest moment of a recording.
+const MOST_MOMENT: u64 = 9_223_372_036_854_775_807;
+
+/// The largest moment of a report.
+const MOST_MOMENT_OF_REPORT: u64 = 4_294_967_295;
+
+/// The maximum number of steps of one line.
+const MOST_STEPS: u64 = 10_000;
+
+/// The largest row of a list.
+const MOST_ROW: u64 = 255;
+
+/// A field that must be a number: its index in the line, from 0, and its range.
+#[derive(Clone, Copy)]
+struct NumberField {
+    index: usize,
+    low: u64,
+    high: u64,
+}
+
+/// Returns the field of a thread, a key or a call.
+fn plain(index: usize) -> NumberField {
+    NumberField {
+        index,
+        low: 0,
+        high: 4_294_967_295,
+    }
+}
+
+/// Returns the field of a number in a range.
+fn in_range(index: usize, low: u64, high: u64) -> NumberField {
+    NumberField { index, low, high }
+}
+
+/// Explains a line with a number that is wrong, by the numbers that a line of its kind has.
+pub(crate) fn put_number(out: &mut String, place: Place<'_>) -> Result<(), AllocError> {
+    let is_stop = matches!(field_or_empty(place.line, 2), b"out" | b"to");
+    match (place.kind, field_or_empty(place.line, 0)) {
+        (TextKind::Report, b"call") => {
+            let begin = in_range(5, 1, MOST_MOMENT_OF_REPORT);
+            let end = in_range(6, 1, MOST_MOMENT_OF_REPORT);
+            put_first_wrong(out, place, &[plain(1), plain(2), plain(4), begin, end])
+        }
+        (TextKind::Recording, b"call") => {
+            let (begin, end) = (in_range(4, 1, MOST_MOMENT), in_range(5, 1, MOST_MOMENT));
+            put_first_wrong(out, place, &[plain(1), plain(3), begin, end])
+        }
+        (_, b"begin") => put_first_wrong(out, place, &[plain(1), plain(3)]),
+        (_, b"go") if is_stop => put_first_wrong(out, place, &[plain(1), in_range(3, 1, MOST_ROW)]),
+        (_, b"go") => put_first_wrong(out, place, &[plain(1), in_range(2, 1, MOST_STEPS)]),
+        _ => put_first_wrong(out, place, &[plain(1)]),
+    }
+}
+
+/// Explains the first of these fields that is no number in its range. Skips a field that is `-` or `open`.
+fn put_first_wrong(
+    out: &mut String,
+    place: Place<'_>,
+    fields: &[NumberField],
+) -> Result<(), AllocError> {
+    for wanted in fields {
+        let NumberField { index, low, high } = *wanted;
+        let Some(word) = field(place.line, index) else {
+            continue;
+        };
+        let is_pending = word == b"-".as_slice() || word == b"open".as_slice();
+        if !is_pending && long_number(word, low, high).is_none() {
+            put_quoted(out, word)?;
+            return writeln!(
+                out,
+                " must be a number from {low} to {high}, without sign, point or leading zero."
+            );
+        }
+    }
+    out.push_str("A number of the line is out of its range, or has a sign or a leading zero.\n")
+}
+
+/// Explains a word that is no call, in field `index` of a line. Returns false, and writes nothing, if the word is a call.
+pub(crate) fn put_no_call(
+    out: &mut String,
+    place: Place<'_>,
+    index: usize,
+    calls: &str,
+) -> Result<bool, AllocError> {
+    let word = field_or_empty(place.line, index);
+    if matches!(word, b"add" | b"remove" | b"contains") {
+        return Ok(false);
+    }
+    put_quoted(out, word)?;
+    writeln!(out, " is no call. The calls are {calls}, in lower case.")?;
+    Ok(true)
+}
+
+/// Explains a header line that is wrong.
+pub(crate) fn put_header(out: &mut String, number: usize) -> Result<(), AllocError> {
+    let text = match number {
+        1 => {
+            "Line 1 must be a title: listset-schedule 1 (or 2), listset-draft 2, listset-report 1 (or 2), listset-calls 1.\n"
+        }
+        2 => {
+            "Line 2 must be 'list KIND'. KIND is coarse, fine, optimistic, lazy or lock-free, in lower case.\n"
+        }
+        3 => "Line 3 must be 'threads N'. N is a number from 1 to 64.\n",
+        _ => "Line 4 must be 'quota Q'. Q is a number from 0 to 16384.\n",
+    };
+    out.push_str(text)
+}
+
+/// Explains a key that is not above the key before.
+pub(crate) fn put_opening(
+    out: &mut String,
+    place: Place<'_>,
+    above: &[u8],
+) -> Result<(), AllocError> {
+    let file = place.file;
+    put_quoted(out, place.line)?;
+    out.push_str(" comes after ")?;
+    put_quoted(out, above)?;
+    writeln!(
+        out,
+        ". Keys must increase: sort these lines. To print a file of keys alone in order: sort -u -n -k 2,2 {file}"
+    )
+}

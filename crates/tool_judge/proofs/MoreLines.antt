@@ -1,0 +1,34 @@
+-- An answer on a recording stays one if lines are added to it.
+use Rattle.std.proofs.Common.{◌≡◌, ℕ, length, Bool, true, false, List, ◌++◌, Ok, ap, ◌∙◌, append_assoc}
+use Rattle.std.specs.Prelude.{if◌then◌else◌}
+use Rattle.lset_judge.specs.declared.judging.Verdict.{Verdict}
+use Rattle.lset_judge.specs.declared.judging.Verdict.TheVariants.{Linearizable, NotLinearizable}
+use Rattle.tool_judge.specs.Judging.{Begins, IsAnswerTo, Judges, ok_line, refused_text}
+
+begins : (head text more : List ℕ) → Begins head text → Begins head (text ++ more)
+begins head text more is = (is.0 ++ more, ap (λ t. t ++ more) is.1 ∙ simp append_assoc)
+
+answers : (v : Verdict) (calls : ℕ) (text more : List ℕ) (status : ℕ)
+    → IsAnswerTo v calls (record { text = text; status = status }) → IsAnswerTo v calls (record { text = text ++ more; status = status })
+answers Linearizable calls text more status is = (begins (ok_line calls) text more is.0, is.1)
+answers (NotLinearizable refusal clash) calls text more status is = (begins (refused_text refusal clash) text more is.0, is.1)
+
+with_more : (bytes text more : List ℕ) (status : ℕ) → Judges bytes (Ok (record { text = text; status = status }))
+    → Judges bytes (Ok (record { text = text ++ more; status = status }))
+with_more bytes text more status (c, says, reads, is) = (
+  c,
+  says,
+  reads,
+  record {
+    recording = is.recording;
+    verdict = is.verdict;
+    verdict_is = is.verdict_is;
+    answer_is = answers is.verdict (length c.calls) text more status is.answer_is;
+  },
+)
+
+-- the lines were added, or no memory was there for them
+pub if_added : (b : Bool) (bytes text more : List ℕ) (status : ℕ) → Judges bytes (Ok (record { text = text; status = status }))
+    → Judges bytes (Ok (record { text = if b then text ++ more else text; status = status }))
+if_added true bytes text more status is = with_more bytes text more status is
+if_added false bytes text more status is = is

@@ -1,0 +1,19 @@
+ghost use Rattle.std.specs.Prelude.{ℕ, List};
+ghost use Rattle.tool_base.specs.Tools.{view};
+ghost use Rattle.tool_judge.specs.Judging.{Judges};
+
+use tool_base::{Answer, Trouble};
+
+/// Appends lines to an answer of `judge_bytes` or `judge_input`. The verdict and the exit status stay as they are. If an allocation fails, the
+/// answer stays as it is; an error always does. Allocates; does not block.
+pub fn with_lines(made: Result<Answer, Trouble>, lines: &[u8]) -> Result<Answer, Trouble>
+    ensures { (bytes : List ℕ) → Judges bytes (view made) → Judges bytes (view result) }
+{
+    match made {
+        Ok(mut answer) => {
+            let _added = answer.text.extend_from_slice(lines);
+            Ok(answer)
+        }
+        Err(trouble) => Err(trouble),
+    }
+}

@@ -1,0 +1,167 @@
+//! The picture of a diagnosis: calls as bars. Bars of calls that overlap in time overlap in columns.
+
+use crate::diagnosis::{Diagnosis, Mark};
+use crate::likely::state_word;
+use crate::made::{Made, NEVER};
+use std::alloc::{AllocError, Global};
+
+/// The maximum number of columns of the bars.
+const WIDTH: usize = 66;
+
+/// A longer time in which no drawn call runs is left out.
+const LONG: u64 = 100;
+
+/// A call as a bar: the texts and columns of both ends, and the note beside it.
+#[derive(Drop)]
+struct Bar {
+    call: Made,
+    head: String,
+    tail: String,
+    note: String,
+    from: usize,
+    to: usize,
+}
+
+/// Returns the note beside a call.
+fn note_of(alloc: Global, call: Made, mark: Mark) -> Result<String, AllocError> {
+    let key = call.key;
+    match mark {
+        Mark::Nothing => Ok(String::new(alloc)),
+        Mark::Expected(yes) => format!(in alloc; "   <-- expected {yes}"),
+        Mark::Leaves(state) => {
+            let state = state_word(state);
+            format!(in alloc; "   key {key} is {state}")
+        }
+        Mark::Either => String::from_str(alloc, "   <-- one of two"),
+    }
+}
+
+impl Bar {
+    fn new(alloc: Global, call: Made, mark: Mark) -> Result<Bar, AllocError> {
+        let (word, key) = (call.operation.word(), call.key);
+        let tail = match call.reply {
+            Some(yes) => format!(in alloc; "{yes}]")?,
+            None => String::from_str(alloc, "..")?,
+        };
+        Ok(Bar {
+            call,
+            head: format!(in alloc; "[{word} {key}")?,
+            tail,
+            note: note_of(alloc, call, mark)?,
+            from: 0,
+            to: 0,
+        })
+    }
+
+    /// Returns the first column at which the bar can end.
+    fn least_end(&self) -> usize {
+        let width = self.head.len().saturating_add(self.tail.len());
+        self.from.saturating_add(width)
+    }
+
+    fn put(&self, out: &mut String, width: usize) -> Result<(), AllocError> {
+        let (thread, head, tail) = (self.call.thread, &self.head, &self.tail);
+        let (from, note, begun) = (self.from, &self.note, self.call.begun);
+        let dashes = self.to.saturating_add(1).saturating_sub(self.least_end());
+        write!(out, "thread {thread:<3} {:from$}", "")?;
+        write!(out, "{head}{:-<dashes$}{tail}", "")?;
+        let used = from.saturating_add(head.len()).saturating_add(tail.len());
+        let room = width.saturating_sub(used.saturating_add(dashes));
+        write!(out, "{:room$}", "")?;
+        if self.call.ended == NEVER {
+            writeln!(out, "  {begun} to ..{note}")
+        } else {
+            let ended = self.call.ended;
+            writeln!(out, "  {begun} to {ended}{note}")
+        }
+    }
+}
+
+/// Places the ends at a moment at column `first`, or further right if a bar that ends there is wider. Returns the next column.
+fn place_moment(bars: &mut [Bar], moment: u64, first: usize) -> usize {
+    let mut column = first;
+    for bar in &*bars {
+        if bar.call.ended == moment {
+            column = column.max(bar.least_end());
+        }
+    }
+    for bar in bars {
+        if bar.call.begun == moment {
+            bar.from = column;
+        }
+        if bar.call.ended == moment {
+            bar.to = column;
+        }
+    }
+    column.saturating_add(1)
+}
+
+/// Places all bars in columns.
+fn place_all(alloc: Global, bars: &mut [Bar]) -> Result<(), AllocError> {
+    let mut moments = Vec::new(alloc);
+    for bar in &*bars {
+        moments.push(bar.call.begun)?;
+        moments.push(bar.call.ended)?;
+    }
+    moments.sort_unstable();
+    moments.dedup();
+    let mut column = 0;
+    for moment in &moments {
+        column = place_moment(bars, *moment, column);
+    }
+    Ok(())
+}
+
+/// Returns the number of columns of all bars.
+fn width_of(bars: &[Bar]) -> usize {
+    let mut width = 0;
+    for bar in bars {
+        let end = bar.to.saturating_add(1).max(bar.least_end());
+        width = width.max(end);
+    }
+    width
+}
+
+/// Returns whether a long time before a call is left out: every earlier bar had ended long before the call began.
+fn is_after_gap(bars: &[Bar], call: Made) -> bool {
+    let mut last = 0;
+    for bar in bars {
+        if bar.call.begun < call.begun {
+            last = last.max(bar.call.ended);
+        }
+    }
+    last > 0 && call.begun > last.saturating_add(LONG)
+}
+
+/// Draws the calls of a diagnosis in at most `most` lines. Allocates.
+pub(crate) fn put_picture(
+    alloc: Global,
+    out: &mut String,
+    diagnosis: &Diagnosis,
+    most: usize,
+) -> Result<(), AllocError> {
+    let mut bars = Vec::new(alloc);
+    for one in &diagnosis.shown {
+        bars.push(Bar::new(alloc, one.call, one.mark)?)?;
+    }
+    let own = bars.len();
+    if own.saturating_add(diagnosis.beside.len()) < most {
+        for call in &diagnosis.beside {
+            bars.push(Bar::new(alloc, *call, Mark::Nothing)?)?;
+        }
+    }
+    place_all(alloc, &mut bars)?;
+    let width = width_of(&bars);
+    let gaps = bars.len() < most;
+    for (i, bar) in bars.iter().enumerate() {
+        if i == own {
+            out.push_str("---------- also running\n")?;
+        }
+        if gaps && i < own && is_after_gap(&bars, bar.call) {
+            let from = bar.from;
+            writeln!(out, "           {:from$}...", "")?;
+        }
+        bar.put(out, if width > WIDTH { 0 } else { width })?;
+    }
+    Ok(())
+}

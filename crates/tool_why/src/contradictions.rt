@@ -1,0 +1,194 @@
+//! Clashes: two calls of a key that no order explains together. A call needs its key in one state, and leaves it in one. If the first call
+//! leaves a state that the second does not need, and no call that could change this overlaps the time from the begin of the first to the end
+//! of the second, no order explains the two, whatever all other calls did.
+
+use crate::key_calls::KeyCalls;
+use crate::made::{Made, NEVER, other};
+use crate::stretches::{Stretch, stretch_before};
+use lset_words::Presence;
+use std::alloc::{AllocError, Global};
+
+/// A clash of a key.
+#[derive(Clone, Copy)]
+pub(crate) struct Clash {
+    /// The call that leaves the key in the state `was`. `None` if `stretch` leaves it so, or if `was` is the opening state.
+    pub(crate) first: Option<Made>,
+    /// The call that needs the other state. `None` if the other state is the final state.
+    pub(crate) second: Option<Made>,
+    /// Changes that overlap one another, and leave the key in the state `was` by their number.
+    pub(crate) stretch: Option<Stretch>,
+    pub(crate) was: Presence,
+    pub(crate) since: u64,
+    pub(crate) until: u64,
+}
+
+impl Clash {
+    /// Returns whether the two calls overlap.
+    pub(crate) fn overlaps(&self) -> bool {
+        match (self.first, self.second) {
+            (Some(first), Some(second)) => second.begun < first.ended,
+            _ => false,
+        }
+    }
+
+    /// Returns the begin of the first call of the clash.
+    pub(crate) fn begun(&self) -> u64 {
+        match (self.stretch, self.first, self.second) {
+            (Some(stretch), _, _) => stretch.read.map_or(stretch.begun, |read| read.begun),
+            (None, Some(first), _) => first.begun,
+            (None, None, Some(second)) => second.begun,
+            (None, None, None) => 0,
+        }
+    }
+}
+
+/// The state that a call needs, or the final state, with its begin and end.
+#[derive(Clone, Copy)]
+struct Need {
+    second: Option<Made>,
+    state: Presence,
+    begun: u64,
+    ended: u64,
+}
+
+/// Returns the clash of a needed state with calls that had ended before.
+fn clash_before(key: &KeyCalls, stretches: &[Stretch], need: Need) -> Option<Clash> {
+    let was = other(need.state);
+    let first = key.proof_before(was, need.begun);
+    let since = first.map_or(0, |first| first.begun);
+    let is_known = first.is_some() || key.opening == was;
+    if is_known && !key.may_become(need.state, since, need.ended) {
+        return Some(Clash {
+            first,
+            second: need.second,
+            stretch: None,
+            was,
+            since,
+            until: need.ended,
+        });
+    }
+    let stretch = stretch_before(stretches, need.begun)?;
+    let since = stretch.ended.saturating_add(1);
+    if stretch.leaves == Some(was) && !key.may_become(need.state, since, need.ended) {
+        return Some(Clash {
+            first: None,
+            second: need.second,
+            stretch: Some(stretch),
+            was,
+            since: stretch.read.map_or(stretch.begun, |read| read.begun),
+            until: need.ended,
+        });
+    }
+    None
+}
+
+/// Returns the clash of a call with calls that had ended before it began.
+pub(crate) fn clash_of(key: &KeyCalls, stretches: &[Stretch], call: Made) -> Option<Clash> {
+    let need = Need {
+        second: Some(call),
+        state: call.needs()?,
+        begun: call.begun,
+        ended: call.ended,
+    };
+    clash_before(key, stretches, need)
+}
+
+/// Returns the clash of the final state with calls.
+fn clash_at_end(key: &KeyCalls, stretches: &[Stretch]) -> Option<Clash> {
+    let need = Need {
+        second: None,
+        state: key.left?,
+        begun: NEVER,
+        ended: NEVER,
+    };
+    clash_before(key, stretches, need)
+}
+
+/// Returns whether call `one` leaves the state that call `two` does not need, and no call can have changed it from `since` to `until`.
+fn excludes(key: &KeyCalls, one: Made, two: Made, until: u64, since: u64) -> bool {
+    match two.needs() {
+        Some(needs) => one.leaves() == Some(other(needs)) && !key.may_become(needs, since, until),
+        None => false,
+    }
+}
+
+/// Returns the clash of two calls that overlap, if they clash in both orders. `first` began first.
+fn clash_at_once(key: &KeyCalls, first: Made, second: Made) -> Option<Clash> {
+    let (since, until) = (first.begun, first.ended.max(second.ended));
+    let was = first.leaves()?;
+    if excludes(key, first, second, until, since) && excludes(key, second, first, until, since) {
+        return Some(Clash {
+            first: Some(first),
+            second: Some(second),
+            stretch: None,
+            was,
+            since,
+            until,
+        });
+    }
+    None
+}
+
+/// The maximum number of clashes of a key that are kept.
+const MOST_PLACES: usize = 20_000;
+
+/// Clashes that do not overlap one another in time.
+#[derive(Drop)]
+struct Apart {
+    found: Vec<Clash>,
+}
+
+impl Apart {
+    /// Keeps a clash that does not overlap the kept clashes in time. Replaces the last kept clash by one that ends earlier.
+    fn keep(&mut self, clash: Clash) -> Result<(), AllocError> {
+        let Some(last) = self.found.last().copied() else {
+            self.found.push(clash)?;
+            return Ok(());
+        };
+        if clash.since > last.until {
+            if self.found.len() < MOST_PLACES {
+                self.found.push(clash)?;
+            }
+            return Ok(());
+        }
+        let before = self.found.get(self.found.len().wrapping_sub(2)).copied();
+        let is_free = before.is_none_or(|before| before.until < clash.since);
+        if clash.until < last.until && is_free {
+            let _longer = self.found.pop();
+            self.found.push(clash)?;
+        }
+        Ok(())
+    }
+}
+
+/// Returns clashes of a key that do not overlap one another in time, in the order of time. Allocates.
+pub(crate) fn clashes_of(
+    alloc: Global,
+    key: &KeyCalls,
+    stretches: &[Stretch],
+) -> Result<Vec<Clash>, AllocError> {
+    let mut apart = Apart {
+        found: Vec::new(alloc),
+    };
+    let mut running: Vec<Made> = Vec::new(alloc);
+    for call in &key.calls {
+        let call = *call;
+        if call.reply.is_none() {
+            continue;
+        }
+        running.retain(|earlier| earlier.ended > call.begun);
+        for earlier in &running {
+            if let Some(clash) = clash_at_once(key, *earlier, call) {
+                apart.keep(clash)?;
+            }
+        }
+        if let Some(clash) = clash_of(key, stretches, call) {
+            apart.keep(clash)?;
+        }
+        running.push(call)?;
+    }
+    if let Some(clash) = clash_at_end(key, stretches) {
+        apart.keep(clash)?;
+    }
+    Ok(apart.found)
+}

@@ -1,0 +1,120 @@
+//! Counts: calls of a key that need it to change more often than it can. They show a refusal if no two calls clash.
+
+use crate::diagnosis::Diagnosis;
+use crate::key_calls::KeyCalls;
+use crate::made::{Made, NEVER};
+use crate::run_reader::Recorded;
+use crate::stretches::{stretches_of, sure_before};
+use lset_judge::{Count, StreamCall, find_count};
+use lset_words::{Key, Presence};
+use std::alloc::{AllocError, Global};
+
+/// The maximum number of calls in which a count is searched. The time of the search grows with the square of their number.
+const MOST_COUNTED: usize = 2_000;
+
+/// Calls of a key in which a count is searched, and the state of the key before them.
+#[derive(Drop)]
+struct Counted {
+    calls: Vec<StreamCall>,
+    before: Presence,
+    /// Whether these are all calls from the opening on.
+    is_from_opening: bool,
+}
+
+/// Returns the calls of a key that began by a moment, as they were at that moment.
+fn calls_by(
+    alloc: Global,
+    recorded: &Recorded,
+    key: u32,
+    moment: u64,
+) -> Result<Vec<Made>, AllocError> {
+    let mut calls = Vec::new(alloc);
+    for call in &recorded.calls {
+        if call.begun > moment {
+            break;
+        }
+        if call.key == key {
+            calls.push(call.cut_at(moment))?;
+        }
+    }
+    Ok(calls)
+}
+
+/// Returns all calls of a key or, of more than `MOST_COUNTED`, those from a later moment on at which its state is known. `None` if the
+/// state of the key is not known at such a moment.
+fn calls_to_count(alloc: Global, key: &KeyCalls) -> Result<Option<Counted>, AllocError> {
+    let skipped = key.calls.len().saturating_sub(MOST_COUNTED);
+    let (from, before) = match key.calls.get(skipped) {
+        Some(call) if skipped > 0 => {
+            let stretches = stretches_of(alloc, key)?;
+            let last = stretches.partition_point(|stretch| stretch.ended < call.begun);
+            match stretches
+                .get(last..)
+                .unwrap_or(&[])
+                .iter()
+                .find(|stretch| stretch.leaves.is_some())
+            {
+                Some(stretch) => (stretch.ended, stretch.leaves.unwrap_or(key.opening)),
+                None => return Ok(None),
+            }
+        }
+        _ => (0, key.opening),
+    };
+    let mut calls = Vec::new(alloc);
+    for call in key.after(from) {
+        calls.push(call.to_stream())?;
+    }
+    Ok(Some(Counted {
+        calls,
+        before,
+        is_from_opening: skipped == 0,
+    }))
+}
+
+/// Returns the changes of a count as the recording has them: a call that ended after `moment` with the reply false is no change.
+fn backs_in(
+    alloc: Global,
+    recorded: &Recorded,
+    backs: &[StreamCall],
+) -> Result<Vec<StreamCall>, AllocError> {
+    let mut found = Vec::new(alloc);
+    for back in backs {
+        let at = recorded
+            .calls
+            .partition_point(|call| call.begun < back.begun);
+        if let Some(call) = recorded.calls.get(at) {
+            if call.changes() {
+                found.push(call.to_stream())?;
+            }
+        }
+    }
+    Ok(found)
+}
+
+/// Returns a count of the calls of the key that a diagnosis names first, by the first moment at which they have no order. `None` if none
+/// is found. Searches at most about `MOST_COUNTED` calls, the last ones. Allocates.
+pub(crate) fn count_in(
+    alloc: Global,
+    recorded: &Recorded,
+    diagnosis: &Diagnosis,
+) -> Result<Option<Count>, AllocError> {
+    let (key, moment) = (diagnosis.first_key, diagnosis.first_moment);
+    let calls = calls_by(alloc, recorded, key, moment)?;
+    let left = if moment == NEVER {
+        recorded.leaves(key)
+    } else {
+        None
+    };
+    let calls = KeyCalls::new(alloc, key, calls, recorded.opens(key), left)?;
+    let Some(counted) = calls_to_count(alloc, &calls)? else {
+        return Ok(None);
+    };
+    let Some(count) = find_count(alloc, &counted.calls, Key(key), counted.before, left)? else {
+        return Ok(None);
+    };
+    if count.since.is_none() && !counted.is_from_opening {
+        return Ok(None);
+    }
+    let backs = backs_in(alloc, recorded, &count.backs)?;
+    Ok(Some(Count { backs, ..count }))
+}

@@ -1,0 +1,174 @@
+use crate::made::{Made, NEVER, Operation};
+use lset_words::Presence;
+use std::alloc::{AllocError, Global};
+
+/// The changes of a key to one state in the order of their begins, each with the latest end of the changes up to it.
+#[derive(Drop)]
+struct Makers {
+    begins: Vec<u64>,
+    latest: Vec<u64>,
+}
+
+impl Makers {
+    fn of(alloc: Global, calls: &[Made], state: Presence) -> Result<Makers, AllocError> {
+        let mut begins = Vec::new(alloc);
+        let mut latest = Vec::new(alloc);
+        let mut last = 0;
+        for call in calls {
+            if call.makes() == Some(state) {
+                last = call.ended.max(last);
+                begins.push(call.begun)?;
+                latest.push(last)?;
+            }
+        }
+        Ok(Makers { begins, latest })
+    }
+
+    fn overlap(&self, since: u64, until: u64) -> bool {
+        let at = self.begins.partition_point(|begun| *begun <= until);
+        match self.latest.get(at.wrapping_sub(1)) {
+            Some(last) => *last >= since,
+            None => false,
+        }
+    }
+}
+
+/// The completed calls that left a key in one state, in the order of their ends: the ends, and which of the calls up to each began last.
+#[derive(Drop)]
+struct Proofs {
+    ends: Vec<u64>,
+    last: Vec<Made>,
+}
+
+impl Proofs {
+    fn of(alloc: Global, calls: &[Made], state: Presence) -> Result<Proofs, AllocError> {
+        let mut found: Vec<Made> = Vec::new(alloc);
+        for call in calls {
+            if call.leaves() == Some(state) {
+                found.push(*call)?;
+            }
+        }
+        found.sort_unstable_by_key(|call| call.ended);
+        let mut ends = Vec::new(alloc);
+        let mut last = Vec::new(alloc);
+        let mut best: Option<Made> = None;
+        for call in &found {
+            let began_last = match best {
+                Some(other) if other.begun > call.begun => other,
+                _ => *call,
+            };
+            best = Some(began_last);
+            ends.push(call.ended)?;
+            last.push(began_last)?;
+        }
+        Ok(Proofs { ends, last })
+    }
+
+    fn before(&self, moment: u64) -> Option<Made> {
+        let at = self.ends.partition_point(|end| *end < moment);
+        self.last.get(at.wrapping_sub(1)).copied()
+    }
+}
+
+/// The calls of a key, with its opening state, and its final state if that is known.
+#[derive(Drop)]
+pub(crate) struct KeyCalls {
+    pub(crate) key: u32,
+    pub(crate) calls: Vec<Made>,
+    pub(crate) opening: Presence,
+    pub(crate) left: Option<Presence>,
+    puts: Makers,
+    takes: Makers,
+    present: Proofs,
+    absent: Proofs,
+}
+
+impl KeyCalls {
+    /// Returns the calls of a key, given in the order of their begins, indexed for searches. Allocates.
+    pub(crate) fn new(
+        alloc: Global,
+        key: u32,
+        calls: Vec<Made>,
+        opening: Presence,
+        left: Option<Presence>,
+    ) -> Result<KeyCalls, AllocError> {
+        let puts = Makers::of(alloc, &calls, Presence::Present)?;
+        let takes = Makers::of(alloc, &calls, Presence::Absent)?;
+        let present = Proofs::of(alloc, &calls, Presence::Present)?;
+        let absent = Proofs::of(alloc, &calls, Presence::Absent)?;
+        Ok(KeyCalls {
+            key,
+            calls,
+            opening,
+            left,
+            puts,
+            takes,
+            present,
+            absent,
+        })
+    }
+
+    /// Returns whether a call that changed the key to a state, or can have done so, overlaps the time from `since` to `until`.
+    pub(crate) fn may_become(&self, state: Presence, since: u64, until: u64) -> bool {
+        match state {
+            Presence::Present => self.puts.overlap(since, until),
+            Presence::Absent => self.takes.overlap(since, until),
+        }
+    }
+
+    /// Returns the call that began last among those that had ended before a moment and left the key in a state.
+    pub(crate) fn proof_before(&self, state: Presence, moment: u64) -> Option<Made> {
+        match state {
+            Presence::Present => self.present.before(moment),
+            Presence::Absent => self.absent.before(moment),
+        }
+    }
+
+    /// Returns the number of calls that began by a moment.
+    pub(crate) fn begun_by(&self, moment: u64) -> usize {
+        self.calls.partition_point(|call| call.begun <= moment)
+    }
+
+    /// Returns the calls that began after a moment.
+    pub(crate) fn after(&self, moment: u64) -> &[Made] {
+        self.calls.get(self.begun_by(moment)..).unwrap_or(&[])
+    }
+
+    /// Returns the calls of an operation that returned false and overlap the time from `since` to `until`. Looks at the `MOST_OLDER` calls
+    /// that began last before `since`.
+    pub(crate) fn refusals(
+        &self,
+        alloc: Global,
+        operation: Operation,
+        since: u64,
+        until: u64,
+    ) -> Result<Vec<Made>, AllocError> {
+        let mut found = Vec::new(alloc);
+        let end = self.begun_by(until);
+        let first = self.begun_by(since).saturating_sub(MOST_OLDER);
+        for call in self.calls.get(first..end).unwrap_or(&[]) {
+            let is_refusal = call.operation == operation && call.reply == Some(false);
+            if is_refusal && call.overlaps(since, until) {
+                found.push(*call)?;
+            }
+        }
+        Ok(found)
+    }
+
+    /// Returns the completed change of the key to a state that began last by a moment.
+    pub(crate) fn change_before(&self, state: Presence, moment: u64) -> Option<Made> {
+        let end = self.begun_by(moment);
+        let earlier = self.calls.get(..end).unwrap_or(&[]);
+        let changed = |call: &&Made| call.makes() == Some(state) && call.reply.is_some();
+        earlier.iter().rev().find(changed).copied()
+    }
+
+    /// Returns the begin of the first change after a moment. `NEVER` if there is none.
+    pub(crate) fn next_change(&self, moment: u64) -> u64 {
+        let change = self.after(moment).iter().find(|call| call.changes());
+        change.map_or(NEVER, |call| call.begun)
+    }
+}
+
+/// The maximum number of calls before a time that are looked at for those that overlap it.
+const MOST_OLDER: usize = 400;

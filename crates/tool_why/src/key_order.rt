@@ -1,0 +1,230 @@
+//! The judge's rule for the calls of one key: a pending change takes effect only if a call that ends needs it. Of several pending changes the
+//! one with the nearest end takes effect.
+
+use crate::made::{Made, NEVER, other};
+use lset_words::Presence;
+use std::alloc::{AllocError, Global};
+
+/// Calls that end later.
+#[derive(Drop)]
+pub(crate) struct Pending {
+    calls: Vec<Made>,
+}
+
+impl Pending {
+    /// Returns an empty list.
+    pub(crate) fn new(alloc: Global) -> Pending {
+        Pending {
+            calls: Vec::new(alloc),
+        }
+    }
+
+    /// Returns a copy. Allocates.
+    pub(crate) fn copied(&self, alloc: Global) -> Result<Pending, AllocError> {
+        Ok(Pending {
+            calls: Vec::from_slice(alloc, &self.calls)?,
+        })
+    }
+
+    /// Adds a call if it is completed later.
+    pub(crate) fn push(&mut self, call: Made) -> Result<(), AllocError> {
+        if call.reply.is_some() {
+            self.calls.push(call)?;
+        }
+        Ok(())
+    }
+
+    pub(crate) fn len(&self) -> usize {
+        self.calls.len()
+    }
+
+    /// Removes and returns the call that ends first, if it ends before a moment.
+    pub(crate) fn next_before(&mut self, at: u64) -> Option<Made> {
+        let mut least: Option<usize> = None;
+        let mut end = at;
+        for (i, call) in self.calls.iter().enumerate() {
+            if call.ended < end {
+                least = Some(i);
+                end = call.ended;
+            }
+        }
+        let i = least?;
+        if i < self.calls.len() {
+            Some(self.calls.swap_remove(i))
+        } else {
+            None
+        }
+    }
+}
+
+/// The state of a key by the rule, the moment of its last change, and the ends of the pending changes that have not taken effect.
+#[derive(Drop)]
+pub(crate) struct KeyState {
+    state: Presence,
+    turned: u64,
+    adds: Vec<u64>,
+    removes: Vec<u64>,
+}
+
+/// Removes the smallest end. Returns whether there was one.
+fn take_least(ends: &mut Vec<u64>) -> bool {
+    let mut least: Option<(usize, u64)> = None;
+    for (i, end) in ends.iter().enumerate() {
+        if least.is_none_or(|(_, other)| *end < other) {
+            least = Some((i, *end));
+        }
+    }
+    match least {
+        Some((i, _)) if i < ends.len() => {
+            let _taken = ends.swap_remove(i);
+            true
+        }
+        _ => false,
+    }
+}
+
+/// Returns whether two lists without duplicates have the same numbers.
+fn are_alike(some: &[u64], others: &[u64]) -> bool {
+    some.len() == others.len() && some.iter().all(|end| others.contains(end))
+}
+
+impl KeyState {
+    /// Returns the state of a key with no pending changes.
+    pub(crate) fn new(alloc: Global, state: Presence) -> KeyState {
+        KeyState {
+            state,
+            turned: 0,
+            adds: Vec::new(alloc),
+            removes: Vec::new(alloc),
+        }
+    }
+
+    /// Returns a copy. Allocates.
+    pub(crate) fn copied(&self, alloc: Global) -> Result<KeyState, AllocError> {
+        Ok(KeyState {
+            state: self.state,
+            turned: self.turned,
+            adds: Vec::from_slice(alloc, &self.adds)?,
+            removes: Vec::from_slice(alloc, &self.removes)?,
+        })
+    }
+
+    /// Returns whether every continuation that is accepted from state `than` is accepted from this state.
+    pub(crate) fn is_like(&self, than: &KeyState) -> bool {
+        self.state == than.state
+            && self.turned >= than.turned
+            && are_alike(&self.adds, &than.adds)
+            && are_alike(&self.removes, &than.removes)
+    }
+
+    /// Removes the nearest end of the pending changes that can change the state. Returns whether there was one.
+    fn take_next(&mut self) -> bool {
+        match self.state {
+            Presence::Present => take_least(&mut self.removes),
+            Presence::Absent => take_least(&mut self.adds),
+        }
+    }
+
+    /// Applies the pending change with the nearest end that can change the state. Returns whether there was one.
+    pub(crate) fn flip(&mut self, at: u64) -> bool {
+        if !self.take_next() {
+            return false;
+        }
+        self.state = other(self.state);
+        self.turned = at;
+        true
+    }
+
+    /// Returns whether the call that ends has its reply explained.
+    pub(crate) fn satisfies(&self, call: Made) -> bool {
+        match call.makes() {
+            Some(Presence::Present) => !self.adds.contains(&call.ended),
+            Some(Presence::Absent) => !self.removes.contains(&call.ended),
+            None => match call.needs() {
+                Some(needs) => self.state == needs || self.turned > call.begun,
+                None => true,
+            },
+        }
+    }
+
+    /// Applies pending changes until the call that ends has its reply explained. Returns whether that is possible.
+    pub(crate) fn settle(&mut self, call: Made) -> bool {
+        let most = self.adds.len().saturating_add(self.removes.len());
+        for _ in 0..most {
+            if self.satisfies(call) {
+                return true;
+            }
+            if !self.flip(call.ended) {
+                return false;
+            }
+        }
+        self.satisfies(call)
+    }
+
+    /// Records the begin of a call.
+    pub(crate) fn begin(&mut self, call: Made) -> Result<(), AllocError> {
+        match call.makes() {
+            Some(Presence::Present) => self.adds.push(call.ended)?,
+            Some(Presence::Absent) => self.removes.push(call.ended)?,
+            None => {}
+        }
+        Ok(())
+    }
+
+    /// Processes the ends before a moment. Returns the first end by which no order explains the calls.
+    pub(crate) fn end_before(&mut self, pending: &mut Pending, at: u64) -> Option<u64> {
+        for _ in 0..pending.len() {
+            let call = pending.next_before(at)?;
+            if !self.settle(call) {
+                return Some(call.ended);
+            }
+        }
+        None
+    }
+
+    /// Returns whether `left` can be the final state of the key.
+    pub(crate) fn may_be_left(&self, left: Option<Presence>) -> bool {
+        let turns = match self.state {
+            Presence::Present => !self.removes.is_empty(),
+            Presence::Absent => !self.adds.is_empty(),
+        };
+        turns || left.is_none_or(|left| left == self.state)
+    }
+}
+
+/// Returns the first moment by which no order explains the calls of a key, given in the order of their begins, from an opening state. `NEVER`
+/// if orders explain the calls, and none leaves the final state. `None` if an order explains the calls and leaves it. Allocates.
+pub(crate) fn failing_moment(
+    alloc: Global,
+    calls: &[Made],
+    opening: Presence,
+    left: Option<Presence>,
+) -> Result<Option<u64>, AllocError> {
+    let mut key = KeyState::new(alloc, opening);
+    let mut pending = Pending::new(alloc);
+    for call in calls {
+        if let Some(moment) = key.end_before(&mut pending, call.begun) {
+            return Ok(Some(moment));
+        }
+        key.begin(*call)?;
+        pending.push(*call)?;
+    }
+    if let Some(moment) = key.end_before(&mut pending, NEVER) {
+        return Ok(Some(moment));
+    }
+    Ok(if key.may_be_left(left) {
+        None
+    } else {
+        Some(NEVER)
+    })
+}
+
+/// Returns whether some order explains the calls of a key from an opening state, and leaves the final state if one is given. Allocates.
+pub(crate) fn has_order(
+    alloc: Global,
+    calls: &[Made],
+    opening: Presence,
+    left: Option<Presence>,
+) -> Result<bool, AllocError> {
+    Ok(failing_moment(alloc, calls, opening, left)?.is_none())
+}

@@ -1,0 +1,329 @@
+//! The likely cause: a guess from the facts of the message. There is no guess if nothing fits.
+
+use crate::made::Operation;
+use crate::splits::Split;
+use crate::tally::Tally;
+use lset_words::Presence;
+
+/// The odd operation: all calls without its answers have an order.
+#[derive(Clone, Copy)]
+pub struct Odd {
+    pub operation: Operation,
+    /// The number of its wrong answers: with each of them alone the other calls have no order.
+    pub wrong: u64,
+    /// Whether `wrong` counts all wrong answers. Otherwise there can be more.
+    pub is_exact: bool,
+    /// The number of its answers.
+    pub of: u64,
+    /// The number of wrong answers that missed a present key.
+    pub missed: u64,
+    /// The number of wrong answers that found an absent key.
+    pub found: u64,
+    /// The number of wrong answers during which the change that they did not see was still running.
+    pub running: u64,
+    /// The number of wrong answers during which a change that agrees with them was still running.
+    pub starting: u64,
+    /// The number of wrong answers during which a change of another key ran.
+    pub beside: u64,
+    /// The number of wrong answers during which a remove of another key that returned true ran.
+    pub removing: u64,
+    /// The number of wrong answers during which an add of another key that returned true ran.
+    pub adding: u64,
+    /// During how many of 100 of its calls a change of another key ran.
+    pub usual: u64,
+    /// Whether the final keys are ignored too.
+    pub puts_left_aside: bool,
+    /// The number of keys with wrong answers.
+    pub keys: u64,
+    /// Whether the operation never found any of these keys, and found others.
+    pub never_finds: bool,
+    /// The number of its answers for these keys.
+    pub of_keys: u64,
+}
+
+/// The facts for the guess.
+#[derive(Clone, Copy)]
+pub struct Evidence {
+    /// Two keys whose calls have an order as calls of one key.
+    pub merged: Option<(u32, u32)>,
+    pub odd: Option<Odd>,
+    pub tally: Tally,
+    pub split: Option<Split>,
+    /// The number of keys of the recording.
+    pub keys: u64,
+    /// The number of calls of the recording.
+    pub calls: u64,
+}
+
+/// A likely cause.
+#[derive(Clone, Copy)]
+pub enum Cause {
+    /// Two keys are taken for one.
+    TwoKeys,
+    /// `contains` does not see what `add` changes first.
+    NotSeenYet,
+    /// `contains` walks over keys that changes of other keys move.
+    MovedKeys,
+    /// A key is in the set twice.
+    KeptTwice,
+    /// An add of another key removes a key.
+    Displaced,
+    /// A remove removes another key than its own.
+    OtherKey,
+    /// The set goes wrong without a race.
+    OneThread,
+    /// `contains` does not look at what remove changes first.
+    MarkNotRead,
+    /// `contains` reads a copy from which removed keys disappear later.
+    TakenLater,
+    /// `contains` has a shortcut that returns false too early.
+    Shortcut,
+    /// `contains` reads a copy that is updated late.
+    LateCopy,
+    /// One key is treated unlike others.
+    OneKey,
+    /// `add` takes a removed node for a present one.
+    AddSeesRemoved,
+    /// `remove` has a shortcut that returns false too early.
+    RemoveShortcut,
+    /// `remove` gives up on a present key.
+    RemoveGivesUp,
+    /// Operations look into two places for a key.
+    TwoPlaces,
+    /// The first call creates something that is created twice.
+    FirstUse,
+    /// A remove continues to write after its effect.
+    GoesOn,
+    /// The reply does not come from the change itself.
+    EarlierLook,
+    /// A call is repeated after it took effect.
+    MadeAgain,
+    /// A check and a later write are not one step.
+    CheckThenAct,
+    /// A lock does not exclude calls of one key.
+    NoLock,
+    /// A whole copy is written over newer changes.
+    OldCopy,
+    /// A link is written without a check that it is current.
+    OldLink,
+    /// An older state is written back beside changes of other keys.
+    WrittenBack,
+    /// A table is replaced while calls still change the old one.
+    Replaced,
+}
+
+/// The minimum number of contradictions that show a rule of the set.
+const ENOUGH: u64 = 5;
+
+/// Returns whether `some` are at least `percent` of 100 of `all`.
+fn is_least(some: u64, all: u64, percent: u64) -> bool {
+    some.saturating_mul(100) >= all.saturating_mul(percent)
+}
+
+/// Returns whether `some` are at least `percent` of 100 of `all`, and `all` are enough.
+fn is_share(some: u64, all: u64, percent: u64) -> bool {
+    all >= ENOUGH && is_least(some, all, percent)
+}
+
+/// Returns whether by chance, in fewer than one of four cases, a change of another key would run during all wrong answers.
+fn is_no_chance(odd: Odd) -> bool {
+    let mut share = 1_000_000u64;
+    for _ in 0..odd.missed.min(40) {
+        share = share
+            .saturating_mul(odd.usual)
+            .checked_div(100)
+            .unwrap_or(0);
+    }
+    share < 250_000
+}
+
+/// Returns whether at least three quarters of the wrong answers are some of them.
+fn are_most(some: u64, odd: Odd) -> bool {
+    some.saturating_mul(4) >= odd.missed.saturating_mul(3)
+}
+
+/// Returns the likely cause if contains alone is wrong, and only misses keys.
+fn cause_of_misses(odd: Odd) -> Option<Cause> {
+    let only_adds = odd.beside.saturating_sub(odd.removing);
+    let is_moved = is_no_chance(odd) && (odd.missed > 1 || odd.adding == 0);
+    if odd.running == odd.missed {
+        Some(Cause::NotSeenYet)
+    } else if odd.beside < odd.missed {
+        Some(Cause::Shortcut)
+    } else if are_most(odd.removing, odd) && is_moved {
+        Some(Cause::MovedKeys)
+    } else if are_most(only_adds, odd) && odd.missed >= 3 {
+        Some(Cause::Shortcut)
+    } else {
+        None
+    }
+}
+
+/// Returns the likely cause if contains alone is wrong.
+fn cause_of_contains(odd: Odd) -> Option<Cause> {
+    if odd.missed > 0 && odd.found > 0 {
+        Some(Cause::LateCopy)
+    } else if odd.found > 0 && odd.running.saturating_mul(2) >= odd.found {
+        Some(Cause::MarkNotRead)
+    } else if odd.found > 0 && odd.starting.saturating_mul(2) < odd.found {
+        Some(Cause::TakenLater)
+    } else if odd.found > 0 {
+        None
+    } else {
+        cause_of_misses(odd)
+    }
+}
+
+/// Returns the likely cause if remove alone is wrong.
+fn cause_of_remove(odd: Odd) -> Cause {
+    let is_beside = odd.beside == odd.missed && are_most(odd.adding, odd);
+    if odd.missed >= 3 && is_beside && is_no_chance(odd) {
+        Cause::RemoveShortcut
+    } else {
+        Cause::RemoveGivesUp
+    }
+}
+
+/// Returns the likely cause if one operation alone is wrong.
+fn cause_of_odd(odd: Odd) -> Option<Cause> {
+    let is_often = odd.wrong >= odd.keys.saturating_mul(2);
+    match odd.operation {
+        Operation::Add => Some(Cause::AddSeesRemoved),
+        _ if odd.never_finds && is_often => Some(Cause::OneKey),
+        Operation::Remove => Some(cause_of_remove(odd)),
+        Operation::Contains => cause_of_contains(odd),
+    }
+}
+
+/// Returns whether all contradictions are at the first use of their keys.
+fn is_first_use(evidence: &Evidence) -> bool {
+    let tally = evidence.tally;
+    let calls = evidence.calls.checked_div(evidence.keys).unwrap_or(0);
+    let is_repeated = tally.places > 1 && tally.gone() > 0;
+    is_repeated && calls > tally.begun.saturating_mul(50)
+}
+
+/// Returns whether changes of other keys ran at the time of losses and returns no more often than at other times.
+fn is_beside_by_chance(tally: &Tally) -> bool {
+    let share = tally.beside.saturating_mul(100).checked_div(tally.timed());
+    share.unwrap_or(0) <= tally.usual.saturating_add(15)
+}
+
+/// Returns the likely cause if keys were lost and came back.
+fn cause_of_gone(tally: &Tally) -> Option<Cause> {
+    let (lost, back) = (tally.lost, tally.came_back);
+    if tally.swapped >= 4 && is_least(tally.swapped, tally.undone, 60) {
+        return Some(Cause::OtherKey);
+    }
+    if tally.timed() < 2 * ENOUGH {
+        return None;
+    }
+    if !is_share(tally.beside, tally.timed(), 90) {
+        return if is_beside_by_chance(tally) {
+            Some(Cause::NoLock)
+        } else {
+            None
+        };
+    }
+    let has_both = tally.both_adds > 0 && tally.both_removes > 0;
+    if lost.saturating_mul(2) >= back.saturating_mul(3) {
+        Some(Cause::OldLink)
+    } else if has_both && is_share(tally.both(), tally.places, 5) {
+        Some(Cause::OldCopy)
+    } else {
+        Some(Cause::WrittenBack)
+    }
+}
+
+/// Returns whether calls that returned false can have made nearly all contradicting changes.
+fn is_made_again(tally: &Tally) -> bool {
+    let gone = tally.gone();
+    gone >= 2 * ENOUGH && tally.both() == 0 && is_share(tally.silent, gone, 80)
+}
+
+/// Returns whether replies do not come from the changes themselves.
+fn is_earlier_look(tally: &Tally) -> bool {
+    let (both, gone) = (tally.both(), tally.gone());
+    let is_enough = gone >= 2 * ENOUGH && both >= 3 && is_share(both, tally.places, 5);
+    is_enough && is_share(tally.turned, gone, 90)
+}
+
+/// Returns whether contradictions need no calls that overlap.
+fn needs_no_race(tally: &Tally) -> bool {
+    tally.gone() >= 2 * ENOUGH && tally.apart >= ENOUGH && is_share(tally.apart, tally.places, 10)
+}
+
+/// Returns the likely cause if the set goes wrong without a race.
+fn cause_in_one_thread(tally: &Tally) -> Option<Cause> {
+    let (lost, back) = (tally.lost, tally.came_back);
+    let is_undone = lost == 0 && back >= 4 && is_least(tally.undone, back, 80);
+    let is_readded = needs_no_race(tally) && back > 0 && lost > 0 && tally.readded == lost;
+    let is_removed = is_share(tally.unlinked, lost, 90);
+    if is_undone || is_readded {
+        Some(Cause::KeptTwice)
+    } else if needs_no_race(tally) && !is_least(tally.others, tally.places, 65) {
+        Some(Cause::OneThread)
+    } else if back == 0
+        && lost >= 2 * ENOUGH
+        && is_least(tally.displaced, lost, 95)
+        && !is_removed
+    {
+        Some(Cause::Displaced)
+    } else {
+        None
+    }
+}
+
+/// Returns the likely cause if changes that overlap go wrong.
+fn cause_of_races(evidence: &Evidence) -> Option<Cause> {
+    let tally = &evidence.tally;
+    if is_first_use(evidence) {
+        return Some(Cause::FirstUse);
+    }
+    let is_mostly_lost = tally.came_back.saturating_mul(4) <= tally.lost;
+    if tally.both() == 0 && is_mostly_lost && is_share(tally.crossed, tally.lost, 60) {
+        return Some(Cause::GoesOn);
+    }
+    if is_share(tally.both(), tally.places, 40) {
+        return Some(Cause::CheckThenAct);
+    }
+    if is_earlier_look(tally) {
+        return Some(Cause::EarlierLook);
+    }
+    if tally.places == tally.keys && tally.keys >= 8 {
+        return Some(Cause::Replaced);
+    }
+    if tally.others.saturating_mul(2) > tally.places {
+        return None;
+    }
+    cause_of_gone(tally)
+}
+
+/// Returns the likely cause. `None` if nothing fits.
+pub(crate) fn likely(evidence: &Evidence) -> Option<Cause> {
+    if evidence.merged.is_some() {
+        return Some(Cause::TwoKeys);
+    }
+    if let Some(odd) = evidence.odd {
+        return cause_of_odd(odd);
+    }
+    if evidence.split.is_some_and(|split| split.is_long()) {
+        return Some(Cause::TwoPlaces);
+    }
+    let tally = &evidence.tally;
+    if is_made_again(tally) {
+        return Some(Cause::MadeAgain);
+    }
+    match cause_in_one_thread(tally) {
+        Some(cause) => Some(cause),
+        None => cause_of_races(evidence),
+    }
+}
+
+/// Returns the word of a state in messages.
+pub(crate) fn state_word(state: Presence) -> &'static str {
+    match state {
+        Presence::Present => "present",
+        Presence::Absent => "absent",
+    }
+}

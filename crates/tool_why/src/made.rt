@@ -1,0 +1,165 @@
+use lset_judge::StreamCall;
+use lset_text::call_word;
+use lset_words::{Call, Key, Presence, Reply};
+
+/// The end of a pending call, or of a call whose reply is not known.
+pub const NEVER: u64 = u64::MAX;
+
+/// An operation of a set.
+#[derive(Clone, Copy, PartialEq, Eq)]
+pub enum Operation {
+    Add,
+    Remove,
+    Contains,
+}
+
+impl Operation {
+    /// Returns the name of the operation in a recording.
+    pub fn word(self) -> &'static str {
+        match self {
+            Operation::Add => "add",
+            Operation::Remove => "remove",
+            Operation::Contains => "contains",
+        }
+    }
+
+    /// Returns the operation that changes a key to a state.
+    pub(crate) fn that_makes(state: Presence) -> Operation {
+        match state {
+            Presence::Present => Operation::Add,
+            Presence::Absent => Operation::Remove,
+        }
+    }
+}
+
+/// Returns the other state of a key.
+pub(crate) fn other(state: Presence) -> Presence {
+    match state {
+        Presence::Present => Presence::Absent,
+        Presence::Absent => Presence::Present,
+    }
+}
+
+/// A call of a recording: its thread, operation and key, the moments of its begin and its end, and its reply.
+#[derive(Clone, Copy, PartialEq, Eq)]
+pub struct Made {
+    pub begun: u64,
+    /// `NEVER` if the call is pending or its reply is not known.
+    pub ended: u64,
+    pub thread: u32,
+    pub key: u32,
+    pub operation: Operation,
+    /// Whether the call returned true; `None` if that is not known.
+    pub reply: Option<bool>,
+}
+
+impl Made {
+    /// Returns a call of the judge's stream as a `Made`.
+    pub(crate) fn of(call: StreamCall) -> Made {
+        let operation = match call.call {
+            Call::Add(_) => Operation::Add,
+            Call::Remove(_) => Operation::Remove,
+            Call::Contains(_) | Call::Ceiling(_) => Operation::Contains,
+        };
+        let (ended, reply) = match call.ended {
+            Some((end, reply)) => (end, Some(reply == Reply::True)),
+            None => (NEVER, None),
+        };
+        Made {
+            begun: call.begun,
+            ended,
+            thread: call.thread,
+            key: call.call.key().0,
+            operation,
+            reply,
+        }
+    }
+
+    /// Returns the call for the judge's stream.
+    pub(crate) fn to_stream(self) -> StreamCall {
+        let key = Key(self.key);
+        let call = match self.operation {
+            Operation::Add => Call::Add(key),
+            Operation::Remove => Call::Remove(key),
+            Operation::Contains => Call::Contains(key),
+        };
+        let ended = match self.reply {
+            Some(true) => Some((self.ended, Reply::True)),
+            Some(false) => Some((self.ended, Reply::False)),
+            None => None,
+        };
+        StreamCall {
+            thread: self.thread,
+            call,
+            begun: self.begun,
+            ended,
+        }
+    }
+
+    /// Returns the state that the key needs to have just before the call takes effect. `None` if the reply is not known.
+    pub(crate) fn needs(self) -> Option<Presence> {
+        let yes = self.reply?;
+        let is_present = match self.operation {
+            Operation::Contains | Operation::Remove => yes,
+            Operation::Add => !yes,
+        };
+        Some(if is_present {
+            Presence::Present
+        } else {
+            Presence::Absent
+        })
+    }
+
+    /// Returns whether the call changed its key, or can have changed it.
+    pub(crate) fn changes(self) -> bool {
+        self.operation != Operation::Contains && self.reply != Some(false)
+    }
+
+    /// Returns the state to which the call changed its key, or can have changed it.
+    pub(crate) fn makes(self) -> Option<Presence> {
+        if !self.changes() {
+            return None;
+        }
+        match self.operation {
+            Operation::Add => Some(Presence::Present),
+            Operation::Remove => Some(Presence::Absent),
+            Operation::Contains => None,
+        }
+    }
+
+    /// Returns the state in which a completed call leaves its key. `None` if the reply is not known.
+    pub(crate) fn leaves(self) -> Option<Presence> {
+        let needs = self.needs()?;
+        Some(self.makes().unwrap_or(needs))
+    }
+
+    /// Returns whether the call ended without a change of its key.
+    pub(crate) fn reads(self) -> bool {
+        self.reply.is_some() && !self.changes()
+    }
+
+    /// Returns the call with the other reply.
+    pub(crate) fn turned(self) -> Made {
+        Made {
+            reply: self.reply.map(|yes| !yes),
+            ..self
+        }
+    }
+
+    /// Returns the call as it was at a moment: pending if it ended later.
+    pub(crate) fn cut_at(self, moment: u64) -> Made {
+        if self.ended <= moment {
+            return self;
+        }
+        Made {
+            ended: NEVER,
+            reply: None,
+            ..self
+        }
+    }
+
+    /// Returns whether the call overlaps the time from `since` to `until`.
+    pub(crate) fn overlaps(self, since: u64, until: u64) -> bool {
+        self.begun <= until && self.ended >= since
+    }
+}

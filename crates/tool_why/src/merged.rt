@@ -1,0 +1,82 @@
+//! Two keys that are taken for one: each has calls without an order, and as calls of one key their calls have one.
+
+use crate::key_order::has_order;
+use crate::made::Made;
+use crate::runs::{Refused, Runs, first_of};
+use std::alloc::{AllocError, Global};
+
+/// The number of refused keys up to which all pairs are tried.
+const MOST_PAIRED: usize = 8;
+
+/// The maximum number of keys that are tried with the first refused key.
+const MOST_TRIED: usize = 64;
+
+/// The maximum number of calls of a pair that is tried.
+const MOST_CALLS: usize = 1_000_000;
+
+/// The minimum number of completed changes of each key of a pair.
+const LEAST_CHANGES: usize = 4;
+
+/// Returns the number of completed changes among calls.
+fn count_changes(calls: &[Made]) -> usize {
+    calls
+        .iter()
+        .filter(|call| call.changes() && call.reply.is_some())
+        .count()
+}
+
+/// Returns whether the calls of two keys have an order as calls of one key.
+fn are_one(alloc: Global, runs: &Runs<'_>, one: u32, two: u32) -> Result<bool, AllocError> {
+    let opening = runs.recorded.opens(one);
+    if opening != runs.recorded.opens(two) {
+        return Ok(false);
+    }
+    let (first, second) = (runs.made_of(one), runs.made_of(two));
+    let is_enough = count_changes(first).min(count_changes(second)) >= LEAST_CHANGES;
+    if !is_enough || first.len().saturating_add(second.len()) > MOST_CALLS {
+        return Ok(false);
+    }
+    let mut calls = Vec::from_slice(alloc, first)?;
+    calls.extend_from_slice(second)?;
+    calls.sort_unstable_by_key(|call| call.begun);
+    has_order(alloc, &calls, opening, None)
+}
+
+/// Returns the first of some keys whose calls have an order together with those of key `one`.
+fn partner_of(
+    alloc: Global,
+    runs: &Runs<'_>,
+    one: u32,
+    others: &[Refused],
+) -> Result<Option<u32>, AllocError> {
+    for two in others {
+        if two.key != one && are_one(alloc, runs, one, two.key)? {
+            return Ok(Some(two.key));
+        }
+    }
+    Ok(None)
+}
+
+/// Returns two refused keys whose calls have an order as calls of one key. Of more than `MOST_PAIRED` refused keys, only pairs with the
+/// first one are tried. Allocates.
+pub(crate) fn merged_keys(
+    alloc: Global,
+    runs: &Runs<'_>,
+    refused: &[Refused],
+) -> Result<Option<(u32, u32)>, AllocError> {
+    if refused.len() <= MOST_PAIRED {
+        for (index, one) in refused.iter().enumerate() {
+            let others = refused.get(index..).unwrap_or(&[]);
+            if let Some(two) = partner_of(alloc, runs, one.key, others)? {
+                return Ok(Some((one.key, two)));
+            }
+        }
+        return Ok(None);
+    }
+    let Some(first) = first_of(refused) else {
+        return Ok(None);
+    };
+    let others = refused.get(..MOST_TRIED).unwrap_or(refused);
+    let two = partner_of(alloc, runs, first.key, others)?;
+    Ok(two.map(|two| (first.key.min(two), first.key.max(two))))
+}

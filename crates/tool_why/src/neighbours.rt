@@ -1,0 +1,77 @@
+use crate::made::{Made, Operation};
+use std::alloc::{AllocError, Global};
+
+/// The maximum number of earlier changes that are looked at.
+const MOST_BACK: usize = 100_000;
+
+/// The completed changes of all keys in the order of their begins, each with the latest end of the changes up to it.
+#[derive(Drop)]
+pub(crate) struct Neighbours {
+    changes: Vec<Made>,
+    latest: Vec<u64>,
+}
+
+impl Neighbours {
+    /// Returns the completed changes among calls in the order of their begins. Allocates.
+    pub(crate) fn of(alloc: Global, calls: &[Made]) -> Result<Neighbours, AllocError> {
+        let mut changes = Vec::new(alloc);
+        let mut latest = Vec::new(alloc);
+        let mut last = 0;
+        for call in calls {
+            if call.changes() && call.reply.is_some() {
+                last = call.ended.max(last);
+                changes.push(*call)?;
+                latest.push(last)?;
+            }
+        }
+        Ok(Neighbours { changes, latest })
+    }
+
+    /// Returns at most `most` completed changes of other keys that overlap the time from `since` to `until`, the last to begin first.
+    /// Allocates.
+    pub(crate) fn around(
+        &self,
+        alloc: Global,
+        key: u32,
+        since: u64,
+        until: u64,
+        most: usize,
+    ) -> Result<Vec<Made>, AllocError> {
+        let mut found = Vec::new(alloc);
+        let end = self.changes.partition_point(|call| call.begun <= until);
+        let changes = self.changes.get(..end).unwrap_or(&[]);
+        let latest = self.latest.get(..end).unwrap_or(&[]);
+        for (call, last) in changes.iter().zip(latest).rev().take(MOST_BACK) {
+            if *last < since || found.len() >= most {
+                break;
+            }
+            if call.key != key && call.ended >= since {
+                found.push(*call)?;
+            }
+        }
+        Ok(found)
+    }
+
+    /// Returns whether a completed change of another key overlaps the time from `since` to `until`, by an operation if one is given.
+    pub(crate) fn overlap(
+        &self,
+        key: u32,
+        since: u64,
+        until: u64,
+        operation: Option<Operation>,
+    ) -> bool {
+        let end = self.changes.partition_point(|call| call.begun <= until);
+        let changes = self.changes.get(..end).unwrap_or(&[]);
+        let latest = self.latest.get(..end).unwrap_or(&[]);
+        for (call, last) in changes.iter().zip(latest).rev().take(MOST_BACK) {
+            if *last < since {
+                return false;
+            }
+            let is_meant = operation.is_none_or(|operation| operation == call.operation);
+            if is_meant && call.key != key && call.ended >= since {
+                return true;
+            }
+        }
+        false
+    }
+}

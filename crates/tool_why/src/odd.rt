@@ -1,0 +1,229 @@
+//! The odd operation: all calls without its answers (its calls that change nothing) have an order.
+
+use crate::key_order::{KeyState, Pending, has_order};
+use crate::made::{Made, NEVER, Operation};
+use crate::run_reader::Recorded;
+use lset_judge::{Judge, StreamFault, Verdict};
+use lset_words::{Presence, increases};
+use std::alloc::{AllocError, Global};
+
+/// Returns whether a call is an answer of an operation: it changes nothing.
+pub(crate) fn is_answer(call: Made, operation: Operation) -> bool {
+    call.operation == operation && call.reads()
+}
+
+/// Returns the calls of a key without the answers of an operation.
+pub(crate) fn without(
+    alloc: Global,
+    calls: &[Made],
+    operation: Operation,
+) -> Result<Vec<Made>, AllocError> {
+    let mut others = Vec::new(alloc);
+    for call in calls {
+        if !is_answer(*call, operation) {
+            others.push(*call)?;
+        }
+    }
+    Ok(others)
+}
+
+/// Returns whether the calls of a key have an order without the answers of an operation. Allocates.
+pub(crate) fn is_explained_without(
+    alloc: Global,
+    calls: &[Made],
+    operation: Operation,
+    opening: Presence,
+    left: Option<Presence>,
+) -> Result<bool, AllocError> {
+    let others = without(alloc, calls, operation)?;
+    has_order(alloc, &others, opening, left)
+}
+
+/// Returns whether the judge accepts all calls without the answers of an operation, with any final keys if `is_cut`. Allocates.
+pub(crate) fn is_judged_without(
+    alloc: Global,
+    recorded: &Recorded,
+    operation: Operation,
+    is_cut: bool,
+) -> Result<bool, AllocError> {
+    if !increases(&recorded.opening) || !increases(&recorded.left) {
+        return Ok(false);
+    }
+    let mut judge = Judge::new(alloc, &recorded.opening)?;
+    for call in &recorded.calls {
+        if is_answer(*call, operation) {
+            continue;
+        }
+        match judge.add(call.to_stream()) {
+            Ok(()) => {}
+            Err(StreamFault::Memory) => return Err(AllocError),
+            Err(_) => return Ok(false),
+        }
+    }
+    let verdict = if is_cut {
+        judge.close_cut_off()?
+    } else {
+        judge.close(&recorded.left)?
+    };
+    Ok(matches!(verdict, Verdict::Linearizable))
+}
+
+/// The maximum number of steps that decide which answers are wrong.
+const MOST_STEPS: u64 = 50_000_000;
+
+/// The wrong answers of an operation: with each of them alone the other calls have no order.
+#[derive(Drop)]
+pub(crate) struct WrongAnswers {
+    pub(crate) wrong: Vec<Made>,
+    steps: u64,
+    /// Whether all answers were decided, and the calls without the wrong answers have an order.
+    pub(crate) is_exact: bool,
+}
+
+/// A pass over the calls of a key.
+#[derive(Drop)]
+struct Walk<'a> {
+    alloc: Global,
+    operation: Operation,
+    rest: &'a [Made],
+    left: Option<Presence>,
+    key: KeyState,
+    pending: Pending,
+}
+
+impl Walk<'_> {
+    /// Returns whether the other calls, without the other answers, have no order with an answer that ends now and is not satisfied.
+    fn is_wrong(&self, call: Made, found: &mut WrongAnswers) -> Result<bool, AllocError> {
+        let mut with = self.key.copied(self.alloc)?;
+        if !with.flip(call.ended) {
+            return Ok(true);
+        }
+        let mut key = self.key.copied(self.alloc)?;
+        let mut pending = self.pending.copied(self.alloc)?;
+        for next in self.rest {
+            if found.steps == 0 {
+                found.is_exact = false;
+                return Ok(false);
+            }
+            found.steps = found.steps.saturating_sub(1);
+            if self.both_end(&mut key, &mut with, &mut pending, next.begun) {
+                return Ok(true);
+            }
+            if with.is_like(&key) {
+                return Ok(false);
+            }
+            if !is_answer(*next, self.operation) {
+                key.begin(*next)?;
+                with.begin(*next)?;
+                pending.push(*next)?;
+            }
+        }
+        Ok(self.both_end(&mut key, &mut with, &mut pending, NEVER) || !with.may_be_left(self.left))
+    }
+
+    /// Processes the ends before a moment in both states. Returns whether the second state fails.
+    fn both_end(
+        &self,
+        key: &mut KeyState,
+        with: &mut KeyState,
+        pending: &mut Pending,
+        at: u64,
+    ) -> bool {
+        for _ in 0..pending.len() {
+            let Some(call) = pending.next_before(at) else {
+                return false;
+            };
+            if is_answer(call, self.operation) {
+                continue;
+            }
+            let _explained = key.settle(call);
+            if !with.settle(call) {
+                return true;
+            }
+        }
+        false
+    }
+
+    /// Processes the ends before a moment, and keeps the wrong answers.
+    fn end_before(&mut self, at: u64, found: &mut WrongAnswers) -> Result<(), AllocError> {
+        for _ in 0..self.pending.len() {
+            let Some(call) = self.pending.next_before(at) else {
+                return Ok(());
+            };
+            if !is_answer(call, self.operation) {
+                let _explained = self.key.settle(call);
+            } else if !self.key.satisfies(call) && self.is_wrong(call, found)? {
+                found.wrong.push(call)?;
+            }
+        }
+        Ok(())
+    }
+}
+
+/// Returns whether the calls of a key without some wrong answers have an order.
+fn is_rest_explained(
+    alloc: Global,
+    calls: &[Made],
+    wrong: &[Made],
+    opening: Presence,
+    left: Option<Presence>,
+) -> Result<bool, AllocError> {
+    let mut begins = Vec::new(alloc);
+    for call in wrong {
+        begins.push(call.begun)?;
+    }
+    begins.sort_unstable();
+    let mut others = Vec::new(alloc);
+    for call in calls {
+        if begins.binary_search(&call.begun).is_err() {
+            others.push(*call)?;
+        }
+    }
+    has_order(alloc, &others, opening, left)
+}
+
+impl WrongAnswers {
+    /// Returns no wrong answers.
+    pub(crate) fn new(alloc: Global) -> WrongAnswers {
+        WrongAnswers {
+            wrong: Vec::new(alloc),
+            steps: MOST_STEPS,
+            is_exact: true,
+        }
+    }
+
+    /// Adds the wrong answers of a key whose other calls have an order. Allocates.
+    pub(crate) fn add_of_key(
+        &mut self,
+        alloc: Global,
+        calls: &[Made],
+        operation: Operation,
+        opening: Presence,
+        left: Option<Presence>,
+    ) -> Result<(), AllocError> {
+        let before = self.wrong.len();
+        let mut walk = Walk {
+            alloc,
+            operation,
+            rest: calls,
+            left,
+            key: KeyState::new(alloc, opening),
+            pending: Pending::new(alloc),
+        };
+        for (i, call) in calls.iter().enumerate() {
+            walk.rest = calls.get(i..).unwrap_or(&[]);
+            walk.end_before(call.begun, self)?;
+            if !is_answer(*call, operation) {
+                walk.key.begin(*call)?;
+            }
+            walk.pending.push(*call)?;
+        }
+        walk.rest = &[];
+        walk.end_before(NEVER, self)?;
+        let wrong = self.wrong.get(before..).unwrap_or(&[]);
+        if !is_rest_explained(alloc, calls, wrong, opening, left)? {
+            self.is_exact = false;
+        }
+        Ok(())
+    }
+}

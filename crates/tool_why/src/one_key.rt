@@ -1,0 +1,155 @@
+//! A recording of one key: all its calls or, if no order explains them, the few that show it.
+
+use crate::as_record::put_call;
+use crate::key_order::{failing_moment, has_order};
+use crate::made::{Made, NEVER};
+use crate::run_reader::Recorded;
+use lset_words::Presence;
+use std::alloc::{AllocError, Global};
+
+/// The maximum number of calls of a part, if a part of this size is enough.
+const ENOUGH: usize = 16;
+
+/// The maximum number of calls that are tried as the first of a part: so many of the last calls, and so many earlier ones.
+const MOST_TRIED: usize = 64;
+
+/// Calls of a key in a row, the state of the key before them, and its final state if that is known.
+#[derive(Clone, Copy)]
+struct Part<'a> {
+    calls: &'a [Made],
+    opening: Presence,
+    left: Option<Presence>,
+}
+
+/// Returns the indices of the calls that begin while no call of the key is pending.
+fn quiet_starts(alloc: Global, calls: &[Made]) -> Result<Vec<usize>, AllocError> {
+    let mut starts = Vec::new(alloc);
+    let mut latest = 0;
+    for (index, call) in calls.iter().enumerate() {
+        if latest < call.begun {
+            starts.push(index)?;
+        }
+        latest = call.ended.max(latest);
+    }
+    Ok(starts)
+}
+
+/// Returns the state in which every order of some calls leaves the key. `None` if both states are possible, or neither.
+fn only_state(
+    alloc: Global,
+    calls: &[Made],
+    opening: Presence,
+) -> Result<Option<Presence>, AllocError> {
+    let present = has_order(alloc, calls, opening, Some(Presence::Present))?;
+    let absent = has_order(alloc, calls, opening, Some(Presence::Absent))?;
+    Ok(match (present, absent) {
+        (true, false) => Some(Presence::Present),
+        (false, true) => Some(Presence::Absent),
+        _ => None,
+    })
+}
+
+/// Returns the part of some calls from index `first` on, if the state of the key before it is known.
+fn part_from<'a>(
+    alloc: Global,
+    whole: Part<'a>,
+    first: usize,
+) -> Result<Option<Part<'a>>, AllocError> {
+    if first == 0 {
+        return Ok(Some(whole));
+    }
+    let before = whole.calls.get(..first).unwrap_or(&[]);
+    let calls = whole.calls.get(first..).unwrap_or(&[]);
+    let state = only_state(alloc, before, whole.opening)?;
+    Ok(state.map(|opening| Part {
+        calls,
+        opening,
+        ..whole
+    }))
+}
+
+/// Returns a part of calls without an order that has none either: from one of the last calls on, or else from an earlier call on.
+fn small_part<'a>(alloc: Global, whole: Part<'a>) -> Result<Part<'a>, AllocError> {
+    let starts = quiet_starts(alloc, whole.calls)?;
+    let few = whole.calls.len().saturating_sub(ENOUGH);
+    let middle = starts.partition_point(|first| *first < few);
+    for first in starts.get(middle..).unwrap_or(&[]).iter().take(MOST_TRIED) {
+        if let Some(part) = part_from(alloc, whole, *first)? {
+            return Ok(part);
+        }
+    }
+    for first in starts
+        .get(..middle)
+        .unwrap_or(&[])
+        .iter()
+        .rev()
+        .take(MOST_TRIED)
+    {
+        if let Some(part) = part_from(alloc, whole, *first)? {
+            return Ok(part);
+        }
+    }
+    Ok(whole)
+}
+
+/// Returns the recording of a part of the calls of a key.
+fn text_of(alloc: Global, key: u32, part: Part<'_>) -> Result<String, AllocError> {
+    let mut out = String::from_str(alloc, "listset-calls 1\n")?;
+    if part.opening == Presence::Present {
+        writeln!(out, "opening {key}")?;
+    }
+    for call in part.calls {
+        out.push_str("call ")?;
+        put_call(&mut out, *call)?;
+        out.push_str("\n")?;
+    }
+    if part.left == Some(Presence::Present) {
+        writeln!(out, "key {key}")?;
+    }
+    out.push_str(if part.left.is_some() {
+        "end\n"
+    } else {
+        "cut\n"
+    })?;
+    Ok(out)
+}
+
+/// Returns the recording of the calls of a key. If no order explains them, it has only a part of them that no order explains either. `None`
+/// if the recording has no call of the key. Allocates.
+pub fn recording_of_key(
+    alloc: Global,
+    recorded: &Recorded,
+    key: u32,
+) -> Result<Option<String>, AllocError> {
+    let mut calls = Vec::new(alloc);
+    for call in &recorded.calls {
+        if call.key == key {
+            calls.push(*call)?;
+        }
+    }
+    if calls.is_empty() {
+        return Ok(None);
+    }
+    let whole = Part {
+        calls: &calls,
+        opening: recorded.opens(key),
+        left: recorded.leaves(key),
+    };
+    let part = match failing_moment(alloc, whole.calls, whole.opening, whole.left)? {
+        None => whole,
+        Some(NEVER) => small_part(alloc, whole)?,
+        Some(moment) => {
+            let behind = calls.partition_point(|call| call.begun <= moment);
+            let calls = calls.get(..behind).unwrap_or(&[]);
+            small_part(
+                alloc,
+                Part {
+                    calls,
+                    left: None,
+                    ..whole
+                },
+            )?
+        }
+    };
+    Ok(Some(text_of(alloc, key, part)?))
+}

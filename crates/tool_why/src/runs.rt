@@ -1,0 +1,183 @@
+use crate::key_calls::KeyCalls;
+use crate::key_order::failing_moment;
+use crate::made::Made;
+use crate::run_reader::Recorded;
+use std::alloc::{AllocError, Global};
+
+/// The calls of a recording by their keys.
+#[derive(Drop)]
+pub(crate) struct Runs<'a> {
+    alloc: Global,
+    pub(crate) recorded: &'a Recorded,
+    /// The keys of calls, in increasing order.
+    keys: Vec<u32>,
+    /// For each key of `keys`, the index behind its last call in `calls`.
+    ends: Vec<usize>,
+    /// The calls, key by key, each key's in the order of their begins.
+    calls: Vec<Made>,
+}
+
+/// A key whose calls have no order, and the first moment by which they have none; `NEVER` if no order leaves the final state.
+#[derive(Clone, Copy)]
+pub(crate) struct Refused {
+    pub(crate) key: u32,
+    pub(crate) moment: u64,
+}
+
+/// The keys of calls in increasing order. If the keys are small numbers, a table has the index of each key in `keys`.
+#[derive(Drop)]
+struct KeyTable {
+    keys: Vec<u32>,
+    ranks: Vec<u32>,
+}
+
+/// Returns the index of a key among increasing keys.
+fn place_of(keys: &[u32], key: u32) -> usize {
+    keys.partition_point(|other| *other < key)
+}
+
+impl KeyTable {
+    /// Returns the table of calls whose largest key is not small.
+    fn sorted(alloc: Global, calls: &[Made]) -> Result<KeyTable, AllocError> {
+        let mut keys = Vec::new(alloc);
+        for call in calls {
+            keys.push(call.key)?;
+        }
+        keys.sort_unstable();
+        keys.dedup();
+        Ok(KeyTable {
+            keys,
+            ranks: Vec::new(alloc),
+        })
+    }
+
+    /// Returns the table of calls.
+    fn of(alloc: Global, calls: &[Made]) -> Result<KeyTable, AllocError> {
+        let mut most = 0;
+        for call in calls {
+            most = call.key.max(most);
+        }
+        let size = usize::try_from(most)
+            .unwrap_or(usize::MAX)
+            .saturating_add(1);
+        if size > calls.len().saturating_mul(4).saturating_add(65_536) {
+            return KeyTable::sorted(alloc, calls);
+        }
+        let mut seen = Vec::from_elem(alloc, false, size)?;
+        for call in calls {
+            let at = usize::try_from(call.key).unwrap_or(usize::MAX);
+            if let Some(is_seen) = seen.get_mut(at) {
+                *is_seen = true;
+            }
+        }
+        let mut table = KeyTable {
+            keys: Vec::new(alloc),
+            ranks: Vec::new(alloc),
+        };
+        let mut rank = 0u32;
+        for (key, is_seen) in seen.iter().enumerate() {
+            table.ranks.push(rank)?;
+            if *is_seen {
+                table.keys.push(u32::try_from(key).unwrap_or(u32::MAX))?;
+                rank = rank.saturating_add(1);
+            }
+        }
+        Ok(table)
+    }
+
+    /// Returns the index of a key of a call.
+    fn rank(&self, key: u32) -> usize {
+        let at = usize::try_from(key).unwrap_or(usize::MAX);
+        match self.ranks.get(at) {
+            Some(rank) => usize::try_from(*rank).unwrap_or(usize::MAX),
+            None => place_of(&self.keys, key),
+        }
+    }
+}
+
+impl<'a> Runs<'a> {
+    /// Groups the calls of a recording by their keys. Allocates.
+    pub(crate) fn of(alloc: Global, recorded: &'a Recorded) -> Result<Runs<'a>, AllocError> {
+        let table = KeyTable::of(alloc, &recorded.calls)?;
+        let mut counts = Vec::from_elem(alloc, 0usize, table.keys.len())?;
+        for call in &recorded.calls {
+            if let Some(count) = counts.get_mut(table.rank(call.key)) {
+                *count = count.saturating_add(1);
+            }
+        }
+        let mut ends = Vec::new(alloc);
+        let mut start = 0usize;
+        for count in &counts {
+            ends.push(start)?;
+            start = start.saturating_add(*count);
+        }
+        let mut calls = Vec::from_slice(alloc, &recorded.calls)?;
+        for call in &recorded.calls {
+            if let Some(end) = ends.get_mut(table.rank(call.key)) {
+                if let Some(slot) = calls.get_mut(*end) {
+                    *slot = *call;
+                }
+                *end = end.saturating_add(1);
+            }
+        }
+        Ok(Runs {
+            alloc,
+            recorded,
+            keys: table.keys,
+            ends,
+            calls,
+        })
+    }
+
+    /// Returns the calls of a key, in the order of their begins.
+    pub(crate) fn made_of(&self, key: u32) -> &[Made] {
+        let place = place_of(&self.keys, key);
+        if self.keys.get(place) != Some(&key) {
+            return &[];
+        }
+        let start = self.ends.get(place.wrapping_sub(1)).copied().unwrap_or(0);
+        let end = self.ends.get(place).copied().unwrap_or(0);
+        self.calls.get(start..end).unwrap_or(&[])
+    }
+
+    /// Returns the calls of a key, indexed for searches. Allocates.
+    pub(crate) fn calls_of(&self, key: u32) -> Result<KeyCalls, AllocError> {
+        let calls = Vec::from_slice(self.alloc, self.made_of(key))?;
+        let (opening, left) = (self.recorded.opens(key), self.recorded.leaves(key));
+        KeyCalls::new(self.alloc, key, calls, opening, left)
+    }
+
+    /// Returns all keys of the recording in increasing order. Allocates.
+    pub(crate) fn keys(&self) -> Result<Vec<u32>, AllocError> {
+        let mut keys = Vec::from_slice(self.alloc, &self.keys)?;
+        keys.extend_from_slice(&self.recorded.opening)?;
+        keys.extend_from_slice(&self.recorded.left)?;
+        keys.sort_unstable();
+        keys.dedup();
+        Ok(keys)
+    }
+
+    /// Returns the keys whose calls have no order. Allocates.
+    pub(crate) fn refused(&self, keys: &[u32]) -> Result<Vec<Refused>, AllocError> {
+        let mut refused = Vec::new(self.alloc);
+        for key in keys {
+            let (opening, left) = (self.recorded.opens(*key), self.recorded.leaves(*key));
+            let calls = self.made_of(*key);
+            if let Some(moment) = failing_moment(self.alloc, calls, opening, left)? {
+                refused.push(Refused { key: *key, moment })?;
+            }
+        }
+        Ok(refused)
+    }
+}
+
+/// Returns the refused key with the earliest moment.
+pub(crate) fn first_of(refused: &[Refused]) -> Option<Refused> {
+    let mut first: Option<Refused> = None;
+    for one in refused {
+        if first.is_none_or(|other| one.moment < other.moment) {
+            first = Some(*one);
+        }
+    }
+    first
+}

@@ -1,0 +1,143 @@
+use crate::key_calls::KeyCalls;
+use crate::made::{Made, NEVER, Operation};
+use lset_words::Presence;
+use std::alloc::{AllocError, Global};
+
+/// The minimum number of answers of each kind in a split.
+const LEAST: u64 = 3;
+
+/// The minimum number of answers of a long split.
+const LONG: u64 = 200;
+
+/// How many answers of an operation found a key present, and how many absent.
+#[derive(Clone, Copy)]
+pub struct Votes {
+    pub present: u64,
+    pub absent: u64,
+}
+
+const NO_VOTES: Votes = Votes {
+    present: 0,
+    absent: 0,
+};
+
+/// A time in which no change of a key ran, and calls found the key present and absent by turns.
+#[derive(Clone, Copy)]
+pub struct Split {
+    pub key: u32,
+    /// The moment after which no change ran.
+    pub since: u64,
+    /// The moment at which the next change begins; `NEVER` if none does.
+    pub until: u64,
+    pub adds: Votes,
+    pub removes: Votes,
+    pub contains: Votes,
+    turns: u64,
+    last: Option<Presence>,
+}
+
+impl Split {
+    /// Returns a split without answers.
+    fn since(key: u32, since: u64) -> Split {
+        Split {
+            key,
+            since,
+            until: NEVER,
+            adds: NO_VOTES,
+            removes: NO_VOTES,
+            contains: NO_VOTES,
+            turns: 0,
+            last: None,
+        }
+    }
+
+    /// Counts the answer of a call.
+    fn count(&mut self, call: Made) {
+        let Some(found) = call.needs() else {
+            return;
+        };
+        let votes = match call.operation {
+            Operation::Add => &mut self.adds,
+            Operation::Remove => &mut self.removes,
+            Operation::Contains => &mut self.contains,
+        };
+        match found {
+            Presence::Present => votes.present = votes.present.saturating_add(1),
+            Presence::Absent => votes.absent = votes.absent.saturating_add(1),
+        }
+        if self.last.is_some() && self.last != Some(found) {
+            self.turns = self.turns.saturating_add(1);
+        }
+        self.last = Some(found);
+    }
+
+    /// Returns whether the split has so many answers that it is a rule of the set.
+    pub fn is_long(&self) -> bool {
+        self.size() >= LONG
+    }
+
+    /// Returns how many answers of all operations found the key present, and how many absent.
+    pub fn votes(&self) -> Votes {
+        let (adds, removes, contains) = (self.adds, self.removes, self.contains);
+        let present = adds.present.saturating_add(contains.present);
+        let absent = removes.absent.saturating_add(contains.absent);
+        Votes {
+            present: present.saturating_add(removes.present),
+            absent: absent.saturating_add(adds.absent),
+        }
+    }
+
+    /// Returns whether `contains` always found the key in one state, and the answers changed at least three times.
+    fn is_split(&self) -> bool {
+        let votes = self.votes();
+        let is_mixed = self.contains.present > 0 && self.contains.absent > 0;
+        votes.present >= LEAST && votes.absent >= LEAST && self.turns >= 3 && !is_mixed
+    }
+
+    /// Returns the number of answers.
+    pub fn size(&self) -> u64 {
+        let votes = self.votes();
+        votes.present.saturating_add(votes.absent)
+    }
+}
+
+/// Returns the longest split of a key, by the number of its answers. Allocates.
+pub(crate) fn longest_split(alloc: Global, key: &KeyCalls) -> Result<Option<Split>, AllocError> {
+    let mut best: Option<Split> = None;
+    let mut split = Split::since(key.key, 0);
+    let mut quiet = 0;
+    let mut running: Vec<Made> = Vec::new(alloc);
+    for call in &key.calls {
+        let call = *call;
+        for earlier in &running {
+            if earlier.ended < call.begun {
+                split.count(*earlier);
+            }
+        }
+        running.retain(|earlier| earlier.ended > call.begun);
+        if call.changes() {
+            split.until = call.begun;
+            best = larger(best, split);
+            quiet = call.ended.max(quiet);
+            split = Split::since(key.key, quiet);
+            running.clear();
+        } else if call.reply.is_some() && call.begun > quiet {
+            running.push(call)?;
+        }
+    }
+    for earlier in &running {
+        split.count(*earlier);
+    }
+    Ok(larger(best, split))
+}
+
+/// Returns the larger of two splits. `next` counts only if it is a split.
+fn larger(best: Option<Split>, next: Split) -> Option<Split> {
+    if !next.is_split() {
+        return best;
+    }
+    match best {
+        Some(best) if best.size() >= next.size() => Some(best),
+        _ => Some(next),
+    }
+}

@@ -1,0 +1,169 @@
+//! The places at which the calls of a key contradict each other, each with its symptom.
+
+use crate::contradictions::{Clash, clashes_of};
+use crate::key_calls::KeyCalls;
+use crate::made::{Made, Operation};
+use crate::repairs::{Repairs, repairs_of};
+use crate::stretches::{Stretch, stretches_of};
+use lset_words::Presence;
+use std::alloc::{AllocError, Global};
+
+/// The symptom of a place.
+#[derive(Clone, Copy, PartialEq, Eq)]
+pub enum Symptom {
+    /// The reply of one call that changes nothing is wrong: the operation missed a present key.
+    Missed(Operation),
+    /// The reply of one call that changes nothing is wrong: the operation found an absent key.
+    Found(Operation),
+    /// Two calls of the operation overlap, and both returned true.
+    BothTrue(Operation),
+    /// A key was present, and later absent, without a remove that returned true.
+    Lost,
+    /// A key was absent, and later present, without an add that returned true.
+    CameBack,
+    /// More calls of the operation returned true than the other calls allow.
+    TooMany(Operation),
+    /// No single repair gives an order.
+    Unclear,
+}
+
+/// A clash with its symptom.
+#[derive(Clone, Copy)]
+pub(crate) struct Place {
+    pub(crate) key: u32,
+    pub(crate) clash: Clash,
+    pub(crate) symptom: Symptom,
+    /// The call with the one wrong reply.
+    pub(crate) wrong: Option<Made>,
+    /// An add or remove that returned false: with the other reply the calls around have an order.
+    pub(crate) silent: Option<Made>,
+    /// Whether the calls around have an order with the other reply of one call.
+    pub(crate) is_turned: bool,
+    /// The number of calls of the key that begin by the end of the clash.
+    pub(crate) begun: usize,
+}
+
+/// Returns the only element. `None` if there are none or more.
+fn only(calls: &[Made]) -> Option<Made> {
+    match calls {
+        [call] => Some(*call),
+        _ => None,
+    }
+}
+
+/// Returns the only call that changes nothing, is `contains` (or is not, by `contains`), and repairs the clash by its other reply.
+fn only_turned(
+    alloc: Global,
+    repairs: &Repairs,
+    contains: bool,
+) -> Result<Option<Made>, AllocError> {
+    let mut found = Vec::new(alloc);
+    for call in &repairs.turned {
+        if call.reads() && (call.operation == Operation::Contains) == contains {
+            found.push(*call)?;
+        }
+    }
+    Ok(only(&found))
+}
+
+/// Returns the symptom of a call with the one wrong reply.
+fn symptom_of_reply(call: Made) -> Symptom {
+    match call.needs() {
+        Some(Presence::Present) => Symptom::Found(call.operation),
+        _ => Symptom::Missed(call.operation),
+    }
+}
+
+/// Returns the symptom of a key that changed without a call that says so, from the state `was`.
+fn gone(was: Presence) -> Symptom {
+    match was {
+        Presence::Present => Symptom::Lost,
+        Presence::Absent => Symptom::CameBack,
+    }
+}
+
+/// Returns the operation of two changes that overlap. `None` if the clash is not of two such changes.
+fn both_true(clash: &Clash) -> Option<Operation> {
+    let (first, second) = (clash.first?, clash.second?);
+    if clash.overlaps() && first.changes() && second.changes() {
+        Some(first.operation)
+    } else {
+        None
+    }
+}
+
+/// Returns the place of a clash, with its symptom. Allocates.
+pub(crate) fn place_of(
+    alloc: Global,
+    key: &KeyCalls,
+    stretches: &[Stretch],
+    clash: Clash,
+) -> Result<Place, AllocError> {
+    let mut place = Place {
+        key: key.key,
+        clash,
+        symptom: Symptom::Unclear,
+        wrong: None,
+        silent: None,
+        is_turned: true,
+        begun: key.begun_by(clash.until),
+    };
+    if let Some(operation) = both_true(&clash) {
+        place.symptom = Symptom::BothTrue(operation);
+        return Ok(place);
+    }
+    let repairs = repairs_of(alloc, key, stretches, &clash)?;
+    place.is_turned = !repairs.turned.is_empty();
+    if let Some(call) = only_turned(alloc, &repairs, true)? {
+        place.symptom = symptom_of_reply(call);
+        place.wrong = Some(call);
+        return Ok(place);
+    }
+    if let Some(call) = only(&repairs.dropped) {
+        place.symptom = symptom_of_reply(call);
+        place.wrong = Some(call);
+        return Ok(place);
+    }
+    place.silent = only_turned(alloc, &repairs, false)?;
+    if repairs.change {
+        place.symptom = gone(clash.was);
+    }
+    Ok(place)
+}
+
+/// Returns the places of a key that do not overlap one another in time, in the order of time. Allocates.
+pub(crate) fn places_of(alloc: Global, key: &KeyCalls) -> Result<Vec<Place>, AllocError> {
+    let stretches = stretches_of(alloc, key)?;
+    let clashes = clashes_of(alloc, key, &stretches)?;
+    let mut places = Vec::new(alloc);
+    for clash in &clashes {
+        places.push(place_of(alloc, key, &stretches, *clash)?)?;
+    }
+    Ok(places)
+}
+
+impl Place {
+    /// Returns whether the key was lost or came back.
+    pub(crate) fn is_gone(&self) -> bool {
+        matches!(self.symptom, Symptom::Lost | Symptom::CameBack)
+    }
+
+    /// Returns the length of the place in time. A place that is less clear counts as longer.
+    pub(crate) fn length(&self) -> u64 {
+        let length = self.clash.until.saturating_sub(self.clash.begun());
+        let is_long = self.clash.stretch.is_some() || self.clash.second.is_none();
+        length.saturating_add(if is_long { 1_000_000_000 } else { 0 })
+    }
+}
+
+/// Returns the shortest place with a symptom.
+pub(crate) fn shortest(places: &[Place], symptom: Symptom) -> Option<Place> {
+    let mut best: Option<Place> = None;
+    for place in places {
+        let is_shorter = best.is_none_or(|best| place.length() < best.length());
+        if place.symptom == symptom && is_shorter {
+            best = Some(*place);
+        }
+    }
+    best
+}

@@ -1,0 +1,232 @@
+use crate::crossings::Crossings;
+use crate::made::{Made, Operation};
+use crate::neighbours::Neighbours;
+use crate::symptoms::{Place, Symptom};
+use lset_words::Presence;
+
+/// The numbers of contradictions of each kind. The contradictions of a key do not overlap one another in time.
+#[derive(Clone, Copy)]
+pub struct Tally {
+    pub places: u64,
+    pub lost: u64,
+    pub came_back: u64,
+    pub both_adds: u64,
+    pub both_removes: u64,
+    /// Wrong answers that missed a present key.
+    pub missed: u64,
+    /// Wrong answers that found an absent key.
+    pub found: u64,
+    pub others: u64,
+    /// Of `lost` and `came_back`: with the other reply of an add or remove that returned false the calls around have an order.
+    pub silent: u64,
+    /// Of `lost` and `came_back`: with one other reply the calls around have an order.
+    pub turned: u64,
+    /// Of `lost` and `came_back` that a call shows: a change of another key ran at the same time.
+    pub beside: u64,
+    /// Of `lost` and `came_back` that a call shows: no change of another key ran at the same time.
+    pub alone: u64,
+    /// Of `lost`: a remove that returned true ran among the overlapping changes before.
+    pub crossed: u64,
+    /// Of `lost`: an add of another key that returned true ran at the same time.
+    pub displaced: u64,
+    /// Of `lost`: a remove of another key that returned true ran at the same time.
+    pub unlinked: u64,
+    /// Of `lost`: an add that returned true shows it.
+    pub readded: u64,
+    /// Of `came_back`: the first call of the contradiction is a remove that returned true.
+    pub undone: u64,
+    /// Of `undone`: another key was lost while the remove ran.
+    pub swapped: u64,
+    /// At how many of 100 other times of the same length a change of another key ran.
+    pub usual: u64,
+    /// At how many of all contradictions no two calls of the run overlapped.
+    pub apart: u64,
+    /// The number of keys with contradictions.
+    pub keys: u64,
+    /// The largest number of calls of a key that had begun by the end of a contradiction of the key.
+    pub begun: u64,
+}
+
+/// The maximum number of earlier losses that are compared with a key that came back.
+const MOST_LOSSES: usize = 64;
+
+/// Adds one to a count.
+fn more(count: &mut u64) {
+    *count = count.saturating_add(1);
+}
+
+impl Tally {
+    /// Returns a tally of no contradictions.
+    pub(crate) fn new() -> Tally {
+        Tally {
+            places: 0,
+            lost: 0,
+            came_back: 0,
+            both_adds: 0,
+            both_removes: 0,
+            missed: 0,
+            found: 0,
+            others: 0,
+            silent: 0,
+            turned: 0,
+            beside: 0,
+            alone: 0,
+            crossed: 0,
+            displaced: 0,
+            unlinked: 0,
+            readded: 0,
+            undone: 0,
+            swapped: 0,
+            usual: 0,
+            apart: 0,
+            keys: 0,
+            begun: 0,
+        }
+    }
+
+    /// Returns the number of contradictions in which a key was lost or came back.
+    pub fn gone(&self) -> u64 {
+        self.lost.saturating_add(self.came_back)
+    }
+
+    /// Returns the number of contradictions in which a key was lost or came back, and a call shows it.
+    pub fn timed(&self) -> u64 {
+        self.beside.saturating_add(self.alone)
+    }
+
+    /// Returns the number of contradictions of two calls that overlap and both returned true.
+    pub fn both(&self) -> u64 {
+        self.both_adds.saturating_add(self.both_removes)
+    }
+
+    /// Counts the kind of a contradiction.
+    fn add_kind(&mut self, place: &Place) {
+        match place.symptom {
+            Symptom::Lost => more(&mut self.lost),
+            Symptom::CameBack => more(&mut self.came_back),
+            Symptom::BothTrue(Operation::Add) => more(&mut self.both_adds),
+            Symptom::BothTrue(_) => more(&mut self.both_removes),
+            Symptom::Missed(_) => more(&mut self.missed),
+            Symptom::Found(_) => more(&mut self.found),
+            Symptom::TooMany(_) | Symptom::Unclear => more(&mut self.others),
+        }
+    }
+
+    /// Counts a contradiction.
+    pub(crate) fn add(&mut self, place: &Place) {
+        more(&mut self.places);
+        self.add_kind(place);
+        self.begun = self
+            .begun
+            .max(u64::try_from(place.begun).unwrap_or(u64::MAX));
+        if !place.is_gone() {
+            return;
+        }
+        if place.silent.is_some() {
+            more(&mut self.silent);
+        }
+        if place.is_turned {
+            more(&mut self.turned);
+        }
+        let by_changes = place.clash.stretch.is_some();
+        if by_changes && place.clash.was == Presence::Present {
+            more(&mut self.crossed);
+        }
+    }
+
+    /// Counts what ran at the time of a contradiction.
+    fn add_time(&mut self, place: &Place, neighbours: &Neighbours) {
+        let clash = &place.clash;
+        let (key, since, until) = (place.key, clash.begun(), clash.until);
+        if place.symptom == Symptom::Lost {
+            if neighbours.overlap(key, since, until, Some(Operation::Add)) {
+                more(&mut self.displaced);
+            }
+            if neighbours.overlap(key, since, until, Some(Operation::Remove)) {
+                more(&mut self.unlinked);
+            }
+            if clash.second.is_some_and(|second| second.changes()) {
+                more(&mut self.readded);
+            }
+        }
+        if place.symptom == Symptom::CameBack && clash.first.is_some_and(|first| first.changes()) {
+            more(&mut self.undone);
+        }
+        if place.is_gone() && clash.second.is_some() {
+            if neighbours.overlap(key, since, until, None) {
+                more(&mut self.beside);
+            } else {
+                more(&mut self.alone);
+            }
+        }
+    }
+
+    /// Counts the keys that came back after a remove during which another key was lost. `losses` are in the order of time.
+    fn add_swapped(&mut self, places: &[Place], losses: &[Place]) {
+        for place in places {
+            if let (Symptom::CameBack, Some(first)) = (place.symptom, place.clash.first) {
+                if first.changes() && has_loss_beside(first, losses) {
+                    more(&mut self.swapped);
+                }
+            }
+        }
+    }
+
+    /// Counts what ran at the times of contradictions. `calls` are all calls of the recording, and `losses` all
+    /// contradictions in which a key was lost, in the order of time.
+    pub(crate) fn add_times(
+        &mut self,
+        places: &[Place],
+        calls: &[Made],
+        neighbours: &Neighbours,
+        crossings: &Crossings,
+        losses: &[Place],
+    ) {
+        self.add_swapped(places, losses);
+        self.usual = usual_share(places, neighbours);
+        for place in places {
+            self.add_time(place, neighbours);
+            if crossings.has_none(calls, place.clash.since, place.clash.until) {
+                more(&mut self.apart);
+            }
+        }
+    }
+}
+
+/// Returns whether another key was lost while a call ran. `losses` are in the order of time.
+fn has_loss_beside(call: Made, losses: &[Place]) -> bool {
+    let (since, until) = (call.begun, call.ended);
+    let end = losses.partition_point(|loss| loss.clash.begun() <= until);
+    let earlier = losses.get(..end).unwrap_or(&[]);
+    for loss in earlier.iter().rev().take(MOST_LOSSES) {
+        if loss.key != call.key && loss.clash.until >= since {
+            return true;
+        }
+    }
+    false
+}
+
+/// How much later the other times of the same length are.
+const LATER: [u64; 2] = [1_501, 3_001];
+
+/// The maximum number of contradictions whose times are compared with other times.
+const MOST_COMPARED: usize = 400;
+
+/// Returns at how many of 100 other times of the same length as losses and returns a change of another key ran.
+fn usual_share(places: &[Place], neighbours: &Neighbours) -> u64 {
+    let (mut beside, mut tried) = (0u64, 0u64);
+    for place in places.iter().take(MOST_COMPARED) {
+        if !place.is_gone() || place.clash.second.is_none() {
+            continue;
+        }
+        for later in LATER {
+            let since = place.clash.begun().saturating_add(later);
+            let until = place.clash.until.saturating_add(later);
+            more(&mut tried);
+            if neighbours.overlap(place.key, since, until, None) {
+                more(&mut beside);
+            }
+        }
+    }
+    beside.saturating_mul(100).checked_div(tried).unwrap_or(0)
+}
