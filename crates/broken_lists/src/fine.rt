@@ -1,4 +1,4 @@
-//! FineList with calls that hold one lock.
+//! The steps of the two broken FineLists: one lacks the second lock of `remove`, the other hand-over-hand locking.
 ghost use Rattle.lset_steps.specs.Rows.{IsSmall};
 
 use lset_fine::fed_by;
@@ -26,7 +26,8 @@ fn with_one_lock(call: Call, local: Local) -> Local {
     }
 }
 
-/// Without the second lock of `remove`: it holds only the lock of `pred`.
+/// Returns the state after a step of a FineList whose `remove` takes the lock of `pred` only. `seen` is the value that
+/// the step saw.
 pub(crate) fn fed_with_one_lock(local: &Local, seen: u64) -> Fed
     requires { IsSmall local.now }
 {
@@ -45,7 +46,8 @@ fn through_row_14(local: Local) -> Local {
     }
 }
 
-/// Without hand-over-hand locking: a walk releases the lock of `pred` before it takes that of `curr`.
+/// Returns the state after a step of a FineList without hand-over-hand locking: a walk releases the lock of `pred`
+/// before it takes the lock of `curr`. Row 14 is the release.
 pub(crate) fn fed_pred_first(local: &Local, seen: u64) -> Fed
     requires { IsSmall local.now }
 {

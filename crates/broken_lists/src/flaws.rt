@@ -1,6 +1,8 @@
-//! The steps of the broken lists: each arm that does not name a function of the right list says what the broken one lacks. A step can be
-//! made whatever run a thread's numbers come from, while they are small. `seen` is the value that was loaded or stored, or that the word
-//! held before an exchange.
+//! The steps of the broken lists. In each `match`, an arm that does not call the function of the intact list contains
+//! the flaw.
+//!
+//! A step is defined for every thread state whose numbers are small (`IsSmall`), whatever run led to it. `seen` is the
+//! value that was loaded or stored, or the value that the word held before an exchange.
 ghost use Rattle.lset_steps.specs.Rows.{IsSmall};
 
 use crate::lists::BrokenList;
@@ -14,7 +16,8 @@ use lset_steps::rows::{begun as begun_at, lock_index};
 use lset_steps::{Action, Fed, Local};
 use lset_words::{Call, Key};
 
-/// What a thread sees that overlooks the mark at one row.
+/// Returns what a thread sees at row `row` if it overlooks the mark: `seen` without its lowest bit. At other rows
+/// returns `seen`.
 fn without_mark(row: u8, local: &Local, seen: u64) -> u64 {
     if local.pc == row {
         2 * (seen / 2)
@@ -23,7 +26,7 @@ fn without_mark(row: u8, local: &Local, seen: u64) -> u64 {
     }
 }
 
-/// Every broken list begins a call as the right one.
+/// Begins `call`, as the intact list does.
 pub fn begun(broken: BrokenList, call: Call, local: &Local) -> Local {
     match broken {
         Lock | SecondLock | HandOverHand | SecondWalk | SameNode => begun_at(1, call, local),

@@ -1,5 +1,8 @@
-//! The broken lists, each without one check. A list has a name (`BrokenList`) and steps (`flaws`), and keeps no promise, so it is no
-//! `Machine`: it has a world of its own (`BrokenWorld`). `broken_run` runs a schedule by one; no order need explain what it does.
+//! The broken lists: each is one of the five lists with one check removed.
+//!
+//! A broken list has a name (`BrokenList`) and its steps (`flaws`). It does not keep the laws of a list, therefore it
+//! is no `Machine`, and `BrokenWorld` holds its state. `broken_run` runs a schedule on it. Possibly no order explains
+//! the calls of such a run.
 #![tactic(auto)]
 
 mod fine;

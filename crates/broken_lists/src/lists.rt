@@ -1,33 +1,33 @@
 use lset_words::Kind;
 
-/// A broken list, by the check that was removed from it.
+/// A broken list, named by the check that was removed.
 #[derive(Clone, Copy, Debug, PartialEq, Eq)]
 pub enum BrokenList {
-    /// CoarseList: calls go on without the lock.
+    /// CoarseList: a call continues without the lock.
     Lock,
-    /// FineList: a remove holds the lock of `pred` alone.
+    /// FineList: a `remove` holds only the lock of `pred`.
     SecondLock,
-    /// FineList: a walk releases the lock of `pred` before it has that of `curr`.
+    /// FineList: a walk releases the lock of `pred` before it takes the lock of `curr`.
     HandOverHand,
-    /// OptimisticList: the validation looks at the link alone.
+    /// OptimisticList: the validation checks only that `pred` links to `curr`.
     SecondWalk,
-    /// OptimisticList: the second walk compares keys, and no nodes.
+    /// OptimisticList: the second walk compares keys in place of nodes.
     SameNode,
-    /// LazyList: the validation looks at no mark.
+    /// LazyList: the validation ignores the marks.
     MarksInValidation,
-    /// LazyList: a `contains` looks at no mark.
+    /// LazyList: `contains` ignores the mark.
     MarkInContains,
-    /// LazyList: a `ceiling` looks at no mark.
+    /// LazyList: `ceiling` ignores the marks.
     MarkInCeiling,
-    /// LockFreeList: a `remove` does not mark a node before it unlinks it.
+    /// LockFreeList: `remove` unlinks a node without marking it first.
     Mark,
-    /// LockFreeList: an `add` exchanges the link of `pred`, marked or not.
+    /// LockFreeList: `add` exchanges the link of `pred` even if `pred` is marked.
     MarkInAdd,
-    /// LockFreeList: a `remove` marks a node that is marked already.
+    /// LockFreeList: `remove` marks a node that is already marked.
     MarkInRemove,
-    /// LockFreeList: a `contains` replies by the key, whatever the mark is.
+    /// LockFreeList: `contains` compares only the key and ignores the mark.
     MarkAtKey,
-    /// LockFreeList: each `add` takes the first slot of its thread.
+    /// LockFreeList: every `add` uses the first slot of its thread.
     NewSlot,
 }
 
@@ -49,7 +49,7 @@ pub const ALL: [BrokenList; 13] = [
 ];
 
 impl BrokenList {
-    /// Returns the name that `--lacks` takes for it.
+    /// Returns the name that selects this list in `--lacks NAME`.
     pub fn name(self) -> &'static str {
         match self {
             BrokenList::Lock => "lock",
@@ -86,7 +86,7 @@ impl BrokenList {
     }
 }
 
-/// Returns the broken list whose name the bytes are; `None` if none has it.
+/// Returns the broken list with this name; `None` if no list has it.
 pub fn named(name: &[u8]) -> Option<BrokenList> {
     for broken in &ALL {
         if broken.name().as_bytes() == name {

@@ -1,4 +1,4 @@
-//! LockFreeList with an exchange that ignores a mark, and without marks.
+//! The steps of two broken LockFreeLists: one exchanges a link even if it is marked, the other never marks a node.
 ghost use Rattle.lset_steps.specs.Rows.{IsSmall};
 
 use lset_lock_free::{effect_of, fed_by, next_action};
@@ -7,12 +7,12 @@ use lset_steps::rows::{link_index, own_slot};
 use lset_steps::{Action, Fed, Local};
 use lset_words::{Key, Reply};
 
-/// The word of a link to a node, with the mark that was seen.
+/// Returns the link word that points to `node` and carries the mark that the thread saw (kept in `pkey`).
 fn marked_as_seen(node: u64, local: &Local) -> u64 {
     node.wrapping_mul(2).wrapping_add(local.pkey)
 }
 
-/// Without the mark in `add`: it exchanges the link of `pred`, marked or not.
+/// Returns the next action of the list whose `add` exchanges the link of `pred` even if it is marked.
 pub(crate) fn next_whatever_mark(local: &Local) -> Action
     requires { IsSmall local.now }
 {
@@ -60,7 +60,7 @@ pub(crate) fn effect_whatever_mark(local: &Local, seen: u64) -> Option<(Key, boo
     }
 }
 
-/// Without marks: a `remove` unlinks its node and does not mark it first.
+/// Returns the state after a step of the list whose `remove` unlinks its node without marking it first.
 pub(crate) fn fed_without_mark(local: &Local, seen: u64) -> Fed
     requires { IsSmall local.now }
 {

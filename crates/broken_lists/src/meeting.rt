@@ -1,4 +1,4 @@
-//! What a walk from the head meets in a table whose words may be any.
+//! Walks from the head over any words, even if they form no list.
 
 ghost use Rattle.std.specs.Prelude.{◌<◌, ◌^◌, IsTrue};
 
@@ -7,22 +7,22 @@ use lset_words::{key_index, link_index};
 use std::alloc::{AllocError, Global};
 use std::collections::BTreeSet;
 
-/// Nodes from this one on are not looked at: so many words has no table.
+/// A limit for node numbers: no table has this many nodes, so a walk ends at such a number.
 const NO_NODE: u64 = 1 << 32;
 
-/// A node, and the one to which it leads.
+/// A node on the walk: its key and mark, and the number of the next node.
 #[derive(Clone, Copy)]
 struct Met {
     place: ChainKey,
     next: u64,
 }
 
-/// The word at an index, or 0 if the table has none.
+/// Returns the word at `index`, or 0 if the table is shorter.
 fn word_at(words: &[u64], index: u64) -> u64 {
     words.get(index as usize).copied().unwrap_or(0)
 }
 
-/// Whether a node lies between head and tail, and the table has it.
+/// Decides whether `node` is in the table and is neither head nor tail.
 fn is_met(words: &[u64], node: u64) -> bool
     ensures { IsTrue result → node < 2 ^ 32 }
 {
@@ -44,9 +44,11 @@ fn met_at(words: &[u64], node: u64) -> Option<Met> {
     })
 }
 
-/// Returns the keys of the nodes that a walk from the head reaches before the tail, each with whether its node is marked.
-/// The walk ends after as many nodes as there are, since a broken list may lead in a circle. Allocates; `AllocError` if that
-/// fails.
+/// Walks from the head and returns the key and the mark of each node before the tail. A link that leads out of the table
+/// ends the walk too.
+///
+/// The links of a broken list can form a circle, therefore the walk passes at most `words.len() / 3` nodes. Allocates;
+/// `AllocError` if that fails.
 pub(crate) fn chain_met(alloc: Global, words: &[u64]) -> Result<Vec<ChainKey>, AllocError> {
     let mut met = Vec::new(alloc);
     let mut node = word_at(words, link_index(0)) / 2;
@@ -62,7 +64,7 @@ pub(crate) fn chain_met(alloc: Global, words: &[u64]) -> Result<Vec<ChainKey>, A
     Ok(met)
 }
 
-/// Returns the keys without a mark among those reached, each once, in increasing order. Allocates; `AllocError` if that
+/// Returns the keys of the unmarked nodes in `met`, each once, in increasing order. Allocates; `AllocError` if that
 /// fails.
 pub(crate) fn keys_of(alloc: Global, met: &[ChainKey]) -> Result<Vec<u32>, AllocError> {
     let mut keys = BTreeSet::new(alloc);

@@ -1,4 +1,4 @@
-//! OptimisticList with validations that are too weak.
+//! The steps of the two broken OptimisticLists, whose validation checks too little.
 ghost use Rattle.lset_steps.specs.Rows.{IsSmall};
 
 use lset_optimistic::fed_by;
@@ -12,7 +12,8 @@ fn past_the_walk(local: Local) -> Local {
     }
 }
 
-/// Without the second walk: the validation sees only that `pred` leads to `curr`.
+/// Returns the state after a step of the list without a second walk: the validation checks only that `pred` links to
+/// `curr`.
 pub(crate) fn fed_without_walk(local: &Local, seen: u64) -> Fed
     requires { IsSmall local.now }
 {
@@ -23,7 +24,8 @@ pub(crate) fn fed_without_walk(local: &Local, seen: u64) -> Fed
     }
 }
 
-/// Without the comparison of nodes: the second walk ends at the key of `pred`, in whatever node.
+/// Returns the state after the load of a key on the second walk, if keys are compared in place of nodes: the walk ends
+/// at the first key that is not below the key of `pred`.
 pub(crate) fn arrived_by_key(seen: u64, local: &Local) -> Local {
     if local.pkey < seen {
         Local {

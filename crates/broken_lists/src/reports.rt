@@ -1,4 +1,4 @@
-//! The schedule that a broken list runs, and the report of its run.
+//! Reads a schedule for a broken list, and reports the run.
 ghost use Rattle.std.specs.Prelude.{◌≡◌, IfOk};
 ghost use Rattle.lset_words.specs.Words.{Opens};
 ghost use Rattle.lset_text.specs.declared.words.Version.TheVariants.{Two};
@@ -12,11 +12,14 @@ use lset_schedule::{Schedule, Version, read_schedule};
 use lset_text::{Cause, LineFault};
 use std::alloc::{AllocError, Global};
 
-/// The line of a schedule's text that names the list.
+/// The number of the line that names the list.
 const KIND_LINE: u64 = 2;
 
-/// Reads a schedule for a broken list. The errors are those of `read_schedule`, and `Kind` in line 2 if the schedule does not
-/// name the list from which the check was removed. Allocates.
+/// Reads a schedule for a broken list. Allocates.
+///
+/// # Errors
+///
+/// Those of `read_schedule`, and `Kind` in line 2 if the schedule names another list than `broken.kind()`.
 pub fn read_broken_schedule(
     alloc: Global,
     broken: BrokenList,
@@ -38,13 +41,14 @@ fn run_calls(alloc: Global, broken: BrokenList, schedule: &Schedule) -> Result<R
     calls_of(alloc, schedule, run)
 }
 
-/// Reads a schedule as `read_broken_schedule` does, runs it on the broken list, and returns the report, of version 2. Its order is
-/// that of the steps that the list's table names as its linearization points, and may explain nothing. Allocates.
+/// Reads a schedule for a broken list, runs it, and returns the report, of version 2. The order of the report has a
+/// call at each step that the list's table declares a linearization point. Possibly the order does not explain the
+/// calls. Allocates.
 ///
 /// # Errors
 ///
-/// Those of `read_broken_schedule`, or the event at which the run ends: it is not enabled, or, `Lost`, it would access a word
-/// outside the table.
+/// Those of `read_broken_schedule`, or the line of the event at which the run ends: the event is not enabled, or its
+/// step would access a word outside the table (`Lost`).
 pub fn report_broken(alloc: Global, broken: BrokenList, text: &[u8]) -> Result<Report, LineFault>
     ensures { IfOk result (λ r. r.version ≡ Two) }
 {

@@ -1,4 +1,4 @@
-//! The run of a schedule on a broken list.
+//! Runs a schedule on a broken list.
 ghost use Rattle.lset_schedule.specs.Plan.{opening_in, view};
 ghost use Rattle.lset_words.specs.Words.{Opens};
 
@@ -9,10 +9,11 @@ use lset_schedule::Schedule;
 use lset_words::layout_opening;
 use std::alloc::{AllocError, Global};
 
-/// Returns the run of a schedule before its first event, on a broken list, whatever list the schedule names: each event is told,
-/// with `chains` also the chain after each that changed it. `calls_of` gathers its calls, and no order need explain them:
-/// `check_order` judges the one that it gives, which may fail although another does not. `schedule` must be within the limits,
-/// as every schedule from `read_schedule` is. Allocates; `AllocError` if that fails.
+/// Opens the run of a schedule on a broken list, before its first event. The list that the schedule names is ignored.
+///
+/// The run reports each event and, with `chains`, the chain after each event that changed it. `calls_of` collects its
+/// calls and an order of them. If `check_order` refuses this order, another one can still be legal. `schedule` must be
+/// within the limits, as every schedule from `read_schedule` is. Allocates; `AllocError` if that fails.
 pub fn broken_run(
     alloc: Global,
     broken: BrokenList,

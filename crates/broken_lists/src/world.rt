@@ -10,7 +10,7 @@ use lset_text::Cause;
 use lset_words::{Call, Layout, MOST_NODES, MOST_QUOTA, MOST_THREADS};
 use std::alloc::{AllocError, Global};
 
-/// The words of a broken list and the state of each thread.
+/// A broken list in a run: its words and the state of each thread.
 #[derive(Drop)]
 pub struct BrokenWorld {
     alloc: Global,
@@ -19,7 +19,8 @@ pub struct BrokenWorld {
     locals: Vec<Local>,
 }
 
-/// Whether every number is small enough to compute with.
+/// Decides whether the numbers of a thread's state are within the limits of a list, so that no computation on them
+/// overflows.
 fn is_small(local: &Local) -> bool
     ensures { IsTrue result → IsSmall local.now }
 {
@@ -32,7 +33,8 @@ fn is_small(local: &Local) -> bool
         && local.node < MOST_NODES
 }
 
-/// What an access will see; `None` if it names no word of the table.
+/// Returns what `action` sees: the value that it stores, or else the value of its word. `None` if the table has no such
+/// word.
 fn sight(words: &[u64], action: Action) -> Option<u64> {
     let (Action::Load(word) | Action::Exchange(word, _, _) | Action::Store(word, _)) = action;
     let held = *words.get(word as usize)?;
@@ -42,7 +44,7 @@ fn sight(words: &[u64], action: Action) -> Option<u64> {
     }
 }
 
-/// Writes what an access writes that has seen a value.
+/// Makes the write of `action`, which saw `seen`: a store, or an exchange whose expected value was seen.
 fn write(words: &mut Vec<u64>, action: Action, seen: u64) {
     let (word, value) = match action {
         Action::Store(word, value) => (word, value),
@@ -55,7 +57,7 @@ fn write(words: &mut Vec<u64>, action: Action, seen: u64) {
 }
 
 impl BrokenWorld {
-    /// Returns the world of a list that opens with these keys, before any event. Allocates; `AllocError` if that fails.
+    /// Returns a list that has the keys `keys`, before any event. Allocates; `AllocError` if that fails.
     pub fn opened(
         alloc: Global,
         broken: BrokenList,
@@ -76,7 +78,7 @@ impl BrokenWorld {
         })
     }
 
-    /// Begins a call of a thread that has none pending.
+    /// Begins a call. `NoThread` if there is no such thread, `Busy` if it has a pending call.
     fn begin(&mut self, thread: u32, call: Call) -> Result<Told, Cause> {
         let broken = self.broken;
         let local = self.locals.get_mut(thread as usize).ok_or(Cause::NoThread)?;
@@ -90,7 +92,8 @@ impl BrokenWorld {
         })
     }
 
-    /// Makes the next step of a thread.
+    /// Makes the next step of a thread. `NoThread` if there is no such thread, `Idle` if it has no pending call, `Lost`
+    /// if the step would access a word outside the table.
     fn go(&mut self, thread: u32) -> Result<Told, Cause> {
         let broken = self.broken;
         let local = self.locals.get_mut(thread as usize).ok_or(Cause::NoThread)?;

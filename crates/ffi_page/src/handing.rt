@@ -16,7 +16,7 @@ fn put(text: &[u8], room: &mut [u8]) -> usize
     count
 }
 
-/// Copies what a tool made into the caller's buffer: its text, or the line about its error.
+/// Copies the result of a tool into the caller's buffer: the text of an answer, or the line about an error. Returns the length of the text.
 pub fn hand(made: Result<Answer, Trouble>, room: &mut [u8], status: &mut u8) -> usize
     ensures { IsHanded (view made) room.old room.new status.new result }
 {

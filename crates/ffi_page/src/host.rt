@@ -1,7 +1,7 @@
 use libc::read;
 use std::io::{self, ErrorKind, Read};
 
-/// An input of the host, by the number of its file.
+/// A file of the host, by its number (a file descriptor).
 #[derive(Drop)]
 pub struct HostInput {
     pub file: i32,

@@ -1,11 +1,13 @@
-//! The tools as functions of C for a web page: a text in, a text out, and the exit status of the program `listset`.
+//! The commands of the program `listset` as functions of C for a web page: a text in, a text out, and the exit status.
 //!
-//! Each function writes what the program prints of the text, its result (or a record of it) or the line about an error, to the front of `room`,
-//! returns its length in bytes, and sets `status` to the program's exit status: 0; 1 if something is wrong with the text; 2
-//! if a name is wrong; 3 if an allocation failed. If `room` is too short nothing is written there: call again with that many
-//! bytes. No function keeps state, and none but `listset_judge_from` blocks.
+//! Each function writes the output of the program (or a record of it), or the line about an error, to the front of `room`. It returns the
+//! length of the text in bytes, and sets `status` to the program's exit status: 0; 1 if something is wrong with the text; 2 if a name is wrong;
+//! 3 if an allocation failed. If `room` is too short, nothing is written to it: call again with a room of the returned length. No function
+//! keeps state. Only `listset_judge_from` and `listset_why_from` block.
 #![tactic(auto)]
 
+mod diagnosing;
+mod explaining;
 mod generating;
 mod handing;
 mod host;
@@ -20,6 +22,8 @@ ghost use Rattle.tool_base.specs.Tools.{OnText};
 ghost use Rattle.tool_judge.specs.Judging.{Judges};
 ghost use Rattle.ffi_page.specs.Page.{Hands, OfText, OfWords};
 
+use diagnosing::{diagnose_file, diagnose_recording, diagnose_text};
+use explaining::{explain_by, fault_by};
 use generating::generate_by;
 use handing::hand;
 use host::HostInput;
@@ -30,8 +34,8 @@ use tool_base::{answer_text, list_faults};
 use tool_judge::{judge_bytes, judge_input};
 use tool_replay::{Check, Expand, Replay, Trace};
 
-/// What `listset replay` prints of a schedule: its report; or the line about the first error of the text, the first event
-/// that is not enabled, or a text of more than 67,108,864 bytes.
+/// Replays a schedule: writes its report; or the line about the first error of the text, the first event that is not enabled,
+/// or a text of more than 67,108,864 bytes.
 #[unsafe(no_mangle)]
 pub extern "C" fn listset_replay(
     alloc: Global,
@@ -44,8 +48,8 @@ pub extern "C" fn listset_replay(
     hand(answer_text(alloc, &Replay {}, text), room, status)
 }
 
-/// What `listset judge` prints of a recording: `ok N calls`, and lines about it, if some order explains them; `not linearizable`,
-/// with the calls that show it and status 1, if none does; or the line about the first error of the text.
+/// Judges a recording: writes `ok N calls` and lines about the recording if some order explains it; `not linearizable`, with the calls
+/// that show it and status 1, if no order does; or the line about the first error of the text.
 #[unsafe(no_mangle)]
 pub extern "C" fn listset_judge(
     alloc: Global,
@@ -58,9 +62,9 @@ pub extern "C" fn listset_judge(
     hand(judge_bytes(alloc, text), room, status)
 }
 
-/// What `listset judge` prints of the recording, of any length, in the file with this number (a file descriptor, which is 0 for the
-/// standard input). It is read in pieces to its end, or to the first error. Blocks as its reads do. If `room` is too short the answer
-/// is lost; 8,192 bytes are enough.
+/// Judges the recording, of any length, in the file with this number (a file descriptor; 0 is the standard input), as `listset_judge`
+/// judges a text. Reads the file in pieces to its end, or to the first error. Blocks as its reads do. If `room` is too short, the answer is
+/// lost; 8,192 bytes are enough.
 #[unsafe(no_mangle)]
 pub extern "C" fn listset_judge_from(
     alloc: Global,
@@ -68,18 +72,17 @@ pub extern "C" fn listset_judge_from(
     room: &mut [u8],
     status: &mut u8,
 ) -> usize
-    // (what a file has, no contract says; of all that may be read that of `judge_input` says what is answered)
+    // (no contract says what a file has; that of `judge_input` says what is answered for all bytes that can be read)
     ensures { Hands (λ _. Unit {0}) room.old room.new status.new result }
 {
     let mut input = HostInput { file };
     hand(judge_input(alloc, &mut input), room, status)
 }
 
-/// The verdict of `listset judge` as a record, lines of a word and its values: `verdict ok`, `calls N`, `overlapped N`, `cut BOOL`; or
-/// with status 1 `verdict none`, `key K` and what else is known: `moment M`, up to which the calls have no order, and if there is none
-/// the key is left otherwise; `since M BOOL`, from which moment on and whether the key is there then; `by call ..`, the change that made it
-/// so; `call ..` for each call that has no order from there; `hidden N FIRST LAST`, how many more began in these moments. The error is a
-/// line as of `listset_judge`.
+/// Judges a recording: writes the verdict as a record, lines of a word and its values. The record is `verdict ok`, `calls N`, `overlapped N`
+/// and `cut BOOL`; or, with status 1, `verdict none` and `key K`, then `moment M` unless the key is refused for its final state, then for a
+/// clash `clash BOOL` (whether the first call leaves the key present), `first call ..` unless the opening state stands for that call, and
+/// `second call ..` unless the final state stands for that call. The error is a line as of `listset_judge`.
 #[unsafe(no_mangle)]
 pub extern "C" fn listset_judge_record(
     alloc: Global,
@@ -92,10 +95,52 @@ pub extern "C" fn listset_judge_record(
     hand(judge_recording(alloc, text), room, status)
 }
 
-/// The verdict on a report as a record: `verdict own` if its order explains it. Else, with status 1, first why that is refused,
-/// `order FAULT CALL ..` with the reply of the place, its number and the reply of the set, or the begin, the other call and its end; and, of
-/// `SetReply` and `WrongSet`, `set K ..`; then what is known of all other orders, `verdict another`, `verdict unknown`, or `verdict none` with the lines of `listset_judge_record`. The error is
-/// a line as of `listset_check`.
+/// Diagnoses a refused recording: writes the lines of `listset judge FILE` below the lines of `listset_judge`, with status 1. Writes nothing,
+/// with status 0, if the text is no recording or some order explains it.
+#[unsafe(no_mangle)]
+pub extern "C" fn listset_why(alloc: Global, text: &[u8], room: &mut [u8], status: &mut u8) -> usize
+    ensures { Hands (λ _. Unit {0}) room.old room.new status.new result }
+{
+    hand(diagnose_text(alloc, text), room, status)
+}
+
+/// Diagnoses a refused recording: writes a record, with status 1. It has, in this order: `headline TEXT`; `call THREAD OPERATION KEY BEGIN END
+/// REPLY MARK` for each call of the key that is shown, in the order of their begins (MARK is `-`, `expected BOOL`, `leaves STATE` with
+/// `present` or `absent`, or `either`); `also THREAD OPERATION KEY BEGIN END REPLY` for each change of another key at the same time;
+/// `fact TEXT` for each fact; and, if there is a likely cause, `likely TEXT` and `because TEXT`. END and REPLY are `-` of a pending call. Writes
+/// nothing, with status 0, if the text is no recording or some order explains it.
+#[unsafe(no_mangle)]
+pub extern "C" fn listset_why_record(
+    alloc: Global,
+    text: &[u8],
+    room: &mut [u8],
+    status: &mut u8,
+) -> usize
+    ensures { Hands (λ _. Unit {0}) room.old room.new status.new result }
+{
+    hand(diagnose_recording(alloc, text), room, status)
+}
+
+/// Diagnoses the refused recording in the file with this number (a file descriptor), read from its current position: writes the lines of
+/// `listset judge FILE` below a verdict of `used` lines, with status 1. Writes nothing, with status 0, if the file has no recording or some
+/// order explains it. Blocks as its reads do. If `room` is too short, the text is lost; 8,192 bytes are enough.
+#[unsafe(no_mangle)]
+pub extern "C" fn listset_why_from(
+    alloc: Global,
+    file: i32,
+    used: usize,
+    room: &mut [u8],
+    status: &mut u8,
+) -> usize
+    ensures { Hands (λ _. Unit {0}) room.old room.new status.new result }
+{
+    hand(diagnose_file(alloc, file, used), room, status)
+}
+
+/// Checks a report: writes the verdict as a record. The record is `verdict own` if the report's order explains it. Otherwise, with status 1, it
+/// is `order FAULT CALL ..` with the reply of the place, its number and the reply of the set, or the begin, the other call and its end; for
+/// `SetReply` and `WrongSet` `set K ..`; then the claim about all other orders: `verdict another`, `verdict unknown`, or `verdict none` with
+/// the lines of `listset_judge_record`. The error is a line as of `listset_check`.
 #[unsafe(no_mangle)]
 pub extern "C" fn listset_check_record(
     alloc: Global,
@@ -108,8 +153,8 @@ pub extern "C" fn listset_check_record(
     hand(judge_report(alloc, text), room, status)
 }
 
-/// What `listset check` prints of a report: `ok`, or the first fault of its order with status 1; or the line about the first
-/// error of the text, or a text that is too long.
+/// Checks a report: writes `ok`, or the first fault of its order with status 1; or the line about the first error of the text,
+/// or a text that is too long.
 #[unsafe(no_mangle)]
 pub extern "C" fn listset_check(
     alloc: Global,
@@ -122,8 +167,8 @@ pub extern "C" fn listset_check(
     hand(answer_text(alloc, &Check {}, text), room, status)
 }
 
-/// What `listset trace` prints of a schedule: its trace, up to the first event that is not enabled, which has status 1; or
-/// the line about the first error of the text, or a text that is too long.
+/// Traces a schedule: writes its trace up to the first event that is not enabled, if there is one with status 1; or the line
+/// about the first error of the text, or a text that is too long.
 #[unsafe(no_mangle)]
 pub extern "C" fn listset_trace(
     alloc: Global,
@@ -140,9 +185,7 @@ pub extern "C" fn listset_trace(
     hand(answer_text(alloc, &tool, text), room, status)
 }
 
-/// What `listset trace --chain` prints of a schedule: its trace, with the chain after each event that changed it, up to the
-/// first event that is not enabled, which has status 1; or the line about the first error of the text, or a text that is too
-/// long.
+/// Traces a schedule, as `listset_trace` does, with the chain after each event that changed it.
 #[unsafe(no_mangle)]
 pub extern "C" fn listset_trace_with_chains(
     alloc: Global,
@@ -159,13 +202,13 @@ pub extern "C" fn listset_trace_with_chains(
     hand(answer_text(alloc, &tool, text), room, status)
 }
 
-/// What `listset show` prints of a schedule or a report: the picture, with status 1 if it says why the order of a report is
-/// refused, or which event of a schedule is refused, up to which that is drawn; or the line about the first error of the text,
-/// or a text that is too long.
+/// Draws a schedule or a report: writes the picture, with status 1 if the order of the report is refused or an event of the
+/// schedule is not enabled; or the line about the first error of the text, or a text that is too long. A schedule is drawn up
+/// to the event that is not enabled.
 ///
-/// The options are the values of `--from`, `--to` and `--width`, in this order, with a zero byte between two: a `=` and the
-/// value, or nothing if the option is not given; what is missing at the end is not given. For a wrong option the line is
-/// `listset: bad FROM` (or `TO`, `WIDTH`), with status 2.
+/// The options are the values of `--from`, `--to` and `--width`, in this order, with a zero byte between two. A value comes after
+/// `=`; an option that is empty, or missing at the end, is not given. For a wrong option the line is `listset: bad FROM` (or `TO`,
+/// `WIDTH`), with status 2.
 #[unsafe(no_mangle)]
 pub extern "C" fn listset_show(
     alloc: Global,
@@ -179,8 +222,7 @@ pub extern "C" fn listset_show(
     hand(draw_text(alloc, text, false, options), room, status)
 }
 
-/// What `listset show --svg` prints of a schedule or a report: the picture of `listset_show` as an SVG, with its statuses,
-/// lines and options.
+/// Draws a schedule or a report, as `listset_show` does, as an SVG.
 #[unsafe(no_mangle)]
 pub extern "C" fn listset_show_svg(
     alloc: Global,
@@ -212,8 +254,8 @@ pub extern "C" fn listset_lacking(
     hand(run_broken(alloc, name, text, words), room, status)
 }
 
-/// What `listset draft` prints of a draft: the schedule; or the line about the first error of the text, the first line that
-/// does not become a line of a schedule, or a text that is too long.
+/// Turns a draft into a schedule: writes the schedule; or the line about the first error of the text, the first line that does
+/// not become a line of a schedule, or a text that is too long.
 #[unsafe(no_mangle)]
 pub extern "C" fn listset_draft(
     alloc: Global,
@@ -226,8 +268,8 @@ pub extern "C" fn listset_draft(
     hand(answer_text(alloc, &Expand {}, text), room, status)
 }
 
-/// What `listset gen` prints for its arguments, which come with a zero byte between two: the schedule; or
-/// `listset: bad NAME`, with status 2, for the first that is missing or wrong.
+/// Generates a random schedule for arguments with a zero byte between two: writes the schedule; or `listset: bad NAME`, with
+/// status 2, for the first argument that is missing or wrong.
 #[unsafe(no_mangle)]
 pub extern "C" fn listset_gen(
     alloc: Global,
@@ -240,7 +282,7 @@ pub extern "C" fn listset_gen(
     hand(generate_by(alloc, values), room, status)
 }
 
-/// What `listset faults` prints: each error message, and each cause in a sentence.
+/// Writes each error message of the program, with each cause in a sentence.
 #[unsafe(no_mangle)]
 pub extern "C" fn listset_faults(alloc: Global, room: &mut [u8], status: &mut u8) -> usize
     ensures { Hands (λ _. Unit {0}) room.old room.new status.new result }
@@ -248,7 +290,36 @@ pub extern "C" fn listset_faults(alloc: Global, room: &mut [u8], status: &mut u8
     hand(list_faults(alloc), room, status)
 }
 
-/// What `listset example` prints without a name: the names of the examples, each with its list and the line about it.
+/// Explains a cause: writes the lines of `listset faults CAUSE`; or `listset: bad CAUSE`, with status 2, if no message has the
+/// cause.
+#[unsafe(no_mangle)]
+pub extern "C" fn listset_fault(
+    alloc: Global,
+    cause: &[u8],
+    room: &mut [u8],
+    status: &mut u8,
+) -> usize
+    ensures { Hands (λ _. Unit {0}) room.old room.new status.new result }
+{
+    hand(fault_by(alloc, cause), room, status)
+}
+
+/// Explains a text, as of a file with this name: writes its kind, its first line with an error, what is wrong there, and what to
+/// do.
+#[unsafe(no_mangle)]
+pub extern "C" fn listset_explain(
+    alloc: Global,
+    file: &[u8],
+    text: &[u8],
+    room: &mut [u8],
+    status: &mut u8,
+) -> usize
+    ensures { Hands (λ _. Unit {0}) room.old room.new status.new result }
+{
+    hand(explain_by(alloc, file, text), room, status)
+}
+
+/// Writes the names of the examples, each with its list and a line about it.
 #[unsafe(no_mangle)]
 pub extern "C" fn listset_examples(alloc: Global, room: &mut [u8], status: &mut u8) -> usize
     ensures { Hands (λ _. Unit {0}) room.old room.new status.new result }
@@ -256,7 +327,7 @@ pub extern "C" fn listset_examples(alloc: Global, room: &mut [u8], status: &mut 
     hand(example_by(alloc, None, false), room, status)
 }
 
-/// What `listset example NAME` prints: the schedule of the example with this name, or `listset: bad NAME` with status 2.
+/// Writes the schedule of the example with this name, or `listset: bad NAME` with status 2.
 #[unsafe(no_mangle)]
 pub extern "C" fn listset_example(
     alloc: Global,
@@ -269,8 +340,8 @@ pub extern "C" fn listset_example(
     hand(example_by(alloc, Some(name), false), room, status)
 }
 
-/// What `listset example --broken NAME` prints: the report that a list without the check that the example with this name
-/// shows would make; or `listset: bad NAME` with status 2, also if that example has none.
+/// Writes the report that a broken list would make of the example with this name; or `listset: bad NAME` with status 2, also if
+/// the example has no broken report.
 #[unsafe(no_mangle)]
 pub extern "C" fn listset_broken_example(
     alloc: Global,

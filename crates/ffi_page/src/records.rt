@@ -1,6 +1,6 @@
 //! Verdicts as records: lines of a word and its values.
 
-use lset_judge::{Refusal, Verdict, Window};
+use lset_judge::{Clash, Refusal, StreamCall, Verdict};
 use lset_recording::{RecordingAnswer, RecordingReader};
 use lset_report::read_report;
 use lset_text::reply_word;
@@ -10,37 +10,37 @@ use tool_base::{Answer, Input, Trouble};
 use tool_judge::{Claim, claim_on, put_call};
 use tool_show::{Refusal as OrderRefusal, picture_of_report};
 
-/// Writes how the key is at the moment of a window, and the calls that have no order from there.
-fn put_window(out: &mut String, window: &Window) -> Result<(), AllocError> {
-    let (since, there) = (window.since, window.there == Presence::Present);
-    writeln!(out, "since {since} {there}")?;
-    if let Some(change) = window.before {
-        out.push_str("by ")?;
-        put_call(out, change)?;
-    }
-    for call in &window.calls {
-        put_call(out, *call)?;
-    }
-    if let Some(hidden) = window.hidden {
-        let (count, first, last) = (hidden.count, hidden.first, hidden.last);
-        writeln!(out, "hidden {count} {first} {last}")?;
-    }
-    Ok(())
+/// Writes one of the two sides of a clash, if it is a call.
+fn put_side(out: &mut String, side: &str, made: Option<StreamCall>) -> Result<(), AllocError> {
+    let Some(call) = made else {
+        return Ok(());
+    };
+    write!(out, "{side} ")?;
+    put_call(out, call)
 }
 
-/// Writes that no order explains calls: of which key, up to which moment or that it is left otherwise, and the window.
-fn put_none(out: &mut String, refusal: Refusal, window: Option<Window>) -> Result<(), AllocError> {
+/// Writes a clash: whether the first call, or the opening state, leaves the key present, and the calls.
+fn put_clash(out: &mut String, clash: Clash) -> Result<(), AllocError> {
+    let was = clash.was == Presence::Present;
+    writeln!(out, "clash {was}")?;
+    put_side(out, "first", clash.first)?;
+    put_side(out, "second", clash.second)
+}
+
+/// Writes a refusal: the key, the moment if there is one, and the clash.
+fn put_none(out: &mut String, refusal: Refusal, clash: Option<Clash>) -> Result<(), AllocError> {
     let key = refusal.key.0;
     writeln!(out, "verdict none\nkey {key}")?;
     if let Some(moment) = refusal.moment {
         writeln!(out, "moment {moment}")?;
     }
-    match window {
-        Some(window) => put_window(out, &window),
+    match clash {
+        Some(clash) => put_clash(out, clash),
         None => Ok(()),
     }
 }
 
+/// Writes the keys of a set.
 fn put_set(out: &mut String, keys: &[u32]) -> Result<(), AllocError> {
     out.push_str("set")?;
     for key in keys {
@@ -49,7 +49,7 @@ fn put_set(out: &mut String, keys: &[u32]) -> Result<(), AllocError> {
     out.push_str("\n")
 }
 
-/// Writes why an order is refused, and the set of which that tells.
+/// Writes the fault of an order, and the keys of the set at that place.
 fn put_order(out: &mut String, refusal: &OrderRefusal) -> Result<(), AllocError> {
     match refusal {
         OrderRefusal::Unknown { call, .. } => writeln!(out, "order Unknown {call}"),
@@ -83,16 +83,18 @@ fn put_order(out: &mut String, refusal: &OrderRefusal) -> Result<(), AllocError>
     }
 }
 
+/// Writes the claim about all orders of a report.
 fn put_claim(out: &mut String, claim: Claim) -> Result<(), AllocError> {
     match claim {
         Claim::NotIncreasing => out.push_str("verdict none\n"),
-        Claim::NotLinearizable(refusal, window) => put_none(out, refusal, window),
+        Claim::NoSuchReply(number, _, _) => writeln!(out, "verdict none\nreply {number}"),
+        Claim::NotLinearizable(refusal, clash) => put_none(out, refusal, clash),
         Claim::Explained => out.push_str("verdict another\n"),
         Claim::Unknown => out.push_str("verdict unknown\n"),
     }
 }
 
-/// Judges a recording: the answer is the record of the verdict. The errors are those of `judge_bytes`.
+/// Judges a recording. The answer is the record of the verdict. The errors are those of `judge_bytes`.
 pub fn judge_recording(alloc: Global, text: &[u8]) -> Result<Answer, Trouble> {
     let mut reader = RecordingReader::new(alloc);
     reader.feed(text)?;
@@ -111,8 +113,8 @@ pub fn judge_recording(alloc: Global, text: &[u8]) -> Result<Answer, Trouble> {
             )?;
             0
         }
-        Verdict::NotLinearizable(refusal, window) => {
-            put_none(&mut out, refusal, window)?;
+        Verdict::NotLinearizable(refusal, clash) => {
+            put_none(&mut out, refusal, clash)?;
             1
         }
     };
@@ -122,8 +124,8 @@ pub fn judge_recording(alloc: Global, text: &[u8]) -> Result<Answer, Trouble> {
     })
 }
 
-/// Judges a report: the answer is the record of why its order is refused and what is known of all others, or `verdict own`. The errors
-/// are those of `Check`.
+/// Judges a report. The answer is a record: `verdict own`, or the fault of its order and the claim about all other orders. The errors are those
+/// of `Check`.
 pub fn judge_report(alloc: Global, text: &[u8]) -> Result<Answer, Trouble> {
     let input = Input::new(text)?;
     let report = read_report(alloc, input.bytes())?;

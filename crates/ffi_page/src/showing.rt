@@ -6,7 +6,7 @@ use tool_judge::ShowJudged;
 use tool_replay::{ReplayBroken, Trace, print_example, read_example_request};
 use tool_show::{Show, read_show};
 
-/// What the options ask for that begin at this index of the words. The error names one that is wrong.
+/// Reads the options of `show` from index `first` of the words on. The error is the option that is wrong.
 fn show_by(svg: bool, words: &[String], first: usize) -> Result<Show, ValueName> {
     let from = option_at(words, first);
     let to = option_at(words, first.saturating_add(1));
@@ -14,7 +14,7 @@ fn show_by(svg: bool, words: &[String], first: usize) -> Result<Show, ValueName>
     read_show(svg, from, to, width)
 }
 
-/// Draws a schedule or a report, as text or as an SVG (`svg`), in the moments and the width of the options. The errors are
+/// Draws a schedule or a report, as text or as an SVG (`svg`), within the moments and the width of the options. The errors are
 /// those of `ShowJudged`, and `Bad` if an option is wrong.
 pub fn draw_text(alloc: Global, text: &[u8], svg: bool, options: &[u8]) -> Result<Answer, Trouble> {
     let words = words_in(alloc, options)?;
@@ -22,7 +22,7 @@ pub fn draw_text(alloc: Global, text: &[u8], svg: bool, options: &[u8]) -> Resul
     answer_text(alloc, &ShowJudged { show }, text)
 }
 
-/// Answers a command on a schedule of the broken list of this name, in the moments and the width of the options behind the command.
+/// Returns the answer of a command on a schedule of a broken list, within the moments and the width of the options after the command.
 pub fn run_broken(
     alloc: Global,
     name: &[u8],
@@ -49,12 +49,13 @@ pub fn run_broken(
     }
 }
 
+/// Returns the trace of a schedule of a broken list.
 fn trace(alloc: Global, broken: BrokenList, text: &[u8], chains: bool) -> Result<Answer, Trouble> {
     let lacks = Some(broken);
     answer_text(alloc, &Trace { chains, lacks }, text)
 }
 
-/// Prints what `example` prints.
+/// Returns the answer of `example`.
 pub fn example_by(alloc: Global, name: Option<&[u8]>, broken: bool) -> Result<Answer, Trouble> {
     let request = read_example_request(name, broken)?;
     print_example(alloc, request)

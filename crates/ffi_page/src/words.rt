@@ -3,7 +3,7 @@ ghost use Rattle.ffi_page.specs.Page.{words_in};
 
 use std::alloc::{AllocError, Global};
 
-/// Returns the arguments that the bytes hold, with a zero byte between two; no argument of a command line has one.
+/// Returns the arguments in the bytes. A zero byte separates two arguments; no argument of a command line has one.
 pub fn words_in(alloc: Global, bytes: &[u8]) -> Result<Vec<String>, AllocError>
     ensures { IfOk result (λ words. map string_bytes words.items ≡ words_in bytes.now) }
 {
@@ -16,8 +16,7 @@ pub fn words_in(alloc: Global, bytes: &[u8]) -> Result<Vec<String>, AllocError>
     Ok(words)
 }
 
-/// Returns the value of the option with this index, from 0; `None` if it is missing, or has no `=` before a value: the
-/// option is not given.
+/// Returns the value of option `index` (from 0). `None` if the option is missing or has no `=` before a value: it is not given.
 pub fn option_at(words: &[String], index: usize) -> Option<&str> {
     words.get(index)?.as_str().strip_prefix('=')
 }

@@ -1,22 +1,23 @@
--- What a call from C has done with what its seat held, by its answer.
+-- What a call from C has done: the value of its seat before and after, and the number that it returned.
 use Rattle.std.specs.Prelude.{◌≡◌, ℕ, Bool, true, false, Option, Some, None}
 use Rattle.lset_words.specs.declared.Call.{Call}
 use Rattle.lset_words.specs.declared.Reply.{Reply}
 use Rattle.lset_words.specs.declared.Reply.TheVariants as reply
 use Rattle.lset_steps.specs.Steps.{Table}
-use Rattle.lset_live.specs.Seats.{SetValue, SeatValue}
+use Rattle.lset_rule.specs.Runs.{StartsWith}
+use Rattle.lset_live.specs.Seats.{SetValue, SeatValue, ReceiptValue}
 use Rattle.lset_live.specs.Explained.{HasAnswered}
 use Rattle.ffi_sets.specs.declared.held.Held.{Held}
-use Rattle.ffi_sets.specs.Sets.{table_in, set_in, seat_in, spare_in, keys_in, SameSet}
+use Rattle.ffi_sets.specs.Sets.{table_in, set_in, seat_in, spare_in, keys_in, number_in, receipt_in, SameSet}
 
--- The call c was made from the seat and answered; or there is no seat; or the call gave up, and now there is none.
+-- A call c from a seat: it was made and replied r; or it gave up, and the seat is lost; or the seat had been lost before.
 abbrev pub HasCalledOf : Table → SetValue → Option SeatValue → Call → Option Reply → Option SeatValue → Type 0
 HasCalledOf T set (Some old) c (Some r) (Some new) = HasAnswered T set old c r new
 HasCalledOf T set (Some old) c None None = Unit {0}
 HasCalledOf T set None c None None = Unit {0}
 HasCalledOf T set old c r new = ⊥
 
--- the number by which a call is answered
+-- the number of a reply; 255 for none
 abbrev pub code_of : Option Reply → ℕ
 code_of (Some reply.False) = 0
 code_of (Some reply.True) = 1
@@ -29,21 +30,21 @@ abbrev pub CallsIn : Option Table → Option SetValue → Option SeatValue → C
 CallsIn (Some T) (Some set) old c r new = HasCalledOf T set old c r new
 CallsIn T set old c r new = r ≡ None
 
--- The same of whatever a seat of C holds: it stays a seat of the same list and set, with the same seats to be split off; and no
--- call is made of a closed set.
+-- A call c from the value of a seat of C: list, set and number are unchanged, and so are the seats that can be split off. From a
+-- receipt or a closed set no call is made.
 pub record HasCalledHeld (h : Held) (c : Call) (r : Option Reply) (h' : Held) : Type 0 where
   pub same : SameSet h h'
   pub spare : spare_in h' ≡ spare_in h
   pub keys : keys_in h' ≡ keys_in h
   pub called : CallsIn (table_in h) (set_in h) (seat_in h) c r (seat_in h')
 
--- and of a seat of C, whose call is answered by a number
+-- A call c from a seat of C returned n. From an empty seat n is 255, and the seat is still empty.
 abbrev pub HasMade : Bool → Held → Call → ℕ → Bool → Held → Type 0
 HasMade true h c n true h' = (r : Option Reply) × (n ≡ code_of r) × HasCalledHeld h c r h'
 HasMade false h c n false h' = n ≡ 255
 HasMade full h c n full' h' = ⊥
 
--- of a ceiling: at its reply AT, the key is written to `at`
+-- A ceiling c from a seat of C returned n. Its reply At k is written to the place a; any other reply leaves a unchanged.
 abbrev pub at_of : Option Reply → ℕ → ℕ
 at_of (Some (reply.At k)) a = k.0
 at_of r a = a
@@ -52,3 +53,35 @@ abbrev pub HasCeiling : Bool → Held → Call → ℕ → ℕ → ℕ → Bool 
 HasCeiling true h c n a a' true h' = (r : Option Reply) × (n ≡ code_of r) × HasCalledHeld h c r h' × (a' ≡ at_of r a)
 HasCeiling false h c n a a' false h' = (n ≡ 255) × (a' ≡ a)
 HasCeiling full h c n a a' full' h' = ⊥
+
+-- the receipt of all that a seat has seen
+abbrev pub noted_by : Option SeatValue → Option ReceiptValue
+noted_by (Some s) = Some (record { set = s.set; events = s.events })
+noted_by None = None
+
+-- The value h gave a receipt: the receipt is of the seat's set and number and of all that the seat has seen; h is unchanged.
+pub record HasNotedHeld (h given h' : Held) : Type 0 where
+  pub same : SameSet h h'
+  pub spare : spare_in h' ≡ spare_in h
+  pub seat : seat_in h' ≡ seat_in h
+  pub number : number_in given ≡ number_in h
+  pub receipt : receipt_in given ≡ noted_by (seat_in h)
+
+abbrev pub HasGiven : Bool → Held → Bool → Held → Bool → Held → Type 0
+HasGiven true h true given true h' = HasNotedHeld h given h'
+HasGiven full h out given full' h' = ⊥
+
+-- A seat took a receipt: it has now seen all that the receipt stands for. Its record and the seats that it contains are unchanged.
+abbrev pub HasHeededOf : Option SeatValue → Option ReceiptValue → Option SeatValue → Type 0
+HasHeededOf (Some old) (Some given) (Some new) = (new.set ≡ old.set) × (new.past ≡ old.past) × (new.held ≡ old.held)
+    × StartsWith new.events old.events × StartsWith new.events given.events
+HasHeededOf old given new = ⊥
+
+pub record HasHeededHeld (h given h' : Held) : Type 0 where
+  pub same : SameSet h h'
+  pub spare : spare_in h' ≡ spare_in h
+  pub heeded : HasHeededOf (seat_in h) (receipt_in given) (seat_in h')
+
+abbrev pub HasHeeded : Bool → Held → Bool → Held → Bool → Held → Type 0
+HasHeeded true h true given true h' = HasHeededHeld h given h'
+HasHeeded full h there given full' h' = ⊥

@@ -1,4 +1,4 @@
--- What a seat of C owns: if it is full, a box with what it contains.
+-- What a seat of C owns: a full seat owns a box with its value, an empty seat nothing.
 use Rattle.std.specs.Prelude.{Bool, true, false}
 use base.Fml.{Fml, ftrue}
 use denote.RawPtr.{Ptr}

@@ -1,4 +1,4 @@
--- What a seat of C holds: its list, its set, the set's number, and its seats.
+-- The parts of the value of a seat of C: its list, its set, the set's number, its seats, its receipt or its keys.
 use Rattle.std.specs.Prelude.{Bool, true, ◌≡◌, ◌+◌, ℕ, List, [], Option, Some, None, length}
 use Rattle.std.specs.Arc.{arc_value}
 use Rattle.lset_steps.specs.Steps.{Table}
@@ -7,9 +7,10 @@ use Rattle.lset_fine.specs.Fine.{fine}
 use Rattle.lset_optimistic.specs.Optimistic.{optimistic}
 use Rattle.lset_lazy.specs.Lazy.{lazy}
 use Rattle.lset_lock_free.specs.LockFree.{lock_free}
-use Rattle.lset_live.specs.Seats.{SetValue, SeatValue}
+use Rattle.lset_live.specs.Seats.{SetValue, SeatValue, ReceiptValue}
 use Rattle.ffi_sets.specs.declared.held.Held.{Held}
 use Rattle.ffi_sets.specs.declared.held.Held.TheVariants.{Coarse, Fine, Optimistic, Lazy, LockFree, Closed}
+use Rattle.ffi_sets.specs.declared.held.Held.TheVariants.{CoarseReceipt, FineReceipt, OptimisticReceipt, LazyReceipt, LockFreeReceipt}
 
 abbrev pub table_in : Held → Option Table
 table_in (Coarse o) = Some coarse
@@ -19,12 +20,27 @@ table_in (Lazy o) = Some lazy
 table_in (LockFree o) = Some lock_free
 table_in h = None
 
+-- the receipt, if the value is one
+abbrev pub receipt_in : Held → Option ReceiptValue
+receipt_in (CoarseReceipt o) = Some o.receipt
+receipt_in (FineReceipt o) = Some o.receipt
+receipt_in (OptimisticReceipt o) = Some o.receipt
+receipt_in (LazyReceipt o) = Some o.receipt
+receipt_in (LockFreeReceipt o) = Some o.receipt
+receipt_in h = None
+
+-- the set of the seat or of the receipt, and the set's number
 abbrev pub set_in : Held → Option SetValue
 set_in (Coarse o) = Some (arc_value o.set)
 set_in (Fine o) = Some (arc_value o.set)
 set_in (Optimistic o) = Some (arc_value o.set)
 set_in (Lazy o) = Some (arc_value o.set)
 set_in (LockFree o) = Some (arc_value o.set)
+set_in (CoarseReceipt o) = Some o.receipt.set
+set_in (FineReceipt o) = Some o.receipt.set
+set_in (OptimisticReceipt o) = Some o.receipt.set
+set_in (LazyReceipt o) = Some o.receipt.set
+set_in (LockFreeReceipt o) = Some o.receipt.set
 set_in h = None
 
 abbrev pub number_in : Held → Option ℕ
@@ -33,9 +49,14 @@ number_in (Fine o) = Some o.number
 number_in (Optimistic o) = Some o.number
 number_in (Lazy o) = Some o.number
 number_in (LockFree o) = Some o.number
+number_in (CoarseReceipt o) = Some o.number
+number_in (FineReceipt o) = Some o.number
+number_in (OptimisticReceipt o) = Some o.number
+number_in (LazyReceipt o) = Some o.number
+number_in (LockFreeReceipt o) = Some o.number
 number_in h = None
 
--- the seat that calls, and those that are to be split off
+-- the seat that makes calls, and those that can be split off it
 abbrev pub seat_in : Held → Option SeatValue
 seat_in (Coarse o) = o.seat
 seat_in (Fine o) = o.seat
@@ -56,22 +77,22 @@ abbrev pub keys_in : Held → Option (List ℕ)
 keys_in (Closed keys) = Some keys.items
 keys_in h = None
 
--- Both are of one set of one list, under one number.
+-- Two values have the same list, set and number.
 pub record SameSet (h h' : Held) : Type 0 where
   pub table : table_in h' ≡ table_in h
   pub set : set_in h' ≡ set_in h
   pub number : number_in h' ≡ number_in h
 
--- Seats of one number are of one set: the caller's duty if two sets are opened.
+-- Seats and receipts with one number are of one set. The caller owes this if several sets are open.
 abbrev pub Gathers : Held → Held → Type 0
 Gathers h h' = number_in h ≡ number_in h' → set_in h ≡ set_in h'
 
--- the caller's duty of two seats of C, if both are full
+-- what the caller owes of two full seats of C
 abbrev pub GathersAt : Bool → Held → Bool → Held → Type 0
 GathersAt true h true h' = Gathers h h'
 GathersAt into h from h' = Unit {0}
 
--- ALL SEATS of the set are there.
+-- The seat and those that can be split off it are ALL SEATS of the set.
 abbrev pub IsWhole : SetValue → Option SeatValue → List SeatValue → Type 0
 IsWhole set (Some seat) spare = seat.held + length spare ≡ set.shape.threads
 IsWhole set None spare = ⊥

@@ -1,5 +1,5 @@
-//! What is done with seats of C, and the number that C is answered.
-ghost use Rattle.std.specs.Prelude.{◌≡◌, false};
+//! Calls from seats of C, and the numbers that the functions of C return.
+ghost use Rattle.std.specs.Prelude.{◌≡◌, true, false};
 ghost use Rattle.ffi_sets.specs.Calls.{HasMade, code_of};
 
 use crate::codes::{BAD_KEYS, BAD_QUOTA, BAD_SEATS, DONE, NO_SEAT, OUT_OF_MEMORY};
@@ -10,7 +10,7 @@ use lset_live::OpenFault;
 use lset_words::{Call, Reply};
 use std::alloc::Global;
 
-/// Returns the number of a reply: 0 `False`, 1 `True`, 2 `Full`, 3 `At`, 4 `Nothing`; 255 if no call was made.
+/// Returns the number of a reply: 0 for `False`, 1 for `True`, 2 for `Full`, 3 for `At`, 4 for `Nothing`; 255 for no reply.
 pub fn reply_code(reply: Option<Reply>) -> u8
     ensures { result ≡ code_of reply }
 {
@@ -34,7 +34,8 @@ pub fn fault_code(fault: OpenFault) -> u8 {
     }
 }
 
-/// Makes a call from a seat and returns the number of its reply; 255 if the seat is empty or a closed set.
+/// Makes a call from `seat` and returns the number of its reply. Returns 255 if `seat` is empty or a closed set, or if the call gave
+/// up, which loses the seat.
 pub fn call_from_seat(alloc: Global, seat: &mut CSeat, call: Call) -> u8
     ensures { HasMade seat.old.full seat.old.held call result seat.new.full seat.new.held }
 {
@@ -46,10 +47,11 @@ pub fn call_from_seat(alloc: Global, seat: &mut CSeat, call: Call) -> u8
     reply_code(reply)
 }
 
-/// Puts `held` into the empty seat, in a box of its own. `OUT_OF_MEMORY` if an allocation fails; the seat is then still
-/// empty.
+/// Allocates a box for `held` and puts the box into `seat`, which must be empty. Returns `DONE`, or `OUT_OF_MEMORY` if the allocation
+/// fails; `seat` is then still empty.
 pub fn put_new(alloc: Global, seat: &mut CSeat, held: Held) -> u8
     requires { seat.old.full ≡ false }
+    ensures { result ≡ 0 → (seat.new.full ≡ true) × (seat.new.held ≡ held) }
 {
     match Box::new(alloc, held) {
         Ok(boxed) => {

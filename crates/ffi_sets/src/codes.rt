@@ -1,9 +1,9 @@
-//! The numbers by which the functions of C answer, as `listset.h` names them.
+//! The numbers that the functions of C return, as `listset.h` names them.
 
-/// The call did what it says.
+/// The function did what its documentation says.
 pub const DONE: u8 = 0;
 
-/// The seats are not 1 to 64.
+/// The number of seats is not 1 to 64.
 pub const BAD_SEATS: u8 = 10;
 
 /// The quota is above 16,384.
@@ -15,20 +15,23 @@ pub const BAD_KEYS: u8 = 12;
 /// An allocation failed.
 pub const OUT_OF_MEMORY: u8 = 13;
 
-/// There is no such list.
+/// No list has this number.
 pub const BAD_KIND: u8 = 14;
 
-/// A seat that must be empty is not.
+/// A seat that must be empty is full.
 pub const IS_SEAT: u8 = 15;
 
-/// Not all seats of the set are gathered.
+/// The seat has not gathered all other seats of its set.
 pub const SEATS_OUT: u8 = 16;
 
-/// The seat contains no seat that can be split off.
+/// No seat can be split off this seat.
 pub const NO_MORE: u8 = 17;
 
-/// These are not two seats of one list and number.
+/// The arguments are not two seats, or a seat and a receipt, of one list and number.
 pub const NO_GATHER: u8 = 18;
 
-/// The seat is empty, or a closed set.
+/// A `contains` of this list can block.
+pub const MAY_BLOCK: u8 = 254;
+
+/// The seat is empty, or has the keys of a closed set.
 pub const NO_SEAT: u8 = 255;

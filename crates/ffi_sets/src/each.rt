@@ -1,15 +1,16 @@
-//! The same of whatever a seat of C holds, list by list.
+//! What the functions of C do with a `Held`, by a match on its list.
+ghost use Rattle.std.specs.Prelude.{◌≤◌, IfNone, IfSome};
 ghost use Rattle.ffi_sets.specs.Sets.{Gathers};
-ghost use Rattle.ffi_sets.specs.Calls.{HasCalledHeld};
+ghost use Rattle.ffi_sets.specs.Calls.{HasCalledHeld, HasHeededHeld, HasNotedHeld};
 
-use crate::codes::{NO_MORE, NO_SEAT};
+use crate::codes::{MAY_BLOCK, NO_MORE, NO_SEAT};
 use crate::held::Held;
 use crate::holding::open_of;
 use lset_live::OpenFault;
 use lset_words::{Call, Reply};
 use std::alloc::Global;
 
-/// Opens a set of the list with this number; `None` if there is no such list. Allocates.
+/// Opens a set of list `kind`: 0 coarse, 1 fine, 2 optimistic, 3 lazy, 4 lock-free. Returns `None` for any other number. Allocates.
 pub fn open_held(
     alloc: Global,
     kind: u8,
@@ -28,7 +29,7 @@ pub fn open_held(
     }))
 }
 
-/// Makes a call from what a seat of C contains.
+/// Makes a call from the seat in `held`. Returns `None` if `held` has no seat, or if the call gave up, which loses the seat.
 pub fn call_held(held: &mut Held, call: Call) -> Option<Reply>
     ensures { HasCalledHeld held.old call result held.new }
 {
@@ -38,11 +39,67 @@ pub fn call_held(held: &mut Held, call: Call) -> Option<Reply>
         Held::Optimistic(of) => of.call(call),
         Held::Lazy(of) => of.call(call),
         Held::LockFree(of) => of.call(call),
-        Held::Closed(_) | Held::Nothing => None,
+        _ => None,
     }
 }
 
-/// Whether a seat can be split off.
+/// Returns the number that says why a `contains` from the seat in `held` can block: `MAY_BLOCK` on a coarse, fine or optimistic list,
+/// `NO_SEAT` if `held` has no seat. Returns `None` if each step of a `contains` is a load, as on the other lists.
+pub fn why_reads_block(held: &Held) -> Option<u8>
+    ensures { IfSome result (λ n. 254 ≤ n) }
+{
+    match held {
+        Held::Lazy(_) | Held::LockFree(_) => None,
+        Held::Coarse(_) | Held::Fine(_) | Held::Optimistic(_) => Some(MAY_BLOCK),
+        _ => Some(NO_SEAT),
+    }
+}
+
+/// Returns a receipt of all that the seat in `held` has seen; `None` if `held` has no seat.
+pub fn receipt_held(held: &mut Held) -> Option<Held>
+    ensures { IfSome result (λ given. HasNotedHeld held.old given held.new) }
+{
+    Some(match held {
+        Held::Coarse(of) => Held::CoarseReceipt(of.receipt()?),
+        Held::Fine(of) => Held::FineReceipt(of.receipt()?),
+        Held::Optimistic(of) => Held::OptimisticReceipt(of.receipt()?),
+        Held::Lazy(of) => Held::LazyReceipt(of.receipt()?),
+        Held::LockFree(of) => Held::LockFreeReceipt(of.receipt()?),
+        _ => return None,
+    })
+}
+
+/// Hands the receipt `given` to the seat in `into`. Returns `None`; or `given`, if these are not a seat and a receipt of one list and
+/// number.
+pub fn heed_held(into: &mut Held, given: Held) -> Option<Held>
+    requires { Gathers into.old given }
+    ensures { IfNone result (HasHeededHeld into.old given into.new) }
+{
+    Some(match (into, given) {
+        (Held::Coarse(of), Held::CoarseReceipt(it)) => Held::CoarseReceipt(of.after(it)?),
+        (Held::Fine(of), Held::FineReceipt(it)) => Held::FineReceipt(of.after(it)?),
+        (Held::Optimistic(of), Held::OptimisticReceipt(it)) => {
+            Held::OptimisticReceipt(of.after(it)?)
+        }
+        (Held::Lazy(of), Held::LazyReceipt(it)) => Held::LazyReceipt(of.after(it)?),
+        (Held::LockFree(of), Held::LockFreeReceipt(it)) => Held::LockFreeReceipt(of.after(it)?),
+        (_, given) => given,
+    })
+}
+
+/// Returns how many seats of its set `held` contains, and how many the set has. Both are 0 if `held` has no seat.
+pub fn counts_held(held: &Held) -> (u64, u32) {
+    match held {
+        Held::Coarse(of) => of.counts(),
+        Held::Fine(of) => of.counts(),
+        Held::Optimistic(of) => of.counts(),
+        Held::Lazy(of) => of.counts(),
+        Held::LockFree(of) => of.counts(),
+        _ => (0, 0),
+    }
+}
+
+/// Returns whether a seat can be split off the seat in `held`.
 pub fn has_spare(held: &Held) -> bool {
     match held {
         Held::Coarse(of) => !of.spare.is_empty(),
@@ -50,11 +107,12 @@ pub fn has_spare(held: &Held) -> bool {
         Held::Optimistic(of) => !of.spare.is_empty(),
         Held::Lazy(of) => !of.spare.is_empty(),
         Held::LockFree(of) => !of.spare.is_empty(),
-        Held::Closed(_) | Held::Nothing => false,
+        _ => false,
     }
 }
 
-/// Splits a seat off; the error is the number that says why not.
+/// Splits a seat off the seat in `held`. Returns the error `NO_MORE` if none can be split off, `OUT_OF_MEMORY` if the set cannot have
+/// one more owner.
 pub fn split_held(held: &mut Held, alloc: Global) -> Result<Held, u8> {
     Ok(match held {
         Held::Coarse(of) => Held::Coarse(of.split(alloc)?),
@@ -62,11 +120,11 @@ pub fn split_held(held: &mut Held, alloc: Global) -> Result<Held, u8> {
         Held::Optimistic(of) => Held::Optimistic(of.split(alloc)?),
         Held::Lazy(of) => Held::Lazy(of.split(alloc)?),
         Held::LockFree(of) => Held::LockFree(of.split(alloc)?),
-        Held::Closed(_) | Held::Nothing => return Err(NO_MORE),
+        _ => return Err(NO_MORE),
     })
 }
 
-/// Merges a seat of the same set into another; returns it if they are not two seats of one list and number.
+/// Merges the seat in `from` into the seat in `into`. Returns `None`; or `from`, if these are not two seats of one list and number.
 pub fn gather_held(alloc: Global, into: &mut Held, from: Held) -> Option<Held>
     requires { Gathers into.old from }
 {
@@ -82,8 +140,8 @@ pub fn gather_held(alloc: Global, into: &mut Held, from: Held) -> Option<Held>
     })
 }
 
-/// Closes the set if all its seats are gathered, and returns its keys; else what was given, with the number that says why
-/// not.
+/// Closes the set in `held` and returns its final keys. On an error it returns `held` with a number: `NO_SEAT` if `held` has no seat,
+/// `SEATS_OUT` if other seats of the set are out, `OUT_OF_MEMORY` if an allocation failed.
 pub fn close_held(alloc: Global, held: Held) -> Result<Vec<u32>, (Held, u8)> {
     match held {
         Held::Coarse(of) => match of.close(alloc) {
@@ -110,7 +168,7 @@ pub fn close_held(alloc: Global, held: Held) -> Result<Vec<u32>, (Held, u8)> {
     }
 }
 
-/// Copies the keys to the front of `room` if they fit, and returns how many they are.
+/// Copies `keys` to the front of `room` if they fit. Returns the number of keys.
 fn put_keys(keys: &[u32], room: &mut [u32]) -> usize {
     let count = keys.len();
     if count <= room.len() {
@@ -119,8 +177,8 @@ fn put_keys(keys: &[u32], room: &mut [u32]) -> usize {
     count
 }
 
-/// Copies the keys of a closed set to the front of `room`, if they fit; returns how many they are, or `usize::MAX` if it is
-/// not a closed set.
+/// Copies the keys of the closed set in `held` to the front of `room` if they fit. Returns the number of keys, or `usize::MAX` if `held`
+/// is not a closed set.
 pub fn keys_held(held: &Held, room: &mut [u32]) -> usize {
     match held {
         Held::Closed(keys) => put_keys(keys, room),

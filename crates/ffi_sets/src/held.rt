@@ -1,4 +1,4 @@
-//! What a seat of C holds.
+//! The value of a seat of C: a seat of a set, a receipt, or the keys of a closed set.
 ghost use Rattle.std.specs.Prelude.{◌≡◌, IfSome};
 ghost use Rattle.std.specs.Arc.{arc_value};
 ghost use Rattle.ffi_sets.specs.Facts.{AreOf, seat_of_prop, spare_of_prop};
@@ -6,14 +6,14 @@ ghost use Rattle.ffi_sets.specs.Facts.{AreOf, seat_of_prop, spare_of_prop};
 use lset_coarse::CoarseList;
 use lset_fine::FineList;
 use lset_lazy::LazyList;
-use lset_live::{Bounded, LiveSet, Seat};
+use lset_live::{Bounded, LiveSet, Receipt, Seat};
 use lset_lock_free::LockFreeList;
 use lset_optimistic::OptimisticList;
+use lset_steps::Machine;
 use std::alloc::Global;
 use std::sync::Arc;
 
-/// A seat of a set with its set and the set's number, and the seats that can be split off it. The seat is lost if a call did
-/// not end.
+/// A seat of a set, with the set, the set's number, and the seats that can be split off it. `seat` is `None` after a call that gave up.
 #[derive(Drop)]
 pub struct SeatOfSet<M: Bounded> {
     pub set: Arc<LiveSet<M>, Global>,
@@ -24,8 +24,15 @@ pub struct SeatOfSet<M: Bounded> {
     ghost spare_of: { AreOf (arc_value set) spare.items } by { spare_of_prop spare.items (arc_value set) },
 }
 
-/// What a seat of C contains: a seat of a set of one of the lists, or the keys of a closed set; `Nothing` takes its place
-/// while it is taken out.
+/// A receipt of a set, with the set's number.
+#[derive(Drop)]
+pub struct ReceiptOfSet<M: Machine> {
+    pub number: u64,
+    pub receipt: Receipt<M>,
+}
+
+/// The value of a full seat of C: a seat of a set of one of the five lists, a receipt of such a set, or the keys of a closed set.
+/// `Nothing` stands in the box while a function has taken the value out.
 #[derive(Drop)]
 pub enum Held {
     Coarse(SeatOfSet<CoarseList>),
@@ -33,6 +40,11 @@ pub enum Held {
     Optimistic(SeatOfSet<OptimisticList>),
     Lazy(SeatOfSet<LazyList>),
     LockFree(SeatOfSet<LockFreeList>),
+    CoarseReceipt(ReceiptOfSet<CoarseList>),
+    FineReceipt(ReceiptOfSet<FineList>),
+    OptimisticReceipt(ReceiptOfSet<OptimisticList>),
+    LazyReceipt(ReceiptOfSet<LazyList>),
+    LockFreeReceipt(ReceiptOfSet<LockFreeList>),
     Closed(Vec<u32>),
     Nothing,
 }

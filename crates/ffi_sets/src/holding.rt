@@ -1,14 +1,14 @@
-//! What is done with a seat of a set.
-ghost use Rattle.std.specs.Prelude.{◌≡◌, ◌↔◌, ◌+◌, ◌≤◌, [], IsTrue, length, vec_capacity};
+//! What the functions of C do with a seat of a set, for any list.
+ghost use Rattle.std.specs.Prelude.{◌≡◌, ◌↔◌, ◌+◌, ◌≤◌, [], Some, IfNone, IfSome, IsTrue, length, vec_capacity};
 ghost use Rattle.std.specs.Arc.{arc_value};
 ghost use Rattle.lset_words.specs.Words.{sizes};
 ghost use Rattle.lset_live.specs.Closes.{most_keys};
-ghost use Rattle.ffi_sets.specs.Calls.{HasCalledOf};
+ghost use Rattle.ffi_sets.specs.Calls.{HasCalledOf, HasHeededOf, noted_by};
 ghost use Rattle.ffi_sets.specs.Facts.{AreOf};
 ghost use Rattle.ffi_sets.specs.Sets.{IsWhole};
 
 use crate::codes::{NO_MORE, OUT_OF_MEMORY, SEATS_OUT};
-use crate::held::SeatOfSet;
+use crate::held::{ReceiptOfSet, SeatOfSet};
 use crate::yielding::Yielding;
 use lset_live::{Bounded, Countless, LiveSet, OpenFault, Seat, open_with};
 use lset_words::{Call, Reply};
@@ -16,7 +16,7 @@ use std::alloc::Global;
 use std::mem::replace;
 use std::sync::Arc;
 
-/// Opens a set, and returns one seat of it, with all others to be split off.
+/// Opens a set and returns one of its seats; all others can be split off it.
 pub fn open_of<M: Bounded>(
     alloc: Global,
     seats: u32,
@@ -37,7 +37,7 @@ pub fn open_of<M: Bounded>(
     })
 }
 
-/// Gathers the seats into the one.
+/// Gathers all seats of `spare` into `seat`, and returns `seat`.
 fn gathered<M: Bounded>(set: &LiveSet<M>, seat: Seat<M>, spare: Vec<Seat<M>>) -> Seat<M>
     requires seat { seat.set ≡ set.now }
     requires spare { AreOf set.now spare.items }
@@ -51,7 +51,7 @@ fn gathered<M: Bounded>(set: &LiveSet<M>, seat: Seat<M>, spare: Vec<Seat<M>>) ->
     into
 }
 
-/// Closes the set, of which these are all seats, and puts its keys into the room.
+/// Closes the set and returns its final keys in `room`. `seat` and `spare` must be all seats of the set.
 fn keys_left<M: Bounded>(
     set: LiveSet<M>,
     seat: Seat<M>,
@@ -68,7 +68,7 @@ fn keys_left<M: Bounded>(
 }
 
 impl<M: Bounded> SeatOfSet<M> {
-    /// Makes a call. `None` if there is no seat, or the call gave up, in which case the seat is lost.
+    /// Makes a call from this seat. Returns `None` if the seat was lost before, or if the call gave up, which loses the seat.
     pub fn call(&mut self, call: Call) -> Option<Reply>
         ensures set { arc_value self.new.set ≡ arc_value self.old.set }
         ensures number { self.new.number ≡ self.old.number }
@@ -83,8 +83,7 @@ impl<M: Bounded> SeatOfSet<M> {
         Some(reply)
     }
 
-    /// Splits a seat off. The error is the number that says why not: none remains; else an allocation failed (the set has as
-    /// many owners as can be counted).
+    /// Splits a seat off this one. Returns the error `NO_MORE` if none remains, `OUT_OF_MEMORY` if the set cannot have one more owner.
     pub fn split(&mut self, alloc: Global) -> Result<SeatOfSet<M>, u8> {
         if self.spare.is_empty() {
             return Err(NO_MORE);
@@ -104,8 +103,8 @@ impl<M: Bounded> SeatOfSet<M> {
         })
     }
 
-    /// Merges a seat of the same set into this one, with all seats that can be split off it; returns it if they have two
-    /// numbers, or one has no seat.
+    /// Merges `from`, with all seats that can be split off it, into this seat. Returns `None`; or `from`, if the two have two numbers
+    /// or one of them was lost.
     pub fn gather(&mut self, alloc: Global, from: SeatOfSet<M>) -> Option<SeatOfSet<M>>
         requires { self.old.number ≡ from.number → arc_value self.old.set ≡ arc_value from.set }
     {
@@ -128,7 +127,55 @@ impl<M: Bounded> SeatOfSet<M> {
         None
     }
 
-    /// Whether all seats of the set are within.
+    /// Returns a receipt of all that this seat has seen; `None` if the seat was lost.
+    pub fn receipt(&mut self) -> Option<ReceiptOfSet<M>>
+        ensures set { arc_value self.new.set ≡ arc_value self.old.set }
+        ensures number { self.new.number ≡ self.old.number }
+        ensures spare { self.new.spare.items ≡ self.old.spare.items }
+        ensures seat { self.new.seat ≡ self.old.seat }
+        ensures given { IfSome result (λ r. (r.number ≡ self.old.number) × (Some r.receipt ≡ noted_by self.old.seat)) }
+    {
+        let mut seat = self.seat.take()?;
+        let receipt = self.set.receipt(&mut seat);
+        self.seat = Some(seat);
+        Some(ReceiptOfSet {
+            number: self.number,
+            receipt,
+        })
+    }
+
+    /// Hands a receipt to this seat, which has then seen all that the receipt stands for. Returns `None`; or `given`, if it has another
+    /// number or the seat was lost.
+    pub fn after(&mut self, given: ReceiptOfSet<M>) -> Option<ReceiptOfSet<M>>
+        requires { self.old.number ≡ given.number → arc_value self.old.set ≡ given.receipt.set }
+        ensures set { arc_value self.new.set ≡ arc_value self.old.set }
+        ensures number { self.new.number ≡ self.old.number }
+        ensures spare { self.new.spare.items ≡ self.old.spare.items }
+        ensures heeded { IfNone result (HasHeededOf self.old.seat (Some given.receipt) self.new.seat) }
+    {
+        if self.number != given.number {
+            return Some(given);
+        }
+        let Some(mut seat) = self.seat.take() else {
+            return Some(given);
+        };
+        let ReceiptOfSet { number: _, receipt } = given;
+        self.set.after(&mut seat, receipt);
+        self.seat = Some(seat);
+        None
+    }
+
+    /// Returns how many seats this one contains, itself included, and how many the set has.
+    pub fn counts(&self) -> (u64, u32) {
+        let spare = self.spare.len() as u64;
+        let held = match &self.seat {
+            Some(seat) => u64::from(seat.held()),
+            None => 0,
+        };
+        (spare.saturating_add(held), self.set.seats())
+    }
+
+    /// Returns whether this seat contains all seats of the set.
     fn has_all(&self) -> bool
         ensures { IsTrue result ↔ IsWhole (arc_value self.now.set) self.now.seat self.now.spare.items }
     {
@@ -141,9 +188,9 @@ impl<M: Bounded> SeatOfSet<M> {
         others as usize == self.spare.len()
     }
 
-    /// Closes the set if all its seats are gathered, and returns its keys. Else returns everything with `SEATS_OUT`; or with
-    /// `OUT_OF_MEMORY` if there is no memory for as many keys as there can be, or the set's own memory has another owner,
-    /// which it has in no run.
+    /// Closes the set and returns its final keys. On an error it returns itself with a number: `SEATS_OUT` if other seats are out;
+    /// `OUT_OF_MEMORY` if the allocation of room for all keys that there can be fails, or if the set has another owner, which happens
+    /// in no run.
     pub fn close(self, alloc: Global) -> Result<Vec<u32>, (SeatOfSet<M>, u8)> {
         if !self.has_all() {
             return Err((self, SEATS_OUT));

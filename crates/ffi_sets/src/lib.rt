@@ -1,8 +1,8 @@
-//! Running sets as functions over seats that C keeps, which `ffi_c` exports.
+//! Running sets as functions over seats that C keeps. The crate `ffi_c` exports the functions.
 //!
-//! A seat of C is a struct that owns what it holds, or is empty. Each function answers at each argument that its types allow, by a
-//! number (`codes`). A call from a seat goes by the loops of the library, with as many rounds as a number of 64 bits has
-//! (`lset_live::Bounded`), since no function of C may wait for ever.
+//! A seat of C (`CSeat`) is empty, or owns a seat of a set, a receipt, or the keys of a closed set. Each function accepts every argument
+//! that its types allow, and returns a number of `codes`. A call from a seat gives up after 2^64 - 1 rounds of a loop
+//! (`lset_live::Bounded`), since a function of C has no handle by which it may wait for ever.
 #![tactic(auto)]
 
 mod answers;
@@ -15,14 +15,22 @@ mod seat;
 mod yielding;
 
 ghost use Rattle.lset_words.specs.declared.Call.TheVariants.{Add, Remove, Contains, Ceiling};
-ghost use Rattle.ffi_sets.specs.Calls.{HasCeiling, HasMade};
+ghost use Rattle.std.specs.Prelude.{◌≡◌, ◌<◌};
+ghost use Rattle.ffi_sets.specs.Calls.{HasCeiling, HasGiven, HasHeeded, HasMade};
+ghost use Rattle.lset_words.specs.Words.{IsWithin};
+ghost use Rattle.lset_steps.specs.BoundedReads.{most_reads as bound};
 ghost use Rattle.ffi_sets.specs.Sets.{GathersAt};
 
 use answers::{call_from_seat, fault_code, put_new, reply_code};
 use codes::{BAD_KIND, DONE, IS_SEAT, NO_GATHER, NO_MORE, NO_SEAT, OUT_OF_MEMORY};
-use each::{call_held, close_held, gather_held, has_spare, keys_held, open_held, split_held};
+use each::{
+    call_held, close_held, counts_held, gather_held, has_spare, heed_held, keys_held, open_held,
+    receipt_held, split_held, why_reads_block,
+};
 use held::Held;
-use lset_words::{Call, Key, Reply};
+use lset_lazy::LazyList;
+use lset_steps::OpenReads;
+use lset_words::{Call, Key, Reply, layout_opening};
 pub use seat::CSeat;
 use seat::{put, take};
 use std::alloc::Global;
@@ -30,7 +38,7 @@ use std::mem::replace;
 
 /// Opens a set of the list `kind`, 0 to 4 (coarse, fine, optimistic, lazy, lock-free), with `seats` seats, 1 to 64, a quota
 /// of 0 to 16,384, and at most 1,048,576 keys in strictly increasing order. `out`, which must be empty, gets a seat that
-/// contains all others. `number` must be one that no other open set has: `gather_seats` compares it.
+/// contains all others. No other open set may have the same `number`: `gather_seats` compares the numbers of two seats.
 ///
 /// Returns `DONE`, or an error and changes nothing: `IS_SEAT` if `out` is not empty, `BAD_KIND`, `BAD_SEATS`, `BAD_QUOTA`,
 /// `BAD_KEYS`, or `OUT_OF_MEMORY` if an allocation failed. Does not block.
@@ -54,10 +62,10 @@ pub fn open_set(
     }
 }
 
-/// Takes one of the seats that `seat` contains out of it, into `out`, which must be empty.
+/// Splits a seat of the set off `seat`, into `out`, which must be empty.
 ///
 /// Returns `DONE`, or changes nothing and returns the first error of these: `IS_SEAT` if `out` is not empty, `NO_SEAT` if
-/// `seat` is empty, `NO_MORE` if no seat can be split off it (so too if it is a closed set), `OUT_OF_MEMORY` if an allocation
+/// `seat` is empty, `NO_MORE` if no seat can be split off it or it is a closed set, `OUT_OF_MEMORY` if an allocation
 /// failed. Does not block.
 pub fn split_seat(alloc: Global, seat: &mut CSeat, out: &mut CSeat) -> u8 {
     if let Some(held) = take(alloc, out) {
@@ -71,7 +79,7 @@ pub fn split_seat(alloc: Global, seat: &mut CSeat, out: &mut CSeat) -> u8 {
         put(seat, held);
         return NO_MORE;
     }
-    // (the box is made first, so that no seat is lost if that fails)
+    // Allocate the box first: no seat is lost if the allocation fails.
     let Ok(mut made) = Box::new(alloc, Held::Nothing) else {
         put(seat, held);
         return OUT_OF_MEMORY;
@@ -88,33 +96,33 @@ pub fn split_seat(alloc: Global, seat: &mut CSeat, out: &mut CSeat) -> u8 {
     }
 }
 
-/// Adds `key` to the set. Returns 1 if it was not in the set, 0 if it was, 2 if the seat has used up its quota; 255 if
-/// `seat` is empty or a closed set. Blocks while another thread holds a lock that the call needs. Does not allocate.
+/// Adds `key` to the set. Returns 1 if `key` was absent, 0 if it was present, 2 if it is absent and the seat has used its quota.
+/// Returns 255 if `seat` is empty or a closed set. Blocks while another thread holds a lock that the call needs. Does not allocate.
 pub fn add_key(alloc: Global, seat: &mut CSeat, key: u32) -> u8
     ensures { HasMade seat.old.full seat.old.held (Add (record { 0 = key })) result seat.new.full seat.new.held }
 {
     call_from_seat(alloc, seat, Call::Add(Key(key)))
 }
 
-/// Removes `key` from the set. Returns 1 if it was in the set, 0 if it was not; 255 if `seat` is empty or a closed set.
-/// Blocks while another thread holds a lock that the call needs. Does not allocate.
+/// Removes `key` from the set. Returns 1 if `key` was present, 0 if it was absent, 255 if `seat` is empty or a closed set. Blocks
+/// while another thread holds a lock that the call needs. Does not allocate.
 pub fn remove_key(alloc: Global, seat: &mut CSeat, key: u32) -> u8
     ensures { HasMade seat.old.full seat.old.held (Remove (record { 0 = key })) result seat.new.full seat.new.held }
 {
     call_from_seat(alloc, seat, Call::Remove(Key(key)))
 }
 
-/// Returns 1 if `key` is in the set, 0 if it is not; 255 if `seat` is empty or a closed set. On a coarse, fine or optimistic
-/// list it blocks while another thread holds a lock that the call needs. Does not allocate.
+/// Returns 1 if `key` is in the set, 0 if it is not, 255 if `seat` is empty or a closed set. On a coarse, fine or optimistic list
+/// the call blocks while another thread holds a lock that it needs. Does not allocate.
 pub fn contains_key(alloc: Global, seat: &mut CSeat, key: u32) -> u8
     ensures { HasMade seat.old.full seat.old.held (Contains (record { 0 = key })) result seat.new.full seat.new.held }
 {
     call_from_seat(alloc, seat, Call::Contains(Key(key)))
 }
 
-/// Finds the smallest key of the set at or above `key`. Returns 3 and writes it to `at`, or 4 if there is none; 255 if
-/// `seat` is empty or a closed set. On a coarse, fine or optimistic list it blocks while another thread holds a lock that
-/// the call needs. Does not allocate.
+/// Finds the smallest key of the set that is at least `key`. Returns 3 and writes the key to `at`, or returns 4 if the set has no
+/// such key. Returns 255 if `seat` is empty or a closed set. On a coarse, fine or optimistic list the call blocks while another
+/// thread holds a lock that it needs. Does not allocate.
 pub fn ceiling_at(alloc: Global, seat: &mut CSeat, key: u32, at: &mut u32) -> u8
     ensures { HasCeiling seat.old.full seat.old.held (Ceiling (record { 0 = key })) result at.old at.new seat.new.full seat.new.held }
 {
@@ -129,8 +137,104 @@ pub fn ceiling_at(alloc: Global, seat: &mut CSeat, key: u32, at: &mut u32) -> u8
     reply_code(reply)
 }
 
-/// Merges the seat `from`, with all seats that it contains, into `into`; `from` is then empty. Both must be seats of one
-/// set: seats whose lists and numbers agree are the caller's duty.
+/// Returns 1 if `key` is in the set, 0 if it is not, without waiting for a lock. Makes no call and returns 254 on a coarse, fine or
+/// optimistic list, 255 if `seat` is empty or a closed set. Does not allocate.
+///
+/// No clause bounds the steps of the call. They follow a run of the list (`HasAnswered` in the clause), and in every run a `contains` of
+/// these lists makes at most `most_reads` steps (`lset_steps::laws::bounded_reads`).
+pub fn contains_key_now(alloc: Global, seat: &mut CSeat, key: u32) -> u8
+    ensures { result < 254 → HasMade seat.old.full seat.old.held (Contains (record { 0 = key })) result seat.new.full seat.new.held }
+{
+    let Some(mut held) = take(alloc, seat) else {
+        return NO_SEAT;
+    };
+    if let Some(code) = why_reads_block(&held) {
+        put(seat, held);
+        return code;
+    }
+    let reply = call_held(&mut held, Call::Contains(Key(key)));
+    put(seat, held);
+    reply_code(reply)
+}
+
+/// Returns the maximum number of steps of a `contains` in the runs of a lazy or a lock-free list that was opened with `seats`, `quota`
+/// and `opening` keys; 0 if no set opens with these. Does not block or allocate.
+pub fn most_reads(seats: u32, quota: u32, opening: u32) -> u64
+    ensures { IsWithin (record { threads = seats; quota = quota; opening = opening })
+        → result ≡ bound (record { threads = seats; quota = quota; opening = opening }) }
+{
+    match layout_opening(seats, quota, opening) {
+        Ok(layout) => LazyList::bound(&layout),
+        Err(_) => 0,
+    }
+}
+
+/// Writes a receipt of all that `seat` has seen to `out`, which must be empty: its own calls, and all that the seats that it gathered
+/// and the receipts that it took had seen. `seat` is unchanged.
+///
+/// Returns `DONE`, or changes nothing and returns the first error of these: `IS_SEAT` if `out` is not empty, `NO_SEAT` if `seat`
+/// is empty or a closed set, `OUT_OF_MEMORY` if an allocation failed. Does not block.
+pub fn give_receipt(alloc: Global, seat: &mut CSeat, out: &mut CSeat) -> u8
+    ensures { result ≡ 0 → HasGiven seat.old.full seat.old.held out.new.full out.new.held seat.new.full seat.new.held }
+{
+    if let Some(held) = take(alloc, out) {
+        put(out, held);
+        return IS_SEAT;
+    }
+    let Some(mut held) = take(alloc, seat) else {
+        return NO_SEAT;
+    };
+    let given = receipt_held(&mut held);
+    put(seat, held);
+    match given {
+        Some(given) => put_new(alloc, out, given),
+        None => NO_SEAT,
+    }
+}
+
+/// Hands the receipt `given` to `seat`: the calls that `seat` makes from now on come after all calls that the receipt stands for.
+/// `given` is then empty. The caller must ensure that a seat and a receipt of one list and number are of one set.
+///
+/// Returns `DONE`, or an error and changes nothing: `NO_SEAT` if one is empty, `NO_GATHER` if they are not a seat and a receipt
+/// of one list and number. Does not block or allocate.
+pub fn take_receipt(alloc: Global, seat: &mut CSeat, given: &mut CSeat) -> u8
+    requires { GathersAt seat.old.full seat.old.held given.old.full given.old.held }
+    ensures { result ≡ 0 → HasHeeded seat.old.full seat.old.held given.old.full given.old.held seat.new.full seat.new.held }
+{
+    let Some(mut receipt) = take(alloc, given) else {
+        return NO_SEAT;
+    };
+    let Some(mut held) = take(alloc, seat) else {
+        put(given, receipt);
+        return NO_SEAT;
+    };
+    let back = heed_held(&mut held, replace(&mut *receipt, Held::Nothing));
+    put(seat, held);
+    let Some(back) = back else {
+        return DONE;
+    };
+    *receipt = back;
+    put(given, receipt);
+    NO_GATHER
+}
+
+/// Returns how many seats of its set `seat` contains, itself included, and writes to `all` how many the set has. Both are 0 if `seat`
+/// is empty or a closed set. Does not block or allocate.
+pub fn count_seats(alloc: Global, seat: &mut CSeat, all: &mut u32) -> u64 {
+    let (within, of_set) = match take(alloc, seat) {
+        Some(held) => {
+            let counts = counts_held(&held);
+            put(seat, held);
+            counts
+        }
+        None => (0, 0),
+    };
+    *all = of_set;
+    within
+}
+
+/// Merges the seat `from`, with all seats that it contains, into `into`; `from` is then empty. The caller must ensure that two seats
+/// of one list and number are of one set.
 ///
 /// Returns `DONE`, or an error and changes nothing: `NO_SEAT` if one is empty, `NO_GATHER` if they are not two seats of one
 /// list and number. Does not block or allocate.
@@ -154,7 +258,7 @@ pub fn gather_seats(alloc: Global, into: &mut CSeat, from: &mut CSeat) -> u8
     NO_GATHER
 }
 
-/// Closes the set whose seats are all gathered into `seat`, which then has the remaining keys.
+/// Closes the set, all of whose seats `seat` must contain. `seat` is then a closed set with the final keys.
 ///
 /// Returns `DONE`, or an error and changes nothing: `NO_SEAT` if `seat` is empty or a closed set, `SEATS_OUT` if other seats
 /// are out, `OUT_OF_MEMORY` if an allocation failed. Does not block.
@@ -176,8 +280,8 @@ pub fn close_set(alloc: Global, seat: &mut CSeat) -> u8 {
     }
 }
 
-/// Returns how many keys the closed set `closed` has, and copies them to `room`, in strictly increasing order, if they fit;
-/// 2^64 - 1 if it is not a closed set. Does not block or allocate.
+/// Copies the keys of the closed set `closed` to `room`, in strictly increasing order, if they fit. Returns the number of keys;
+/// 2^64 - 1 if `closed` is not a closed set. Does not block or allocate.
 pub fn give_keys(alloc: Global, closed: &mut CSeat, room: &mut [u32]) -> usize {
     let Some(held) = take(alloc, closed) else {
         return usize::MAX;
@@ -187,7 +291,7 @@ pub fn give_keys(alloc: Global, closed: &mut CSeat, room: &mut [u32]) -> usize {
     count
 }
 
-/// Drops what the seat contains, and leaves it empty. A set of which a seat was dropped cannot be closed. Does not block.
+/// Drops what `seat` contains: `seat` is then empty. A set cannot be closed after one of its seats was dropped. Does not block.
 pub fn let_go(alloc: Global, seat: &mut CSeat) {
     let _held = take(alloc, seat);
 }

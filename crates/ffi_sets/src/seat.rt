@@ -10,7 +10,7 @@ use std::alloc::Global;
 use std::marker::Model;
 use std::mem::replace;
 
-/// A seat as C keeps it. If it is full it owns a box, whose value is `held`; only an empty one may be dropped.
+/// A seat as C keeps it. A full seat owns a box with the value `held`. Only an empty seat may be dropped.
 #[derive(Drop)]
 #[repr(C)]
 pub struct CSeat {
@@ -34,6 +34,7 @@ impl CSeat {
         }
     }
 
+    /// Returns a full seat that owns this box.
     fn of_loose(held: Loose<Held, Global>) -> CSeat
         ensures { (result.full ≡ true) × (result.held ≡ held.value) }
     {
@@ -44,6 +45,7 @@ impl CSeat {
         }
     }
 
+    /// Returns the box of a full seat; `None` if the seat is empty.
     fn into_loose(self, alloc: Global) -> Option<Loose<Held, Global>>
         ensures { MatchOption result (self.full ≡ false) (λ l. (self.full ≡ true) × (l.value ≡ self.held)) }
     {
@@ -59,7 +61,7 @@ impl CSeat {
     }
 }
 
-/// Takes what the seat contains out of it, and leaves it empty; `None` if it was empty.
+/// Takes the box out of `seat`, which is then empty. Returns `None` if `seat` was empty.
 pub fn take(alloc: Global, seat: &mut CSeat) -> Option<Box<Held>>
     ensures told { MatchOption result (seat.old.full ≡ false) (λ b. (seat.old.full ≡ true) × (b.value ≡ seat.old.held)) }
     ensures left { seat.new.full ≡ false }
@@ -68,7 +70,7 @@ pub fn take(alloc: Global, seat: &mut CSeat) -> Option<Box<Held>>
     Some(held.into_box())
 }
 
-/// Puts a box into the empty seat.
+/// Puts a box into `seat`, which must be empty.
 pub fn put(seat: &mut CSeat, held: Box<Held>)
     requires { seat.old.full ≡ false }
     ensures { (seat.new.full ≡ true) × (seat.new.held ≡ held.value) }

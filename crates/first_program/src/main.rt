@@ -1,6 +1,8 @@
-//! A first program on the library. One thread calls a set of its own. Two threads share a set, which is then closed; another list
-//! opens with the remaining keys. Two threads are started by the program itself, and a receipt orders their calls. And a recorded
-//! schedule is replayed.
+//! A first program that uses the library.
+//!
+//! One thread calls a set of its own. Two threads share a set, the set is closed, and a set of another list opens with
+//! the final keys. The program starts two threads itself, and a receipt orders their calls. At last it replays a
+//! recorded schedule.
 #![tactic(auto)]
 
 ghost use Rattle.std.specs.Prelude.{◌≡◌, [], ◌∷◌, IfOk, map};
@@ -24,11 +26,11 @@ use std::alloc::Global;
 use std::sync::Wait;
 use std::thread::{Threads, join};
 
-/// One thread alone, on a CoarseList: an `add` in its seven steps.
+/// A schedule of one thread on a CoarseList: the seven steps of an `add`.
 const SCHEDULE: &str =
     "listset-schedule 1\nlist coarse\nthreads 1\nquota 1\nbegin 0 add 5\ngo 0 7\n";
 
-/// One thread alone, on a LazyList with a quota of two: what its calls return.
+/// Calls a LazyList from one thread, with a quota of two, and prints what the calls return.
 fn one_thread<R: Wait + Print>(rt: &R, alloc: Global) -> Result<()> {
     let (set, mut seats) = open::<LazyList>(alloc, 1, 2)?;
     let mut seat = seats.pop().context("the set has no seat")?;
@@ -43,8 +45,8 @@ fn one_thread<R: Wait + Print>(rt: &R, alloc: Global) -> Result<()> {
     Ok(())
 }
 
-/// What two threads make of a list that opens with these keys, with a quota of two for each: the replies to each one's calls, and the
-/// keys that are left.
+/// Runs two programs in two threads on a set of the list `M`, with a quota of two for each thread. The set opens with
+/// the keys `keys`. Returns the replies to each program and the final keys.
 fn two_threads<M: Running + Send + Sync + Drop, R: Threads + Wait + Sync>(
     rt: &R,
     alloc: Global,
@@ -52,7 +54,8 @@ fn two_threads<M: Running + Send + Sync + Drop, R: Threads + Wait + Sync>(
     first: [Call; 2],
     second: [Call; 2],
 ) -> Result<Outcome>
-    // one legal order has just these calls with these replies, each thread's in its order, and leaves the keys
+    // one legal order has exactly these calls with these replies, each thread's calls in their order, and leaves the
+    // keys
     ensures { IfOk result (λ o. IsOneLegalOrder (record { threads = 2; quota = 2; keys = keys.now })
         (worked (fresh 0 ∷ fresh 1 ∷ []) (first ∷ second ∷ []) (map (λ v. v.items) o.replies.items)) o.keys.items) }
 {
@@ -63,7 +66,7 @@ fn two_threads<M: Running + Send + Sync + Drop, R: Threads + Wait + Sync>(
     Ok(work(rt, alloc, set, seats, programs, &Always)?)
 }
 
-/// Two lives of one set: a LazyList opens empty, and the keys that it leaves open a LockFreeList.
+/// Opens a LazyList without keys, then a LockFreeList with the final keys of the LazyList.
 fn two_lives<R: Threads + Wait + Sync>(rt: &R, alloc: Global) -> Result<(Outcome, Outcome)> {
     let first = [Call::Add(Key(5)), Call::Add(Key(7))];
     let second = [Call::Add(Key(9)), Call::Remove(Key(9))];
@@ -74,7 +77,7 @@ fn two_lives<R: Threads + Wait + Sync>(rt: &R, alloc: Global) -> Result<(Outcome
     Ok((left, again))
 }
 
-/// What a thread does that adds a key: it returns its seat, and a receipt of what the seat has seen.
+/// Adds a key and returns the seat, with a receipt of everything that the seat has seen.
 fn add_and_tell<M: Running, R: Wait>(
     rt: &R,
     set: &LiveSet<M>,
@@ -89,8 +92,9 @@ fn add_and_tell<M: Running, R: Wait>(
     (seat, receipt)
 }
 
-/// Two threads add a key each, to a LazyList with a quota of one for each. Seat one then looks for the key of seat zero, whose receipt it has
-/// taken: so each order that `close` promises has that `add` before.
+/// Starts two threads, each of which adds a key to one LazyList with a quota of one for each thread. Seat one then
+/// takes the receipt of seat zero and looks for the key of seat zero. Every order that `close` promises has that `add`
+/// before.
 fn started_threads<R: Threads + Wait + Sync + Print>(rt: &R, alloc: Global) -> Result<()> {
     let (set, mut seats) = open::<LazyList>(alloc, 2, 1)?;
     let (Some(one), Some(zero)) = (seats.pop(), seats.pop()) else {
@@ -116,7 +120,7 @@ fn started_threads<R: Threads + Wait + Sync + Print>(rt: &R, alloc: Global) -> R
     Ok(())
 }
 
-/// The report of the schedule that has this text.
+/// Replays a schedule and returns its report.
 fn replay_text(alloc: Global, text: &str) -> Result<Report>
     // the text is a schedule's, and the report's order linearizes its calls and leaves its keys
     ensures { IfOk result (λ r. (p : Plan) × IsSchedule p × (text.now ≡ schedule_text p) × IsExplained (view r)) }
@@ -128,7 +132,7 @@ fn replay_text(alloc: Global, text: &str) -> Result<Report>
 fn main(rt: HostRuntime) -> Result<()> {
     let alloc = rt.alloc();
     one_thread(&rt, alloc)?;
-    // the runtime starts threads only if `main` itself passes it on
+    // the runtime starts threads only if `main` itself passes `rt` on
     let (left, again) = two_lives(&rt, alloc)?;
     println!(rt;
         "the replies {:?} leave the keys {:?}",

@@ -5,7 +5,7 @@
 use lset_command::VERSION;
 use lset_dispatch::run_words;
 use std::alloc::{AllocError, Global};
-use std::io::{self, Write};
+use std::io::{self, ErrorKind, Write};
 use std::process::ExitCode;
 use tool_base::{Trouble, deliver, put};
 
@@ -13,7 +13,11 @@ use tool_base::{Trouble, deliver, put};
 // lengths here (build/version_stamp.py).
 const BUILT: &str = "commit 0000000000000000000000000000000000000000\nproof unknown\n";
 
-/// The words after the program's name.
+// The line about an argument that std does not return as a `String`. (std opens no file of such a name either.)
+const NOT_UTF8: &[u8] = b"listset: an argument is not UTF-8\n";
+
+/// Returns the words after the program's name. The error is of the kind `InvalidData` if one is not UTF-8; any other means that an
+/// allocation failed.
 fn words_given(rt: &HostRuntime) -> io::Result<Vec<String>> {
     Ok(std::env::args(rt)?.skip(1).collect(rt.alloc())?)
 }
@@ -26,8 +30,14 @@ fn texts(alloc: Global, given: &[String]) -> Result<Vec<&str>, AllocError> {
     Ok(words)
 }
 
-/// Ends the program if the system did not give its arguments, for which only a failed allocation is the cause.
-fn end_without_words(rt: &HostRuntime) -> ExitCode {
+/// Ends a program that has an argument that is not UTF-8.
+fn end_without_text(rt: &HostRuntime) -> ExitCode {
+    let _whole = put(&mut rt.stderr(), NOT_UTF8);
+    ExitCode::from(2)
+}
+
+/// Ends a program whose arguments have no room in memory.
+fn end_without_memory(rt: &HostRuntime) -> ExitCode {
     let (output, stderr) = (&mut io::writer(rt), &mut rt.stderr());
     ExitCode::from(deliver(Err(Trouble::Memory), output, stderr))
 }
@@ -51,11 +61,17 @@ fn asks_for_origin(words: &[&str]) -> bool {
 
 // The runtime starts threads and opens sockets only if `main` itself passes it on.
 fn main(rt: HostRuntime) -> ExitCode {
-    let Ok(given) = words_given(&rt) else {
-        return end_without_words(&rt);
+    let given = match words_given(&rt) {
+        Ok(given) => given,
+        Err(error) => {
+            return match error.kind() {
+                ErrorKind::InvalidData => end_without_text(&rt),
+                _ => end_without_memory(&rt),
+            };
+        }
     };
     let Ok(words) = texts(rt.alloc(), &given) else {
-        return end_without_words(&rt);
+        return end_without_memory(&rt);
     };
     let (input, output, stderr) = (&mut rt.reader(), &mut io::writer(&rt), &mut rt.stderr());
     if asks_for_origin(&words) {

@@ -11,7 +11,7 @@ use Rattle.lset_steps.specs.declared.rows.Targets.{Targets}
 use Rattle.lset_steps.specs.Steps.{Table}
 use Rattle.lset_steps.specs.Rows.{own_slot, begun, decided_on}
 
--- the rows to which a call goes on from its decision
+-- The rows at which a call continues after its decision.
 abbrev pub targets : Targets
 targets = record { adds = 5; removes = 8; leaves = 10 }
 
@@ -28,7 +28,7 @@ next_action l =
     else if l.pc == 9 then Store (link_index l.pred) (2 * l.succ)
     else Store 0 0
 
--- where the walk sees the key word of curr
+-- The row after the key word of curr: the walk continues while the word is below the call's key; then the call decides.
 abbrev pub at_key : ℕ → Local → Local
 at_key seen l =
     if nat_lt seen (target l.call) then record l { pc = 4; ckey = seen }

@@ -1,5 +1,5 @@
--- The words that the program takes: its commands and their values, as a simple command of clap, whose
--- definitions say which values the words give.
+-- The command line of the program: its commands and their values, as a simple command of clap. The definitions of clap say
+-- which values the words give.
 use Rattle.std.specs.Prelude.{◌≡◌, Result, IfOk, List, [], map, codes, Bool, true, false, ◌||◌, Option, Some, None, option_map, unwrap_or}
 use Rattle.std.specs.Prelude.{string_bytes, if◌then◌else◌, option_and_then}
 use Rattle.std.specs.List.{flat_map}
@@ -14,7 +14,7 @@ use Rattle.clap.specs.declared.Command as clap
 use Rattle.clap.specs.declared.Command.TheViews.{out-Command}
 use Rattle.lset_command.specs.declared.command_line.Command.{Command}
 use Rattle.lset_command.specs.declared.command_line.Command.TheVariants.{Replay, Judge, Check, Show, Trace, Draft, Example}
-use Rattle.lset_command.specs.declared.command_line.Command.TheVariants.{Gen, Run, Serve, Faults}
+use Rattle.lset_command.specs.declared.command_line.Command.TheVariants.{Gen, Run, Serve, Faults, Explain}
 use Rattle.lset_command.specs.declared.command_line.Options.{Options}
 use Rattle.lset_command.specs.declared.command_line.Words.{Words}
 
@@ -26,9 +26,13 @@ flag_rule name = record (new_rule name) { long = Some name; action = Some SetTru
 abbrev pub option_rule : Text → Rule
 option_rule name = record (new_rule name) { long = Some name; value_names = 1 }
 
--- `judge [FILE]`, `check [FILE]` and `draft [FILE]`
+-- `check [FILE]`, `draft [FILE]` and `explain [FILE]`, and the first rule of others
 abbrev pub file_app : Text → App
 file_app name = with_rule (new_app name) (new_rule (codes "FILE"))
+
+-- `judge [--brief] [--only KEY] [FILE]`
+abbrev pub judge_app : App
+judge_app = with_rule (with_rule (file_app (codes "judge")) (flag_rule (codes "brief"))) (option_rule (codes "only"))
 
 -- `replay [--lacks NAME] [FILE]`
 abbrev pub replay_app : App
@@ -78,15 +82,19 @@ serve_app =
     (new_rule (codes "SESSIONS")))
     (new_rule (codes "FILE"))
 
+-- `faults [CAUSE]`
+abbrev pub faults_app : App
+faults_app = with_rule (new_app (codes "faults")) (new_rule (codes "CAUSE"))
+
 -- the program, which has a version; the words begin after its name
 abbrev pub listset : App
 listset =
     with_subcommand (with_subcommand (with_subcommand (with_subcommand (with_subcommand
     (with_subcommand (with_subcommand
     (with_subcommand (with_subcommand (with_subcommand
-    (with_subcommand (on_top (λ s. record s { no_binary_name = true; has_version = true }) (new_app (codes "listset")))
+    (with_subcommand (with_subcommand (on_top (λ s. record s { no_binary_name = true; has_version = true }) (new_app (codes "listset")))
     replay_app.top)
-    (file_app (codes "judge")).top)
+    judge_app.top)
     (file_app (codes "check")).top)
     show_app.top)
     trace_app.top)
@@ -95,15 +103,16 @@ listset =
     (six_values (codes "gen")).top)
     run_app.top)
     serve_app.top)
-    (new_app (codes "faults")).top
+    faults_app.top)
+    (file_app (codes "explain")).top
 
--- ---- how the program's command is made
+-- ---- the program's command in clap
 
--- the command is such an app, and no argument of it is global
+-- the command is the app, and no argument of it is global
 abbrev pub IsApp : clap.Command → App → Type 0
 IsApp c a = (app_of c ≡ a) × ((out-Command c).has_globals ≡ false)
 
--- such a command, if any was made
+-- a command of the app, if any was made
 abbrev pub Makes : Result clap.Command AllocError → App → Type 0
 Makes made a = IfOk made (λ c. IsApp c a)
 
@@ -116,15 +125,15 @@ abbrev pub MakesWithSubcommand : Result clap.Command AllocError → Result clap.
     Type 0
 MakesWithSubcommand old sub new = (a b : App) → Makes old a → Makes sub b → Makes new (with_subcommand a b.top)
 
--- ---- what a parse of the words found
+-- ---- the result of a parse
 
--- the name of a flag or of an option; each other name is that of values
+-- the names of flags and options; every other name is that of values
 abbrev pub is_option : Text → Bool
 is_option name = bytes_eq name (codes "svg") || (bytes_eq name (codes "from") || (bytes_eq name (codes "to")
-    || (bytes_eq name (codes "width") || (bytes_eq name (codes "chain") || (bytes_eq name (codes "broken")
-    || bytes_eq name (codes "lacks"))))))
+    || (bytes_eq name (codes "width") || (bytes_eq name (codes "brief") || (bytes_eq name (codes "only")
+    || (bytes_eq name (codes "chain") || (bytes_eq name (codes "broken") || bytes_eq name (codes "lacks"))))))))
 
--- the values of a name among the rows that a parse found
+-- the values of a name in the rows of a parse
 abbrev pub values_by : Text → List Row → List Text
 values_by name rows = if is_option name then [] else unwrap_or (all_of name rows) []
 
@@ -143,6 +152,8 @@ pub record OptionValues : Type 0 where
   pub from : Option Text
   pub to : Option Text
   pub width : Option Text
+  pub brief : Bool
+  pub only : Option Text
   pub chain : Bool
   pub broken : Bool
   pub lacks : Option Text
@@ -154,12 +165,14 @@ options_in rows = record {
   from = first_of (codes "from") rows;
   to = first_of (codes "to") rows;
   width = first_of (codes "width") rows;
+  brief = is_on (codes "brief") rows;
+  only = first_of (codes "only") rows;
   chain = is_on (codes "chain") rows;
   broken = is_on (codes "broken") rows;
   lacks = first_of (codes "lacks") rows;
 }
 
--- the command of a name; a parse of the program's words finds the names of `listset` alone
+-- the command of a name; a parse of the program's words finds only names of `listset`
 unfoldable pub command_named : Text → Command
 command_named name =
     if bytes_eq name (codes "judge") then Judge
@@ -172,7 +185,8 @@ command_named name =
     else (if bytes_eq name (codes "run") then Run
     else (if bytes_eq name (codes "serve") then Serve
     else (if bytes_eq name (codes "faults") then Faults
-    else Replay)))))))))
+    else (if bytes_eq name (codes "explain") then Explain
+    else Replay))))))))))
 
 -- a command with its values, its flags and its options
 pub record Choice : Type 0 where
@@ -180,12 +194,12 @@ pub record Choice : Type 0 where
   pub values : List Text
   pub options : OptionValues
 
--- what a parse of the command line has found; if it names no command, it is `replay`
+-- the choice of a parse of the command line; `replay` if the words name no command
 abbrev pub choice_of : Option (Text × List Row) → Choice
 choice_of None = record { command = Replay; values = []; options = options_in [] }
 choice_of (Some found) = record { command = command_named found.0; values = values_in found.1; options = options_in found.1 }
 
--- ---- the words as the program has them
+-- ---- the words in the program
 
 abbrev pub options_of : Options → OptionValues
 options_of o = record {
@@ -194,6 +208,8 @@ options_of o = record {
   from = option_map string_bytes o.from;
   to = option_map string_bytes o.to;
   width = option_map string_bytes o.width;
+  brief = o.brief;
+  only = option_map string_bytes o.only;
   chain = o.chain;
   broken = o.broken;
   lacks = option_map string_bytes o.lacks;
@@ -202,7 +218,7 @@ options_of o = record {
 abbrev pub choice_in : Words → Choice
 choice_in w = record { command = w.command; values = map string_bytes w.values.items; options = options_of w.options }
 
--- the path of the file that a word names; `-` is the word for the standard input, and no path
+-- the path of the file that a word names; `-` means standard input, and is no path
 abbrev pub path_in : Text → Option Text
 path_in word = if bytes_eq word (codes "-") then None else Some word
 

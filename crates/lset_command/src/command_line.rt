@@ -3,15 +3,14 @@ ghost use Rattle.clap.specs.Words.{FailsBy, app_of, fault_of, found_of, kind_of,
 ghost use Rattle.clap.specs.Walk.{first_of, texts};
 ghost use Rattle.clap.specs.declared.error.kind.ErrorKind.TheVariants.{OutOfMemory};
 ghost use Rattle.lset_command.specs.CommandLine.{choice_in, choice_of, command_named, file_app, path_of, six_values, serve_app};
-ghost use Rattle.lset_command.specs.CommandLine.{example_app, flag_rule, option_rule, run_app, show_app, trace_app};
+ghost use Rattle.lset_command.specs.CommandLine.{example_app, faults_app, flag_rule, judge_app, option_rule, run_app, show_app, trace_app};
 ghost use Rattle.lset_command.specs.CommandLine.{IsApp, Makes, MakesWithArg, MakesWithSubcommand, is_on, is_option, listset, replay_app, options_in, options_of, values_by, values_in};
 
 use clap::error::ErrorKind;
 use clap::{Arg, ArgAction, ArgMatches, Error};
 use std::alloc::{AllocError, Global};
 
-/// What `--version` prints after the program's name: its version, and in a line below it the kit and the logic that it is
-/// proved with.
+/// The text of `--version` after the program's name: the version, and in a second line the kit and the logic of the proof.
 pub const VERSION: &str = "0.1.0\nRattle kit 13, logic dac8208d650f15bf";
 
 // Helps on arguments and options.
@@ -51,21 +50,28 @@ const LIVES: &str =
 
 const NAME: &str = "Name of the schedule; without it the list of names is printed";
 
+const CAUSE: &str = "Cause in an error line, such as Idle; without it every message is explained";
+
 const BROKEN_FLAG: &str = "Print the report that a broken list would give, if the example has one";
 
-/// Helps that are made elsewhere.
+const BRIEF_FLAG: &str = "Print the verdict alone, and not what is wrong";
+
+const ONLY_OPTION: &str =
+    "Print a recording of one key alone, or of the few calls that show its refusal";
+
+/// Texts of the help that other crates provide.
 #[derive(Clone, Copy)]
 pub struct Helps<'a> {
     /// The help on the command `faults`.
     pub faults: &'a str,
-    /// The help on the option `--lacks`, with the names that it takes.
+    /// The help on the option `--lacks`, with the names of the broken lists.
     pub lacks: &'a str,
 }
 
 /// A command of the program.
 #[derive(Clone, Copy)]
 pub enum Command {
-    /// Replays a schedule. It is the command if no word is given.
+    /// Replays a schedule. This is the command if no word is given.
     Replay,
     /// Judges recorded calls.
     Judge,
@@ -75,7 +81,7 @@ pub enum Command {
     Show,
     /// Prints what each step of a schedule did.
     Trace,
-    /// Makes a schedule of a draft.
+    /// Turns a draft into a schedule.
     Draft,
     /// Prints a classic schedule.
     Example,
@@ -85,16 +91,18 @@ pub enum Command {
     Run,
     /// Serves sessions on one set.
     Serve,
-    /// Explains every error message.
+    /// Explains every error message, or those with one cause.
     Faults,
+    /// Explains the first error of a file.
+    Explain,
 }
 
-/// The flags that are on, and the values of options as they were given. Those that a command does not have are off, and
-/// `None`.
+/// The flags that are on, and the values of options as they were given. A flag that a command does not have is off, and an
+/// option that it does not have is `None`.
 #[derive(Drop)]
 pub struct Options {
-    /// The argument FILE, which is among the values too. Without it `serve` reads nothing, and the other commands that have
-    /// it read standard input.
+    /// The argument FILE, which is among the values too. Without it `serve` reads nothing, and the other commands with this
+    /// argument read standard input.
     pub file: Option<String>,
     /// `show` draws an SVG.
     pub svg: bool,
@@ -102,8 +110,12 @@ pub struct Options {
     pub from: Option<String>,
     /// The last moment that `show` draws.
     pub to: Option<String>,
-    /// How many characters the rows of `show` may have.
+    /// The maximum number of characters of a row of `show`.
     pub width: Option<String>,
+    /// `judge` prints the verdict alone.
+    pub brief: bool,
+    /// The key whose calls alone `judge` prints.
+    pub only: Option<String>,
     /// `trace` prints the chain.
     pub chain: bool,
     /// `example` prints the report of a broken list.
@@ -112,7 +124,7 @@ pub struct Options {
     pub lacks: Option<String>,
 }
 
-/// A command, with its arguments in order as they were given, its flags and its options.
+/// A command, with its arguments as they were given and in their order, its flags and its options.
 #[derive(Drop)]
 pub struct Words {
     pub command: Command,
@@ -131,7 +143,7 @@ impl Words {
     }
 }
 
-// A value that may be left out, as far as `clap` is concerned.
+// A value that `clap` lets be missing.
 fn value<'a>(alloc: Global, name: &'a str, help: &'a str) -> Arg<'a>
     ensures rule { rule_of result ≡ new_rule name.entry.now }
     ensures local { result.global ≡ false }
@@ -160,8 +172,8 @@ fn value_option<'a>(alloc: Global, name: &'a str, value_name: &'a str, help: &'a
         .help(help)
 }
 
-// The command with one more argument, if it was made. Those who add by this and the next have no `?`, on whose way out
-// they would let go what they made: that is most of what their proofs would take.
+// Returns the command with one more argument, if the command was made. The callers have no `?`: the drops on its way out
+// would take most of their proofs.
 fn and_arg<'a>(
     command: Result<clap::Command<'a>, AllocError>,
     arg: Arg<'a>,
@@ -171,7 +183,7 @@ fn and_arg<'a>(
     command?.arg(arg)
 }
 
-// The command with one more subcommand, if both were made.
+// Returns the command with one more subcommand, if both were made.
 fn and_subcommand<'a>(
     command: Result<clap::Command<'a>, AllocError>,
     subcommand: Result<clap::Command<'a>, AllocError>,
@@ -204,7 +216,7 @@ fn show_command<'a>(alloc: Global, lacks_help: &'a str) -> Result<clap::Command<
         "show",
         "Draw a schedule or a report: a bar for each call, with the point at which it takes effect",
         "Schedule or report file; standard input if - or missing",
-        "If an event of the schedule is not enabled, the picture ends before it, the last line names it, and the exit status is 1. With --lacks only that line is printed.\n\nExample: listset example read-in-anothers-step | listset show --from 9 --to 38",
+        "If an event of the schedule is not enabled, the picture ends before it, the last line names it, and the exit status is 1. With --lacks only that line is printed.\n\nExample: listset example read-in-anothers-step | listset show --from 9 --to 38\n\nAn error is one line, such as 'line 5: Idle'; listset faults Idle explains it.",
     );
     let command = and_arg(command, flag(alloc, "svg", "Draw an SVG instead of text"));
     let command = and_arg(command, value_option(alloc, "from", "M", FROM_OPTION));
@@ -221,7 +233,7 @@ fn trace_command<'a>(alloc: Global, lacks_help: &'a str) -> Result<clap::Command
         "trace",
         "Print each step of a schedule: the word accessed, the value seen, what changed",
         "Schedule file; standard input if - or missing",
-        "Example: listset example two-removers | listset trace --chain",
+        "Example: listset example two-removers | listset trace --chain\n\nAn error is one line, such as 'line 5: Idle'; listset faults Idle explains it.",
     );
     let command = and_arg(command, flag(alloc, "chain", CHAIN_FLAG));
     and_arg(command, value_option(alloc, "lacks", "NAME", lacks_help))
@@ -235,7 +247,7 @@ fn draft_command<'a>(alloc: Global) -> Result<clap::Command<'a>, AllocError>
         "draft",
         "Turn a draft into a schedule: lines that say where a thread stops become numbers of steps",
         "Draft file; standard input if - or missing",
-        "Example: listset draft a.draft | listset show",
+        "Example: listset draft a.draft | listset show\n\nAn error is one line, such as 'line 5: Idle'; listset faults Idle explains it.",
     )
 }
 
@@ -244,13 +256,15 @@ fn example_command<'a>(alloc: Global) -> Result<clap::Command<'a>, AllocError>
 {
     clap::Command::new(alloc, "example")
         .about("Print a classic schedule, or the list of their names")
-        .after_help("Example: listset example snip | listset show")
+        .after_help(
+            "Example: listset example snip | listset show\n\nAn error is one line, such as 'bad NAME'; listset example lists the names.",
+        )
         .arg(value(alloc, "NAME", NAME))?
         .arg(flag(alloc, "broken", BROKEN_FLAG))
 }
 
-// The usage is written out, since `clap` would set each value in brackets: it lets values be missing, and the
-// tool of the command names the first that is.
+// The usage is written out, since `clap` would print each value in brackets: it lets values be missing. The tool of the
+// command names the first missing value.
 fn command_with_usage<'a>(
     alloc: Global,
     name: &'a str,
@@ -293,7 +307,7 @@ fn serve_command<'a>(alloc: Global) -> Result<clap::Command<'a>, AllocError>
         "serve",
         "Serve one set to clients on 127.0.0.1, and print the remaining keys at the end",
         "listset serve KIND SEATS QUOTA PORT SESSIONS [FILE]",
-        "Example: listset serve lazy 2 16 4000 1",
+        "Example: listset serve lazy 2 16 4000 1\n\nAn error is one line, such as 'bad SEED'; its range is above.",
     );
     let command = and_arg(Ok(command), value(alloc, "KIND", KIND));
     let command = and_arg(command, value(alloc, "SEATS", SEATS));
@@ -311,7 +325,7 @@ fn gen_command<'a>(alloc: Global) -> Result<clap::Command<'a>, AllocError>
         "gen",
         "Print a random schedule of at most 10000 events; the same arguments give the same schedule",
         "listset gen KIND THREADS QUOTA CALLS KEYS SEED",
-        "Example: listset gen optimistic 3 4 9 5 1 | listset replay",
+        "Example: listset gen optimistic 3 4 9 5 1 | listset replay\n\nAn error is one line, such as 'bad SEED'; its range is above.",
         "Calls in all threads together, if 10000 events suffice: 0 to 10000",
     )
 }
@@ -324,7 +338,7 @@ fn run_command<'a>(alloc: Global) -> Result<clap::Command<'a>, AllocError>
         "run",
         "Run random calls in threads on one set, and print counts of the replies and the remaining keys",
         "listset run KIND THREADS QUOTA CALLS KEYS SEED [LIVES]",
-        "Example: listset run lock-free 4 1000 10000 64 1",
+        "Example: listset run lock-free 4 1000 10000 64 1\n\nAn error is one line, such as 'bad SEED'; its range is above.",
         "Calls in each thread: 0 to 10000",
     )?
     .arg(value(alloc, "LIVES", LIVES))
@@ -338,21 +352,23 @@ fn replay_command<'a>(alloc: Global, lacks_help: &'a str) -> Result<clap::Comman
         "replay",
         "Execute a schedule of atomic steps and print its report (the default command)",
         "Schedule file; standard input if - or missing",
-        "Example: listset example full | listset replay",
+        "Example: listset example full | listset replay\n\nAn error is one line, such as 'line 5: Idle'; listset faults Idle explains it.",
     );
     and_arg(command, value_option(alloc, "lacks", "NAME", lacks_help))
 }
 
 fn judge_command<'a>(alloc: Global) -> Result<clap::Command<'a>, AllocError>
-    ensures { Makes result (file_app (codes "judge")) }
+    ensures { Makes result judge_app }
 {
-    file_command(
+    let command = file_command(
         alloc,
         "judge",
         "Judge recorded calls of a set: ok if an order explains them and the keys left, else not linearizable",
         "File of recorded calls; standard input if - or missing",
-        "A recording is judged as it is read, and may be of any length. Of one that is not linearizable the calls that show it are printed. Exit status 0 for ok, 1 for not linearizable.\n\nExample: listset judge a.calls",
-    )
+        "A recording is judged as it is read, and may have any length. Below 'not linearizable' come the calls that show it and, for a file, what is wrong. Exit status 0 for ok, 1 for not linearizable.\n\nExample: listset judge a.calls\n\nAn error is one line, such as 'line 5: Line'; listset faults Line explains it.",
+    );
+    let command = and_arg(command, flag(alloc, "brief", BRIEF_FLAG));
+    and_arg(command, value_option(alloc, "only", "KEY", ONLY_OPTION))
 }
 
 fn check_command<'a>(alloc: Global) -> Result<clap::Command<'a>, AllocError>
@@ -363,17 +379,30 @@ fn check_command<'a>(alloc: Global) -> Result<clap::Command<'a>, AllocError>
         "check",
         "Check the order in a report: ok, or its first fault",
         "Report file; standard input if - or missing",
-        "Example: listset example full | listset replay | listset check",
+        "Example: listset example full | listset replay | listset check\n\nAn error is one line, such as 'line 5: Line'; listset faults Line explains it.",
     )
 }
 
-// Its help is what it prints.
-fn faults_command<'a>(alloc: Global, help: &'a str) -> clap::Command<'a>
-    ensures { IsApp result (new_app (codes "faults")) }
+// The help on `faults` is the text that it prints.
+fn faults_command<'a>(alloc: Global, help: &'a str) -> Result<clap::Command<'a>, AllocError>
+    ensures { Makes result faults_app }
 {
     clap::Command::new(alloc, "faults")
-        .about("Explain every error message")
+        .about("Explain every error message, or those with one cause")
         .override_help(help)
+        .arg(value(alloc, "CAUSE", CAUSE))
+}
+
+fn explain_command<'a>(alloc: Global) -> Result<clap::Command<'a>, AllocError>
+    ensures { Makes result (file_app (codes "explain")) }
+{
+    file_command(
+        alloc,
+        "explain",
+        "Explain the first error of a file: its line, what is wrong there, and what to do",
+        "File of any kind that a command reads; standard input if - or missing",
+        "Example: listset explain a.schedule",
+    )
 }
 
 fn program_command<'a>(alloc: Global, helps: Helps<'a>) -> Result<clap::Command<'a>, AllocError>
@@ -382,7 +411,7 @@ fn program_command<'a>(alloc: Global, helps: Helps<'a>) -> Result<clap::Command<
     let program = clap::Command::new(alloc, "listset")
         .about("Replay, judge, draw, run and serve concurrent list sets")
         .after_help(
-            "listset --version --long also prints the commit, and whether the program is proved.",
+            "listset --version --long also prints the commit, and whether the program is proved.\n\nAn error is one line, such as 'line 5: Idle'; listset faults Idle explains it.",
         )
         .version(VERSION)
         .no_binary_name(true)
@@ -397,20 +426,21 @@ fn program_command<'a>(alloc: Global, helps: Helps<'a>) -> Result<clap::Command<
     let program = and_subcommand(program, gen_command(alloc));
     let program = and_subcommand(program, run_command(alloc));
     let program = and_subcommand(program, serve_command(alloc));
-    and_subcommand(program, Ok(faults_command(alloc, helps.faults)))
+    let program = and_subcommand(program, faults_command(alloc, helps.faults));
+    and_subcommand(program, explain_command(alloc))
 }
 
-// Whether the name is that of a flag or of an option.
+// Returns whether a name is that of a flag or an option.
 fn is_option(name: &str) -> bool
     ensures { result ≡ is_option name.now }
 {
     matches!(
         name,
-        "svg" | "from" | "to" | "width" | "chain" | "broken" | "lacks"
+        "svg" | "from" | "to" | "width" | "brief" | "only" | "chain" | "broken" | "lacks"
     )
 }
 
-// Adds the texts that `found` has by the name, if it is that of values. There may be none.
+// Appends the texts of a name in `found`, if the name is that of values. There can be none.
 fn push_values(
     alloc: Global,
     values: &mut Vec<String>,
@@ -442,7 +472,7 @@ fn values_of(alloc: Global, found: &ArgMatches<'_>) -> Result<Vec<String>, Alloc
     Ok(values)
 }
 
-// Whether the flag of the name is on.
+// Returns whether a flag is on.
 fn is_on(found: &ArgMatches<'_>, name: &str) -> bool
     ensures { result ≡ is_on name.now (rows_of (found_of found.now)) }
 {
@@ -452,7 +482,7 @@ fn is_on(found: &ArgMatches<'_>, name: &str) -> bool
     }
 }
 
-// The text of the option of the name, if it is given.
+// Returns the value of an option. `None` if the option is not given.
 fn option_text(
     alloc: Global,
     found: &ArgMatches<'_>,
@@ -475,13 +505,15 @@ fn options_of(alloc: Global, found: &ArgMatches<'_>) -> Result<Options, AllocErr
         from: option_text(alloc, found, "from")?,
         to: option_text(alloc, found, "to")?,
         width: option_text(alloc, found, "width")?,
+        brief: is_on(found, "brief"),
+        only: option_text(alloc, found, "only")?,
         chain: is_on(found, "chain"),
         broken: is_on(found, "broken"),
         lacks: option_text(alloc, found, "lacks")?,
     })
 }
 
-// No flag and no option.
+// Returns no flag and no option.
 fn no_options() -> Options
     ensures { options_of result ≡ options_in [] }
 {
@@ -491,13 +523,15 @@ fn no_options() -> Options
         from: None,
         to: None,
         width: None,
+        brief: false,
+        only: None,
         chain: false,
         broken: false,
         lacks: None,
     }
 }
 
-// The command of a name among those that `program_command` lists.
+// Returns the command with a name that `program_command` lists.
 #[tactic(auto, unfolding(crate::specs::CommandLine::command_named))]
 fn command_named(name: &str) -> Command
     ensures { result ≡ command_named name.now }
@@ -513,21 +547,22 @@ fn command_named(name: &str) -> Command
         "run" => Command::Run,
         "serve" => Command::Serve,
         "faults" => Command::Faults,
+        "explain" => Command::Explain,
         _ => Command::Replay,
     }
 }
 
-/// Reads the command line, without the program's name, by `clap`.
+/// Parses the command line, without the program's name, with `clap`.
 ///
-/// It takes what the help shows; nothing at all means `replay` without arguments. Arguments and options are returned as they
-/// were given, and are not judged here: some or all may be missing. An argument that begins with `-` and is longer needs `--`
-/// before it. Allocates.
+/// The commands and options are those of the help. No words at all mean `replay` without arguments. Arguments and options are
+/// returned as they were given: they can be missing or wrong. An argument that begins with `-` and is longer needs `--` before
+/// it. Allocates.
 ///
 /// # Errors
 ///
 /// The error has the text for the user, and an exit code:
-/// - 0: the help or the version, which was asked for;
-/// - 2: the command line is wrong; the text says how;
+/// - 0: the user asked for the help or the version;
+/// - 2: the command line is wrong, and the text says how;
 /// - any, if `is_out_of_memory`: an allocation failed.
 pub fn words_given<'a>(
     alloc: Global,
@@ -535,7 +570,7 @@ pub fn words_given<'a>(
     helps: Helps<'a>,
 ) -> Result<Words, Error>
     ensures taken { IfOk result (λ w. choice_in w ≡ choice_of (subcommand_of listset (texts words.entry.now))) }
-    // clap's definition refuses no words that are taken, and has the kind of each error except a failed allocation
+    // clap's definition has no error for words that are accepted, and the kind of each error but a failed allocation
     ensures refused { FailsBy (fault_of listset (texts words.entry.now)) result }
 {
     let matches = program_command(alloc, helps)?.try_get_matches_from(words)?;
@@ -556,7 +591,7 @@ pub fn words_given<'a>(
     })
 }
 
-/// Whether this error of `words_given` means that an allocation failed.
+/// Returns whether an error of `words_given` means that an allocation failed.
 pub fn is_out_of_memory(error: &Error) -> bool
     ensures { IsTrue result ↔ (kind_of error.now ≡ OutOfMemory) }
 {

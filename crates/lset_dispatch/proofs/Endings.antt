@@ -6,6 +6,7 @@ use Rattle.clap.specs.declared.error.kind.ErrorKind.TheVariants as kind
 use Rattle.clap.specs.Words.{Text}
 use Rattle.lset_command.specs.CommandLine.{Choice, OptionValues, path_of}
 use Rattle.lset_command.specs.declared.command_line.Command.{Command}
+use Rattle.lset_command.specs.declared.command_line.Command.TheVariants.{Explain}
 use Rattle.lset_dispatch.specs.Asked.{Asked, asked, asked_by}
 use Rattle.lset_dispatch.specs.Dispatch.{EndsAsked, EndsOnInput, IsHelp, RequestEnds}
 use Rattle.lset_dispatch.specs.declared.request.Request.{Request}
@@ -33,6 +34,14 @@ module _ (IsFile : Option (List ℕ) → Type 0) (input output_old output_new st
       (told (asked a) r (path_of a) is
       (subst (λ file. EndsAsked (Some r) file IsFile input output_old output_new stderr_old stderr_new status) named ends))
 
+  -- of the words of `explain` nothing is said
+  pub unsaid : (a b : Choice) → a ≡ b → a.command ≡ Explain
+      → EndsOnInput b IsFile input output_old output_new stderr_old stderr_new status
+  unsaid a b same is =
+      subst (λ choice. EndsOnInput choice IsFile input output_old output_new stderr_old stderr_new status) same
+      (subst (λ k. EndsAsked (asked_by k a.values a.options) (path_of a) IsFile input output_old output_new stderr_old stderr_new status)
+      (sym is) tt)
+
 module _ (input output_old output_new stderr_old stderr_new : Option (List ℕ)) (status : ℕ) where
   -- how a request ended that is known
   pub at_request : (request known : Request) → request ≡ known
@@ -46,3 +55,8 @@ pub is_help : (k : ErrorKind) → ¬ ((k ≢ kind.DisplayHelp) × (k ≢ kind.Di
 is_help kind.DisplayHelp other = inl refl
 is_help kind.DisplayVersion other = inr refl
 is_help k other = absurd (other (λ e. cc, λ e. cc))
+
+-- what follows from what holds of the bytes of an input, if these are known
+pub if_known : (P Q : List ℕ → Type 0) (input : Option (List ℕ)) → ((bytes : List ℕ) → P bytes → Q bytes) → IfSome input P → IfSome input Q
+if_known P Q None follows holds = tt
+if_known P Q (Some bytes) follows holds = follows bytes holds

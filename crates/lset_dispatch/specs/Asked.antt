@@ -1,6 +1,6 @@
--- What the words of a command line ask for. Of the commands that are not named here nothing is said, nor of lists that lack a check:
--- they are safe, and tested.
-use Rattle.std.specs.Prelude.{List, Option, Some, None, Result, Ok, Err}
+-- The requests of command lines. Commands that are not named here, broken lists and `judge --only` have no clause: they are safe, and
+-- tested.
+use Rattle.std.specs.Prelude.{Bool, true, false, List, Option, Some, None, Result, Ok, Err}
 use Rattle.clap.specs.Words.{Text}
 use Rattle.lset_command.specs.CommandLine.{Choice, OptionValues}
 use Rattle.lset_command.specs.declared.command_line.Command.{Command}
@@ -10,16 +10,22 @@ use Rattle.tool_base.specs.declared.arguments.RandomRequest.{RandomRequest}
 use Rattle.tool_base.specs.declared.trouble.ValueName.{ValueName}
 use Rattle.tool_base.specs.Arguments.{random_request_of}
 use Rattle.lset_dispatch.specs.declared.request.Request.{Request}
-use Rattle.lset_dispatch.specs.declared.request.Request.TheVariants.{Replay, Judge, Check, Gen}
+use Rattle.lset_dispatch.specs.declared.request.Request.TheVariants.{Replay, Judge, Verdict, Check, Gen}
 
--- a request, or the first value or option that is wrong
+-- a request, or the first value or option that is missing or wrong
 abbrev pub Asked : Type 0
 Asked = Result Request ValueName
 
--- `replay`, by the list that its input names
+-- `replay`, on the list that its input names
 abbrev pub asked_replay : Option Text → Option Asked
 asked_replay None = Some (Ok (Replay None))
 asked_replay (Some name) = None
+
+-- `judge`, with the verdict alone or with what is wrong
+abbrev pub asked_judge : Option Text → Bool → Option Asked
+asked_judge None true = Some (Ok Verdict)
+asked_judge None false = Some (Ok Judge)
+asked_judge (Some key) brief = None
 
 abbrev pub asked_gen : Result RandomRequest ValueName → Asked
 asked_gen (Ok random) = Ok (Gen random)
@@ -27,16 +33,16 @@ asked_gen (Err wrong) = Err wrong
 
 abbrev pub asked_by : Command → List Text → OptionValues → Option Asked
 asked_by command.Replay values options = asked_replay options.lacks
-asked_by command.Judge values options = Some (Ok Judge)
+asked_by command.Judge values options = asked_judge options.only options.brief
 asked_by command.Check values options = Some (Ok Check)
 asked_by command.Gen values options = Some (asked_gen (random_request_of values))
 asked_by other values options = None
 
--- what is asked for, if anything is said of the command
+-- the request of a command line, for the commands with a clause
 abbrev pub asked : Choice → Option Asked
 asked choice = asked_by choice.command choice.values choice.options
 
--- a request as words ask for it
+-- a request that a command line can make
 abbrev pub IsKnown : Request → Type 0
 IsKnown (Gen random) = IsAccepted random.threads random.quota random.keys
 IsKnown request = Unit {0}

@@ -1,14 +1,15 @@
-ghost use Rattle.std.specs.Prelude.{◌≡◌, IfOk};
+ghost use Rattle.std.specs.Prelude.{◌≡◌, IfOk, IsTrue};
 ghost use Rattle.clap.specs.Words.{FailsBy, fault_of, kind_of, subcommand_of};
 ghost use Rattle.clap.specs.Walk.{texts};
 ghost use Rattle.lset_command.specs.CommandLine.{choice_in, choice_of, listset};
+ghost use Rattle.lset_command.specs.declared.command_line.Command.TheVariants.{Explain};
 ghost use Rattle.lset_dispatch.specs.Dispatch.{Declines, Runs};
 
 use crate::request::read_request;
-use crate::running::run_request;
+use crate::running::{run_on_file, run_request};
 use broken_lists::ALL;
 use clap::Error;
-use lset_command::{Helps, Words, is_out_of_memory, words_given};
+use lset_command::{Command, Helps, Words, is_out_of_memory, words_given};
 use lset_text::kind_word;
 use std::alloc::{AllocError, Global};
 use std::fs::File;
@@ -19,10 +20,11 @@ use std::sync::Wait;
 use std::thread::Threads;
 use std::time::Clock;
 use tool_base::{Answer, FAULTS, Trouble, deliver, put};
+use tool_explain::{explain_input, explain_unopened};
 
-/// Ends a run whose command line `words_given` did not take, and returns the exit status. Writes the help or the version
-/// that was asked for to `output`, status 0, or what is wrong to `stderr`, status 2. If an allocation failed, before or now,
-/// it writes the line about that to `stderr`, status 3. A help that is not written whole is a write that failed, status 1.
+/// Ends a run whose command line `words_given` refused, and returns the exit status. Writes the help or the version to `output`
+/// if the user asked for it, status 0; else what is wrong to `stderr`, status 2. If an allocation failed, writes the line about
+/// that to `stderr`, status 3. A help that is not written whole is a failed write, status 1.
 fn decline<W: Write, E: Write>(alloc: Global, error: &Error, output: &mut W, stderr: &mut E) -> u8
     ensures { Declines (kind_of error.now)
         (W.contents output.old) (W.contents output.new) (E.contents stderr.old) (E.contents stderr.new) result }
@@ -42,7 +44,7 @@ fn decline<W: Write, E: Write>(alloc: Global, error: &Error, output: &mut W, std
     }
 }
 
-/// The help on `--lacks`: the names of the broken lists, each with its list.
+/// Returns the help on `--lacks`: the names of the broken lists, each with its list.
 fn lacks_help(alloc: Global) -> Result<String, AllocError> {
     let mut help = String::from_str(alloc, "Run a broken list, with one check removed")?;
     for (number, broken) in ALL.iter().enumerate() {
@@ -53,13 +55,13 @@ fn lacks_help(alloc: Global) -> Result<String, AllocError> {
     Ok(help)
 }
 
-/// Reads the command line, without the program's name: no word at all means `replay`. The help on `faults` is what the
-/// command `faults` prints. Allocates.
+/// Parses the command line, without the program's name. No words at all mean `replay`. The help on `faults` is the text of the
+/// command `faults`. Allocates.
 ///
 /// # Errors
 ///
-/// The error has the text for the user: the help or the version, if it was asked for (`exit_code` 0), or what is wrong with
-/// the command line (`exit_code` 2). It may also mean that an allocation failed: `is_out_of_memory`.
+/// The error has the text for the user: the help or the version, if the user asked for it (`exit_code` 0), or what is wrong
+/// with the command line (`exit_code` 2). If `is_out_of_memory`, an allocation failed.
 pub fn tool_words(alloc: Global, words: &[&str]) -> Result<Words, Error>
     ensures taken { IfOk result (λ w. choice_in w ≡ choice_of (subcommand_of listset (texts words.entry.now))) }
     ensures refused { FailsBy (fault_of listset (texts words.entry.now)) result }
@@ -77,12 +79,26 @@ pub fn tool_words(alloc: Global, words: &[&str]) -> Result<Words, Error>
     }
 }
 
-/// Runs the program on its command line, without the program's name, and returns the exit status. Reads the file that is
-/// named among the files of `rt`, or `input` if none or `-` is named; writes the result to `output`, or what is wrong to
-/// `stderr`.
+/// Returns whether the command is `explain`.
+fn asks_to_explain(words: &Words) -> bool
+    ensures { IsTrue result → words.now.command ≡ Explain }
+{
+    matches!(words.command, Command::Explain)
+}
+
+/// Explains a file, or why it cannot be opened.
+fn explain_file<H: Files>(rt: &H, alloc: Global, path: &str) -> Result<Answer, Trouble> {
+    match File::open(rt, path) {
+        Ok(mut file) => explain_input(alloc, path, &mut file),
+        Err(error) => explain_unopened(alloc, path, error.kind()),
+    }
+}
+
+/// Runs the program on its command line, without the program's name, and returns the exit status. Reads the named file through
+/// `rt`, or `input` if no file or `-` is named. Writes the result to `output`, or what is wrong to `stderr`.
 ///
-/// `serve` opens with the keys of its FILE or, at `-`, of `input`, and reads nothing without one. If a word is wrong, no file
-/// is opened. Allocates. `run` and `serve` start threads on `rt` and block until they end; `serve` listens on it.
+/// `serve` opens with the keys of its FILE or, if that is `-`, of `input`; without FILE it reads nothing. If a word is wrong, no
+/// file is opened. Allocates. `run` and `serve` start threads on `rt` and block until they end; `serve` listens on `rt`.
 pub fn run_words<
     H: Files + Net<Listener = TcpListener, Stream = TcpStream> + Threads + Wait + Clock + Sync,
     R: Read,
@@ -103,8 +119,8 @@ pub fn run_words<
     let Some(path) = words.path() else {
         return run_request(rt, alloc, request, input, output, stderr);
     };
-    match File::open(rt, path) {
-        Ok(mut file) => run_request(rt, alloc, request, &mut file, output, stderr),
-        Err(_) => deliver(Err(Trouble::CannotRead), output, stderr),
+    if asks_to_explain(&words) {
+        return deliver(explain_file(rt, alloc, path), output, stderr);
     }
+    run_on_file(rt, alloc, request, path, output, stderr)
 }

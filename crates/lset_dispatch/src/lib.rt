@@ -1,8 +1,10 @@
-//! What the program does on its command line: what the words ask for, on which input it is done, and how the program ends if
-//! they are wrong. All of the program is here except the system's arguments and the bytes of its files.
+//! The program over its command line: parses the words, runs the command on its input, and reports words that are wrong. Only
+//! the system's arguments and the bytes of files are outside.
 #![tactic(auto)]
 
 mod dispatching;
+mod explaining;
+mod one_key;
 mod request;
 mod running;
 

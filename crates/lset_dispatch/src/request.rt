@@ -1,21 +1,26 @@
 ghost use Rattle.std.specs.Prelude.{◌≡◌, IfOk, IfSome, option_map, string_bytes};
 ghost use Rattle.lset_command.specs.CommandLine.{choice_in};
-ghost use Rattle.lset_dispatch.specs.Asked.{IsKnown, asked, asked_replay};
+ghost use Rattle.lset_dispatch.specs.Asked.{IsKnown, asked, asked_judge, asked_replay};
 
 use broken_lists::{BrokenList, named};
 use lset_command::{Command, Options, Words};
+use lset_text::number;
 use tool_base::{
-    LivesRequest, RandomRequest, ServeRequest, ValueName, read_lives_request, read_random_request,
-    read_serve_request,
+    FaultName, LivesRequest, RandomRequest, ServeRequest, ValueName, read_fault_name,
+    read_lives_request, read_random_request, read_serve_request,
 };
 use tool_replay::{ExampleRequest, Trace, read_example_request};
 use tool_show::{Show, read_show};
 
-/// What a command line asks for, whatever the file is that the command reads.
+/// The request of a command line, without the file that the command reads.
 #[derive(Clone, Copy)]
 pub(crate) enum Request {
     Replay(Option<BrokenList>),
     Judge,
+    /// The verdict of `judge` alone.
+    Verdict,
+    /// The recording of one key.
+    OneKey(u32),
     Check,
     Show(Show),
     Trace(Trace),
@@ -23,14 +28,18 @@ pub(crate) enum Request {
     Example(ExampleRequest),
     Gen(RandomRequest),
     Run(LivesRequest),
-    /// On a set that opens empty.
+    /// A set that opens empty.
     Serve(ServeRequest),
-    /// On a set that opens with the keys of the input.
+    /// A set that opens with the keys of the input.
     ServeKeys(ServeRequest),
+    /// All error messages.
     Faults,
+    Fault(FaultName),
+    /// An explanation of the standard input.
+    Explain,
 }
 
-/// The broken list that the option `--lacks` names, if it is given.
+/// Returns the broken list that the option `--lacks` names. `None` if the option is not given.
 fn find_broken(lacks: &Option<String>) -> Result<Option<BrokenList>, ValueName> {
     match lacks {
         None => Ok(None),
@@ -38,6 +47,7 @@ fn find_broken(lacks: &Option<String>) -> Result<Option<BrokenList>, ValueName> 
     }
 }
 
+/// Reads the request of `replay`.
 fn read_replay(lacks: &Option<String>) -> Result<Request, ValueName>
     ensures asked { IfSome (asked_replay (option_map string_bytes lacks.now)) (λ r. result ≡ r) }
     ensures known { IfOk result IsKnown }
@@ -48,6 +58,24 @@ fn read_replay(lacks: &Option<String>) -> Result<Request, ValueName>
     }
 }
 
+/// Reads a key.
+fn read_key(text: &str) -> Result<u32, ValueName> {
+    number(text.as_bytes(), 0, u32::MAX).ok_or(ValueName::Key)
+}
+
+/// Reads the request of `judge`.
+fn read_judge(brief: bool, only: &Option<String>) -> Result<Request, ValueName>
+    ensures asked { IfSome (asked_judge (option_map string_bytes only.now) brief) (λ r. result ≡ r) }
+    ensures known { IfOk result IsKnown }
+{
+    match only {
+        None if brief => Ok(Request::Verdict),
+        None => Ok(Request::Judge),
+        Some(key) => Ok(Request::OneKey(read_key(key)?)),
+    }
+}
+
+/// Reads the request of `show`.
 fn read_show_request(options: &Options) -> Result<Request, ValueName>
     ensures { IfOk result IsKnown }
 {
@@ -62,6 +90,7 @@ fn read_show_request(options: &Options) -> Result<Request, ValueName>
     Ok(Request::Show(Show { lacks, ..show }))
 }
 
+/// Reads the request of `example`.
 fn read_example(words: &Words) -> Result<Request, ValueName>
     ensures { IfOk result IsKnown }
 {
@@ -70,6 +99,7 @@ fn read_example(words: &Words) -> Result<Request, ValueName>
     Ok(Request::Example(example))
 }
 
+/// Reads the request of `serve`.
 fn read_serve(words: &Words) -> Result<Request, ValueName>
     ensures { IfOk result IsKnown }
 {
@@ -80,8 +110,17 @@ fn read_serve(words: &Words) -> Result<Request, ValueName>
     }
 }
 
-/// Reads what the words ask for: numbers are read, and names are found. The error is the first value or option that is
-/// missing or wrong.
+/// Reads the request of `faults`.
+fn read_faults(words: &Words) -> Result<Request, ValueName>
+    ensures { IfOk result IsKnown }
+{
+    match words.values.first() {
+        Some(name) => Ok(Request::Fault(read_fault_name(name.as_bytes())?)),
+        None => Ok(Request::Faults),
+    }
+}
+
+/// Reads the request of a command line. The error is the first value or option that is missing or wrong.
 pub(crate) fn read_request(words: &Words) -> Result<Request, ValueName>
     ensures asked { IfSome (asked (choice_in words.now)) (λ r. result ≡ r) }
     ensures known { IfOk result IsKnown }
@@ -89,7 +128,7 @@ pub(crate) fn read_request(words: &Words) -> Result<Request, ValueName>
     let options = &words.options;
     match words.command {
         Command::Replay => read_replay(&options.lacks),
-        Command::Judge => Ok(Request::Judge),
+        Command::Judge => read_judge(options.brief, &options.only),
         Command::Check => Ok(Request::Check),
         Command::Show => read_show_request(options),
         Command::Trace => Ok(Request::Trace(Trace {
@@ -101,6 +140,7 @@ pub(crate) fn read_request(words: &Words) -> Result<Request, ValueName>
         Command::Gen => Ok(Request::Gen(read_random_request(&words.values)?)),
         Command::Run => Ok(Request::Run(read_lives_request(&words.values)?)),
         Command::Serve => read_serve(words),
-        Command::Faults => Ok(Request::Faults),
+        Command::Faults => read_faults(words),
+        Command::Explain => Ok(Request::Explain),
     }
 }

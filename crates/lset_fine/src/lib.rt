@@ -13,20 +13,20 @@ use lset_steps::rows::{
 use lset_steps::{Action, Fed, Local, Machine};
 use lset_words::{Call, HEAD, Key, Kind, Reply};
 
-/// The list with a lock in each node: a walk locks a node before it releases the one behind it (Herlihy and Shavit's
+/// The list with a lock in each node. A walk locks the next node before it releases the current one (Herlihy and Shavit's
 /// fine-grained list).
 #[derive(Clone, Copy)]
 pub struct FineList;
 
-/// The rows to which a call goes on from its decision.
+/// The rows at which a call continues after its decision.
 const TARGETS: Targets = Targets {
     adds: 7,
     removes: 10,
     leaves: 12,
 };
 
-/// Returns the next step of a thread with a pending call, by its row of the table. Its numbers must be small, as those of
-/// every run are.
+/// Returns the next step of a thread with a pending call, by its row of the table. Its numbers must be small; they are in every
+/// run.
 #[inline(always)]
 pub fn next_action(local: &Local) -> Action
     requires { IsSmall local.now }
@@ -47,7 +47,8 @@ pub fn next_action(local: &Local) -> Action
     }
 }
 
-/// Walks on if the key word is below that of the call, else decides.
+/// Returns the thread's state after it reads a key word: the walk continues if the word is below the call's key, else the call
+/// decides.
 #[inline(always)]
 fn at_key(local: &Local, seen: u64) -> Local
     ensures { result ≡ at_key seen local.now }
@@ -113,7 +114,7 @@ fn local_after(local: &Local, seen: u64) -> Local
     }
 }
 
-/// Returns the thread's state after its next step, in which it saw `seen`, and the reply if the step ends the call.
+/// Returns the thread's state after its next step, which saw `seen`, and the reply if the step ends the call.
 #[inline(always)]
 pub fn fed_by(local: &Local, seen: u64) -> Fed
     requires { IsSmall local.now }
@@ -126,7 +127,7 @@ pub fn fed_by(local: &Local, seen: u64) -> Fed
     }
 }
 
-/// Returns the key that the thread's next step adds (`true`) or removes (`false`); `None` if it does not change the set.
+/// Returns the key that the thread's next step adds (`true`) or removes (`false`); `None` if the step does not change the set.
 #[inline(always)]
 pub fn effect_of(local: &Local, _seen: u64) -> Option<(Key, bool)>
     ensures { result ≡ effect_of local.now _seen }

@@ -1,4 +1,5 @@
--- LazyList: the rows of its table (Heller and others' lazy list, as Herlihy and Shavit describe it, with the mark in the link word).
+-- LazyList: the rows of its table (Heller and others' lazy list, as Herlihy and Shavit describe it, with the mark in the link
+-- word).
 use Rattle.std.specs.Prelude.{ℕ, ◌+◌, ◌*◌, ◌/◌, ◌%◌, Bool, true, false, if◌then◌else◌, Option, Some, None, ◌==◌, nat_lt}
 use Rattle.lset_words.specs.declared.Key.{Key}
 use Rattle.lset_words.specs.declared.Reply.{Reply}
@@ -13,7 +14,7 @@ use Rattle.lset_steps.specs.Steps.{Table}
 use Rattle.lset_steps.specs.Rows.{own_slot, decided_on}
 use Rattle.lset_steps.specs.ReadRows.{begun_reading, read_action, read_fed, continued, leaves_with}
 
--- the rows to which a call goes on from its decision
+-- The rows at which a call continues after its decision.
 abbrev pub targets : Targets
 targets = record { adds = 8; removes = 11; leaves = 13 }
 
@@ -35,22 +36,22 @@ next_action l =
     else if l.pc == 14 then Store (lock_index l.pred) 0
     else read_action l
 
--- where the walk sees the key word of curr
+-- The row after the key word of curr: the walk continues while the word is below the call's key; then the call takes the locks.
 abbrev pub at_key : ℕ → Local → Local
 at_key seen l = if nat_lt seen (target l.call) then record l { pc = 3; ckey = seen } else record l { pc = 4; ckey = seen }
 
--- both nodes are given up, and the walk starts again
+-- The row after a failed validation: both locks are released, and there is no reply.
 abbrev pub gives_up : Local → Local
 gives_up l = record l { pc = 13; reply = None }
 
--- the link of pred, and then that of curr, under both locks
+-- The row after the link of pred; and below, after that of curr. Both nodes are locked.
 abbrev pub at_pred : ℕ → Local → Local
 at_pred seen l = if seen == 2 * l.curr then record l { pc = 7 } else gives_up l
 
 abbrev pub at_curr : ℕ → Local → Local
 at_curr seen l = if seen % 2 == 0 then decided_on targets l.ckey (record l { succ = seen / 2 }) else gives_up l
 
--- with the last lock released: the reply, or the walk again
+-- The step that releases the last lock: the call ends with its reply, or starts again without one.
 abbrev pub released : Option Reply → Local → Fed
 released None l = continued (record l { pc = 1 })
 released (Some r) l = leaves_with r l

@@ -1,4 +1,4 @@
--- The table of LazyList row by row, in words that all lists share.
+-- The table of LazyList row by row, in terms that all lists share.
 use Rattle.std.specs.Prelude.{ℕ, ◌+◌, ◌*◌, ◌/◌, ◌%◌, true, false, if◌then◌else◌, Option, Some, None, ◌==◌, nat_lt}
 use Rattle.lset_words.specs.declared.Call.{Call}
 use Rattle.lset_words.specs.declared.Call.TheVariants.{Add, Remove, Contains, Ceiling}
@@ -13,16 +13,16 @@ use Rattle.lset_steps.specs.Rows.{own_slot, goes_to, ceiling_at}
 use Rattle.lset_steps.specs.ReadRows.{continued, leaves_with}
 use Rattle.lset_steps.specs.RowLaws.{Does, HasReading, nothing}
 
--- on to another row
+-- Continues at another row.
 abbrev pub on_to : ℕ → Local → Fed
 on_to pc l = continued (record l { pc = pc })
 
--- to row 13, which releases the locks: with a reply, or to walk again
+-- Continues at row 13, which releases the locks: with a reply, or with None to walk again.
 abbrev pub leaves : Option Reply → Local → Fed
 leaves r l = continued (goes_to 13 r l)
 
--- what a call does with both nodes locked and `curr` unmarked, by whether `curr` has its key: an `add` continues at row 8, a
--- `remove` at row 11, or it leaves with its reply
+-- The decision of a call with both nodes locked and `curr` unmarked. Depending on whether `curr` has its key, an `add` continues
+-- at row 8, a `remove` at row 11, or the call leaves with a reply.
 abbrev pub decides : Call → Local → Fed
 decides (Add k) l =
     if l.ckey == target (Add k) then leaves (Some False) l
@@ -32,7 +32,7 @@ decides (Remove k) l = if l.ckey == target (Remove k) then continued (goes_to 11
 decides (Contains k) l = if l.ckey == target (Contains k) then leaves (Some True) l else leaves (Some False) l
 decides (Ceiling k) l = leaves (Some (ceiling_at l.ckey)) l
 
--- at the end of an attempt the call answers, or walks again
+-- At the end of an attempt the call ends with its reply, or walks again without one.
 abbrev pub answers_or_walks : Option Reply → Local → Fed
 answers_or_walks None l = on_to 1 l
 answers_or_walks (Some r) l = leaves_with r l
@@ -41,7 +41,7 @@ pub record LazyRows (T : Table) : Type 0 where
   pub reading : HasReading T
   -- A walk starts at the link of the head.
   pub row_1 : Does T 1 (λ l. Load (link_index 0)) (λ l seen. continued (record l { pc = 2; pred = 0; curr = seen / 2 })) nothing
-  -- It looks at the key of `curr`, and stops at the first that is not below its own.
+  -- It loads the key of `curr`, and stops at the first key that is not below its own.
   pub row_2 : Does T 2 (λ l. Load (key_index l.curr))
       (λ l seen. if nat_lt seen (target l.call) then continued (record l { pc = 3; ckey = seen })
       else continued (record l { pc = 4; ckey = seen }))
@@ -49,30 +49,30 @@ pub record LazyRows (T : Table) : Type 0 where
   pub row_3 : Does T 3 (λ l. Load (link_index l.curr))
       (λ l seen. continued (record l { pc = 2; pred = l.curr; curr = seen / 2 }))
       nothing
-  -- It tries the locks of both nodes, each until it has it.
+  -- It attempts to take the lock of each of the two nodes, until it has both.
   pub row_4 : Does T 4 (λ l. Exchange (lock_index l.pred) 0 (l.thread + 1))
       (λ l seen. if seen == 0 then on_to 5 l else on_to 4 l)
       nothing
   pub row_5 : Does T 5 (λ l. Exchange (lock_index l.curr) 0 (l.thread + 1))
       (λ l seen. if seen == 0 then on_to 6 l else on_to 5 l)
       nothing
-  -- It asks whether `pred` leads to `curr` and has no mark,
+  -- It checks that the link of `pred` leads to `curr` and has no mark,
   pub row_6 : Does T 6 (λ l. Load (link_index l.pred)) (λ l seen. if seen == 2 * l.curr then on_to 7 l else leaves None l) nothing
-  -- and whether `curr` has a mark: it decides, or gives both locks back and walks again.
+  -- and that `curr` has no mark. Then it decides; else it releases both locks and walks again.
   pub row_7 : Does T 7 (λ l. Load (link_index l.curr))
       (λ l seen. if seen % 2 == 0 then decides l.call (record l { succ = seen / 2 }) else leaves None l)
       nothing
-  -- An `add` writes the key and the link of its slot, and puts it in behind `pred`, which is its change.
+  -- An `add` writes the key and the link of its slot, and links it in after `pred`, which is its change.
   pub row_8 : Does T 8 (λ l. Store (key_index (own_slot l)) (target l.call)) (λ l seen. on_to 9 l) nothing
   pub row_9 : Does T 9 (λ l. Store (link_index (own_slot l)) (2 * l.curr)) (λ l seen. on_to 10 l) nothing
   pub row_10 : Does T 10 (λ l. Store (link_index l.pred) (2 * own_slot l))
       (λ l seen. leaves (Some True) (record l { used = l.used + 1 }))
       (λ l seen. Some (key_of l.call, true))
-  -- A `remove` marks `curr`, which is its change, and takes it out.
+  -- A `remove` marks `curr`, which is its change, and unlinks it.
   pub row_11 : Does T 11 (λ l. Store (link_index l.curr) (2 * l.succ + 1))
       (λ l seen. on_to 12 l)
       (λ l seen. Some (key_of l.call, false))
   pub row_12 : Does T 12 (λ l. Store (link_index l.pred) (2 * l.succ)) (λ l seen. leaves (Some True) l) nothing
-  -- Both locks are given back.
+  -- Both locks are released.
   pub row_13 : Does T 13 (λ l. Store (lock_index l.curr) 0) (λ l seen. on_to 14 l) nothing
   pub row_14 : Does T 14 (λ l. Store (lock_index l.pred) 0) (λ l seen. answers_or_walks l.reply l) nothing

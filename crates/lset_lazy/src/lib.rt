@@ -1,5 +1,5 @@
-//! LazyList: a node is marked before it is unlinked, so that a `contains` needs no lock (Herlihy and Shavit's lazy list,
-//! after Heller and others).
+//! LazyList: nodes are marked before they are unlinked, and a `contains` needs no lock (Herlihy and Shavit's lazy list, after
+//! Heller and others).
 #![tactic(auto)]
 
 ghost use Rattle.std.specs.Prelude.{◌≡◌, ◌/◌, Some};
@@ -16,20 +16,20 @@ use lset_steps::rows::{Targets, decide, key_index, link_index, lock_index, own_s
 use lset_steps::{Action, Fed, Local, Machine, OpenReads};
 use lset_words::{Call, HEAD, Key, Kind, Reply};
 
-/// The list whose walks take no lock: a call that changes it locks the two nodes at which its walk ended, and walks again if
-/// they have changed (Herlihy and Shavit's lazy list).
+/// The list whose walks take no lock. A call that changes the list locks the two nodes at which its walk ended, and walks again
+/// if they have changed (Herlihy and Shavit's lazy list).
 #[derive(Clone, Copy)]
 pub struct LazyList;
 
-/// The rows to which a call goes on from its decision.
+/// The rows at which a call continues after its decision.
 const TARGETS: Targets = Targets {
     adds: 8,
     removes: 11,
     leaves: 13,
 };
 
-/// Returns the next step of a thread with a pending call, by its row of the table. Its numbers must be small, as those of
-/// every run are.
+/// Returns the next step of a thread with a pending call, by its row of the table. Its numbers must be small; they are in every
+/// run.
 #[inline(always)]
 pub fn next_action(local: &Local) -> Action
     requires { IsSmall local.now }
@@ -53,7 +53,7 @@ pub fn next_action(local: &Local) -> Action
     }
 }
 
-/// The walk comes from the node `pred` to the node behind it, whose key is looked at next.
+/// Returns the thread's state after the walk moves on from `pred` to its next node, whose key is loaded next.
 #[inline(always)]
 fn walked_from(pred: u64, local: &Local, seen: u64) -> Local
     ensures { result ≡ record local.now { pc = 2; pred = pred; curr = seen / 2 } }
@@ -66,7 +66,8 @@ fn walked_from(pred: u64, local: &Local, seen: u64) -> Local
     }
 }
 
-/// Walks on if the key word is below that of the call, else locks both nodes.
+/// Returns the thread's state after it reads a key word: the walk continues if the word is below the call's key, else the call
+/// takes the locks.
 #[inline(always)]
 fn at_key(local: &Local, seen: u64) -> Local
     ensures { result ≡ at_key seen local.now }
@@ -79,7 +80,7 @@ fn at_key(local: &Local, seen: u64) -> Local
     }
 }
 
-/// Both nodes are given up, and the walk starts again.
+/// Returns the thread's state after a failed validation: it releases both locks and has no reply.
 #[inline(always)]
 fn gives_up(local: &Local) -> Local
     ensures { result ≡ gives_up local.now }
@@ -91,7 +92,8 @@ fn gives_up(local: &Local) -> Local
     }
 }
 
-/// The link of `pred` leads to `curr`, and has no mark.
+/// Returns the thread's state after it reads the link of `pred`: validation fails unless the link leads to `curr` and has no
+/// mark.
 #[inline(always)]
 fn at_pred(local: &Local, seen: u64) -> Local
     requires { IsSmall local.now }
@@ -104,7 +106,7 @@ fn at_pred(local: &Local, seen: u64) -> Local
     }
 }
 
-/// Decides if `curr` has no mark.
+/// Returns the thread's state after it reads the link of `curr`: the call decides if `curr` is not marked, else validation fails.
 #[inline(always)]
 fn at_curr(local: &Local, seen: u64) -> Local
     ensures { result ≡ at_curr seen local.now }
@@ -120,7 +122,7 @@ fn at_curr(local: &Local, seen: u64) -> Local
     }
 }
 
-/// The call has done its work: it releases its locks and answers True.
+/// Returns the thread's state after its change: it releases the locks and replies `True`.
 #[inline(always)]
 fn succeeds(local: Local) -> Local
     ensures { result ≡ record local { pc = 13; reply = Some True } }
@@ -132,7 +134,7 @@ fn succeeds(local: Local) -> Local
     }
 }
 
-/// With the last lock released the call answers, or walks again.
+/// Returns the step that releases the last lock: the call ends with its reply, or starts again without one.
 #[inline(always)]
 fn released(local: &Local) -> Fed
     ensures { result ≡ released local.now.reply local.now }
@@ -143,7 +145,7 @@ fn released(local: &Local) -> Fed
     }
 }
 
-/// Returns the thread's state after its next step, in which it saw `seen`, and the reply if the step ends the call.
+/// Returns the thread's state after its next step, which saw `seen`, and the reply if the step ends the call.
 #[inline(always)]
 pub fn fed_by(local: &Local, seen: u64) -> Fed
     requires { IsSmall local.now }
@@ -174,7 +176,7 @@ pub fn fed_by(local: &Local, seen: u64) -> Fed
     continued(next)
 }
 
-/// Returns the key that the thread's next step adds (`true`) or removes (`false`); `None` if it does not change the set.
+/// Returns the key that the thread's next step adds (`true`) or removes (`false`); `None` if the step does not change the set.
 #[inline(always)]
 pub fn effect_of(local: &Local, _seen: u64) -> Option<(Key, bool)>
     ensures { result ≡ effect_of local.now _seen }

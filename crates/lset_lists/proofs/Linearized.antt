@@ -1,4 +1,4 @@
--- Every run that has an account, and whose contents are listed, is explained by its placement, of which there is one.
+-- A run that has an account and listed contents is explained by its placement, which is unique.
 use Rattle.std.proofs.Common.{ℕ, List, sym, subst, arith}
 use Rattle.lset_words.specs.declared.history.Placed.{Placed}
 use Rattle.lset_words.specs.Words.{Opening}
@@ -36,7 +36,7 @@ module _ (T : Table) (op : Opening) (last : ℕ) (es : ℕ → Event)
   the_placement : (order : List Placed) → IsPlacedBy T op es last order → IsThePlacement T op es last order
   the_placement order placed = record {
     placement = placed;
-    alone = λ other o. placement_once op.quota last (calls_at (log_of T op es) last)
+    alone = λ other o. placement_once op.quota (calls_at (log_of T op es) last)
         (contents_of (views T op es)) (counts_of (views T op es)) other order o placed;
   }
 

@@ -4,7 +4,7 @@ use Rattle.lset_words.specs.declared.history.CallRecord.{CallRecord}
 use Rattle.lset_words.specs.declared.history.Placed.{Placed}
 use Rattle.lset_words.specs.Words.{Opening}
 use Rattle.lset_words.specs.Log.{calls_at, history_at}
-use Rattle.lset_words.specs.Placement.{IsPlacement}
+use Rattle.lset_history.specs.Placement.{IsPlacement}
 use Rattle.lset_words.specs.History.{IsHistory, Linearizes, answered}
 use Rattle.lset_words.specs.SequentialSet.{opening_set, set_left}
 use Rattle.lset_steps.specs.declared.Event.{Event}
@@ -13,17 +13,17 @@ use Rattle.lset_steps.specs.Chain.{contents_of, counts_of}
 use Rattle.lset_steps.specs.Laws.{views}
 use Rattle.lset_steps.specs.Worlds.{IsContent}
 
--- the keys that an order of the calls of a history leaves, from the opening set
+-- The keys after the calls of an order, made from the opening set
 abbrev pub keys_left : Opening → List CallRecord → List Placed → List ℕ
 keys_left op history order = (set_left (opening_set op) (map (answered history) order)).keys
 
--- the history of the first k events of a run
+-- The history of the first k events of a run
 abbrev pub history_of : Table → Opening → (ℕ → Event) → ℕ → List CallRecord
 history_of T op es k = history_at (log_of T op es) k
 
 -- ONE ORDER OF CALLS explains the first `last` events of a run:
 pub record ExplainsRun (T : Table) (op : Opening) (es : ℕ → Event) (last : ℕ) (order : List Placed) : Type 0 where
-  -- what the run shows is a history,
+  -- the calls of the run are a history,
   pub history : IsHistory op.threads (history_of T op es last)
   -- the order linearizes it from the opening set,
   pub linearizes : Linearizes op.quota (opening_set op) (history_of T op es last) order
@@ -35,17 +35,17 @@ abbrev pub RunsAreLinearizable : Table → Type 0
 RunsAreLinearizable T = (op : Opening) (last : ℕ) (es : ℕ → Event) → Run T op es last
     → (order : List Placed) × ExplainsRun T op es last order
 
--- the order is a [Placement], by the contents of the worlds of the run and its threads' counts of successful adds
+-- The order is the [Placement] of the run, from the contents of its worlds and its threads' counts of successful adds.
 abbrev pub IsPlacedBy : Table → Opening → (ℕ → Event) → ℕ → List Placed → Type 0
-IsPlacedBy T op es k order = IsPlacement op.quota k (calls_at (log_of T op es) k)
+IsPlacedBy T op es k order = IsPlacement op.quota (calls_at (log_of T op es) k)
     (contents_of (views T op es)) (counts_of (views T op es)) order
 
--- [The placement of a run]: the order is a placement of its first `last` events, and no other order is
+-- [The placement of a run]: the order is a placement of its first `last` events, and no other order is.
 pub record IsThePlacement (T : Table) (op : Opening) (es : ℕ → Event) (last : ℕ) (order : List Placed) : Type 0 where
   pub placement : IsPlacedBy T op es last order
   pub alone : (other : List Placed) → IsPlacedBy T op es last other → other ≡ order
 
--- THE SAME, AND WHICH ORDER: every run has an order that explains it and is its placement.
+-- THE HEADLINE WITH PLACEMENT: every run has an order that explains it and is its placement.
 abbrev pub PlacementExplainsRuns : Table → Type 0
 PlacementExplainsRuns T = (op : Opening) (last : ℕ) (es : ℕ → Event) → Run T op es last
     → (order : List Placed) × ExplainsRun T op es last order × IsThePlacement T op es last order

@@ -1,5 +1,5 @@
-//! The five lists in one place: which machine belongs to which kind. What is done on the list of a kind that is known
-//! only as the program runs is a `Task`, and goes through `on_list`. And the theorem of every machine: its runs are linearizable.
+//! The five lists: the machine of each kind, and the theorem that the runs of every machine are linearizable. `on_list` runs a
+//! `Task` on the list of a kind that is known only when the program runs.
 #![tactic(auto)]
 
 mod theorem;
@@ -20,7 +20,7 @@ pub use theorem::{placement_explains_runs, runs_are_linearizable};
 
 /// One of the five lists: a machine, with the table of its kind.
 pub trait List: Machine {
-    /// Lemma: the list's table is that of its kind.
+    /// Lemma: the list's table is the table of its kind.
     fn has_the_table_of_its_kind()
         ensures { table_of Self.KIND ≡ Self.table };
 }
@@ -45,23 +45,23 @@ impl List for LockFreeList {
     fn has_the_table_of_its_kind() {}
 }
 
-/// Something that can be done on any of the five lists: the argument of `on_list`.
+/// A task for any of the five lists: the argument of `on_list`.
 pub trait Task {
     type Out;
 
-    /// When it can be done on the list of a kind.
+    /// The precondition of the task, for the list of a kind.
     ghost may: { Self → Kind → Type 0 };
 
-    /// What is done on a machine with this table.
+    /// The postcondition of the task, for a machine with this table.
     ghost done: { Self → Table → Self.Out → Type 0 };
 
-    /// Does it on the list `M`.
+    /// Runs the task on the list `M`.
     fn run<M: List>(self) -> Self::Out
         requires { may self M.KIND }
         ensures { done self M.table result };
 }
 
-/// Does a task on the list of the kind `kind`, and returns its result.
+/// Runs a task on the list of the kind `kind` and returns its result.
 pub fn on_list<T: Task + Drop>(kind: Kind, task: T) -> T::Out
     requires { T.may task kind }
     ensures { T.done task (table_of kind) result }

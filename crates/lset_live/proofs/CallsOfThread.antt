@@ -1,4 +1,4 @@
--- The calls of one thread in the history of a run are those that the thread is at.
+-- The calls of one thread in the history of a run are the completed calls and the pending call of the thread.
 use Rattle.std.proofs.Common.{◌≡◌, ◌≢◌, ⊎_elim, ℕ, zero, suc, ◌<◌, ◌≤◌, ◌==◌, Bool, true, false, cond, List, [], ◌∷◌, ◌++◌, map}
 use Rattle.std.proofs.Common.{Option, Some, None, refl, sym, ap, ◌∙◌, arith, append-nil, if◌then◌else◌}
 use Rattle.std.specs.Prelude.{filter, ◌&&◌, is_none}
@@ -9,7 +9,7 @@ use Rattle.lset_words.specs.declared.history.CallRecord.{CallRecord}
 use Rattle.lset_words.specs.Log.{Log, Entry, Change, TracedCall, is_under_way, traced_on, ended_by, calls_after, calls_at}
 use Rattle.lset_words.specs.Log.{record_of, history_at}
 use Rattle.lset_words.specs.Log.Entry.{began, stepped}
-use Rattle.lset_history.proofs.CallSteps.{way_of}
+use Rattle.lset_history.proofs.Calls.{way_of}
 use Rattle.lset_rule.specs.declared.view.OwnCall.{OwnCall}
 use Rattle.lset_rule.specs.declared.view.PendingCall.{PendingCall}
 use Rattle.lset_rule.specs.Runs.{under_next, done_next, under_at, done_at, under_after, ending}
@@ -24,7 +24,7 @@ abbrev pub open_records : ℕ → Option PendingCall → List CallRecord
 open_records u None = []
 open_records u (Some o) = record { thread = u; call = o.call; begun = o.begun; ended = None } ∷ []
 
--- the calls of a thread, by its ended calls and the one under way
+-- The calls of a thread, from its completed calls and its pending call
 abbrev pub thread_records : ℕ → List OwnCall → Option PendingCall → List CallRecord
 thread_records u done under_way = map (ended_record u) done ++ open_records u under_way
 
@@ -88,7 +88,7 @@ module _ (m : ℕ) (ch : Option Change) (a : Option Reply) where
   ends_done u [] = refl
   ends_done u (c ∷ cs) = ap (λ l. ended_record u c ∷ l) (ends_done u cs)
 
--- the open call where the thread makes a step
+-- The pending call when the thread makes a step
 open_step : (m u : ℕ) (ch : Option Change) (a : Option Reply) (done : List OwnCall) (o : Option PendingCall)
     → map (ends m ch a) (thread_records u done o) ≡ thread_records u (done ++ ending a o m) (under_after a o)
 open_step m u ch a done o = map-append (ends m ch a) (map (ended_record u) done) (open_records u o)
@@ -102,7 +102,7 @@ open_step m u ch a done o = map-append (ends m ch a) (map (ended_record u) done)
     last None (Some x) = ap (λ l. map (ended_record u) l ++ open_records u (Some x)) (sym (append-nil done))
     last None None = ap (λ l. map (ended_record u) l ++ []) (sym (append-nil done))
 
--- one entry: a call begins only where the thread has none under way
+-- One entry: a call begins only if the thread has no pending call.
 abbrev pub MayBegin : Entry → ℕ → Option PendingCall → Type 0
 MayBegin (began t c) u o = t ≡ u → o ≡ None
 MayBegin (stepped t ch a) u o = Unit {0}
@@ -135,7 +135,7 @@ thread_next m (stepped t ch a) u xs done o may h = ⊎_elim
     ∙ (λ i. thread_records u (if sym no i then done ++ ending a o m else done) (if sym no i then under_after a o else o))))
     (same_or_not t u)
 
--- the calls of a thread in the history
+-- The calls of a thread in the history
 pub thread_calls : (log : Log) (u last : ℕ) → ((k : ℕ) → k < last → MayBegin (log k) u (under_at log u k)) → (k : ℕ) → k ≤ last
     → of_thread u (history_at log k) ≡ thread_records u (done_at log u k) (under_at log u k)
 thread_calls log u last may zero l = refl

@@ -1,4 +1,4 @@
--- What the seat with all threads knows of the last words.
+-- The facts of the last words, for a seat with all threads.
 use Rattle.std.proofs.Common.{◌≡◌, inl, ℕ, zero, suc, ◌+◌, ◌/◌, ◌<◌, false, List, [], ◌∷◌, map, length, None, refl, sym, ap, ◌∙◌}
 use Rattle.std.proofs.Common.{subst, arith}
 use mathlib.Core.Option.{some, some-injective, some-ne-none}
@@ -32,10 +32,10 @@ use Rattle.lset_live.specs.Closes.{LastWords, HasKeys, HasLaws, IsLast}
 use Rattle.lset_live.proofs.Dated.{in_named, said_by}
 use Rattle.lset_live.proofs.OrderKeepsRecord.{calls_by_is}
 use Rattle.lset_live.proofs.PastCalls.{none_in}
-use Rattle.lset_live.proofs.SeenExplained.{own, order, explains, part, turns, kept}
+use Rattle.lset_live.proofs.SeenExplained.{own, order, explains, turns, kept}
 
 -- THE KEYS OF SOME WORDS
--- chain and keys are read of keys and links alone
+-- Chain and keys depend on the key words and the link words alone.
 module _ (sz : Sizes) (ws : List ℕ) (used other : ℕ → ℕ) where
   same_segment : (i : ℕ) (ns : List ℕ) (j : ℕ) → Segment (view sz ws used) i ns j → Segment (view sz ws other) i ns j
   same_segment i [] j s = s
@@ -49,7 +49,7 @@ module _ (sz : Sizes) (ws : List ℕ) (used other : ℕ → ℕ) where
   pub same_content : (keys : List ℕ) → IsContent (view sz ws used) keys → IsContent (view sz ws other) keys
   same_content keys c = ((c.0.0, same_segment 0 c.0.0 1 c.0.1, c.0.2 ∙ same_keys c.0.0), c.1)
 
--- and there is one chain
+-- The chain is unique.
 one_segment : (v : ChainView) (i : ℕ) (ns ms : List ℕ) → Segment v i ns 1 → Segment v i ms 1 → ns ≡ ms
 one_segment v i [] [] s t = refl
 one_segment v i [] (m ∷ ms) s t = absurd (t.1 s)
@@ -68,11 +68,11 @@ module _ (T : Table) (law : Lawful T) (v : View) (st : Stands T v) (idle : v.und
   abbrev H : List CallRecord
   H = history_of T v.shape v.seen
 
-  -- each call is of a thread
+  -- each call belongs to a thread
   of_threads : (ps : List Placed) → AllByRecursion (λ (p : Placed). p.call < length H) ps →
       AllByRecursion (λ (a : Answered). a.thread < k.threads) (map (answered H) ps)
   of_threads [] a = tt
-  of_threads (p ∷ ps) a = (((part T law v st idle linear).calls p.call no_call a.0).of_a_thread, of_threads ps a.1)
+  of_threads (p ∷ ps) a = (((explains T law v st idle linear).history.each p.call no_call a.0).of_a_thread, of_threads ps a.1)
 
   pub closed_explains : (ws : List ℕ) → ws ≡ (end_of T k v.seen).words → (keys : List ℕ) →
       HasKeys (record { sizes = sizes k; words = ws }) keys
@@ -109,7 +109,7 @@ module _ (T : Table) (law : Lawful T) (v : View) (st : Stands T v) (idle : v.und
     is = refl;
   }
 
--- what is so of the words with which a table is closed
+-- The facts of the words with which a table is closed
 module _ (T : Table) (law : Lawful T) (v : View) (st : Stands T v) (sp : v.spent ≡ false) (idle : v.under ≡ None) (k : Opening)
     (shape : v.shape ≡ k)
     (full : length v.others + 1 ≡ k.threads) (id : ℕ) (ws : List ℕ) (xs : List (Unit {0})) (final : Final (Seen (Holds T k) id v) ws xs) where

@@ -1,4 +1,4 @@
--- A record with the numbers of its calls, and the same record without them.
+-- A record with the numbers of its calls, and the record without the numbers.
 use Rattle.std.proofs.Common.{◌≡◌, ℕ, inl, inr, List, [], ◌∷◌, ◌++◌, map, refl, sym, ap, ◌∙◌, subst}
 use Rattle.std.proofs.lemmas.List.{map-append}
 use Rattle.lset_words.specs.SequentialSet.{Answered}
@@ -10,7 +10,7 @@ use Rattle.lset_rule.proofs.RecordsOfRuns as dated
 use Rattle.lset_words.specs.Records.{HasOwnCalls, Names, NamesGathered, thread_of, own_calls, calls_by, placed_by}
 use Rattle.lset_live.specs.Dated.{call_of, record_of}
 
--- an own call as it stands in an order
+-- An own call, as an element of an order
 abbrev pub said_by : ℕ → OwnCall → Answered
 said_by u c = placed_by u (call_of c)
 

@@ -1,7 +1,6 @@
--- What a seat has seen is explained by an order of calls that keeps its record.
+-- The events that a seat has seen are explained by an order of calls that keeps its record.
 use Rattle.std.proofs.Common.{◌≡◌, ⊎_elim, inl, ℕ, suc, ◌+◌, ◌<◌, ◌==◌, Bool, true, false, cond, List, [], ◌∷◌, ◌++◌, map, length}
 use Rattle.std.proofs.Common.{Option, Some, None, refl, sym, ap, ◌∙◌, subst, arith, append-nil, append_assoc}
-use Rattle.std.specs.Prelude.{if◌then◌else◌}
 use Rattle.std.proofs.lemmas.List.{map-append}
 use mathlib.Core.Option.{some}
 use lib.ListN.{get_elem?}
@@ -13,7 +12,6 @@ use Rattle.lset_words.specs.declared.history.CallRecord.{CallRecord}
 use Rattle.lset_words.specs.declared.history.Placed.{Placed}
 use Rattle.lset_words.specs.History.{Precedes, answered, call_numbered, no_call}
 use Rattle.lset_words.specs.SequentialSet.{opening_set}
-use Rattle.lset_history.proofs.CallByCall.{IsPart, part_of}
 use Rattle.lset_lists.specs.Headline.{ExplainsRun, RunsAreLinearizable}
 use Rattle.lset_steps.specs.declared.Event.{Event}
 use Rattle.lset_steps.specs.declared.Event.TheVariants.{Begin, Go}
@@ -39,21 +37,21 @@ use Rattle.lset_live.proofs.CallsOfThread.{of_thread, ended_record, thread_recor
 use Rattle.lset_live.proofs.OrderKeepsRecord.{keeps}
 use Rattle.lset_words.specs.Words.{Opening}
 
--- a thread that begins a call has none under way
+-- A thread that begins a call has no pending call.
 may_begin : (T : Table) (s : State) (e : Event) (u : ℕ) (o : Option PendingCall) → Tied o (local_of s u) → Enabled s e →
     MayBegin (entry_of T s e) u o
 may_begin T s (Begin t c) u None ti en = λ is. refl
 may_begin T s (Begin t c) u (Some x) ti en = λ is. absurd (ti.0 (ap (λ z. (local_of s z).pc) (sym is) ∙ en.1))
 may_begin T s (Go t) u o ti en = tt
 
--- the calls of a thread of a run of events
+-- The calls of a thread in a run of events
 calls_of_thread : (T : Table) (law : Lawful T) (k : Opening) (es : List Event) → IsRunOf T k es → (u : ℕ) → u < k.threads
     → of_thread u (history_of T k es) ≡ thread_records u (at_end T k es u).done (at_end T k es u).under
 calls_of_thread T law k es r u low = thread_calls (log_by T k es) u (length es)
     (λ j l. may_begin T (state_at T k (event_at es) j) (event_at es j) u _
     (tied T law k (event_at es) (length es) r u j low (omega arith)) (r.enabled j l)) (length es) (omega arith)
 
--- a further thread of a view is idle, and its calls are those of the record
+-- A further thread of a view is idle, and its calls are those of the record.
 aside_idle : (w : ℕ → Here) (t : ℕ) (r : Past) (os : List SpareThread) → AreIdle w t r os → (u : ℕ) → HasAside os u →
     ((w u).under ≡ None) × ((w u).done ≡ calls_of u r)
 aside_idle w t r [] a u h = absurd h
@@ -71,7 +69,7 @@ module _ (T : Table) (law : Lawful T) (v : View) (st : Stands T v) (idle : v.und
       (ap (λ (x : Here). x.under) st.own ∙ idle, ap (λ (x : Here). x.done) st.own))
       (λ x. aside_idle (at_end T v.shape v.seen) v.thread v.past v.others st.others u x) h
 
-  -- what the history has of a thread of the view
+  -- the calls of a thread of the view, in the history
   pub own : (u : ℕ) → HasThread v u → of_thread u (history_of T v.shape v.seen) ≡ map (ended_record u) (calls_of u v.past)
   own u h = let a = at_rest u h in calls_of_thread T law v.shape v.seen st.ran u (st.in_range u h)
       ∙ ((λ i. thread_records u (a.1 i) (a.0 i)) ∙ append-nil (map (ended_record u) (calls_of u v.past)))
@@ -83,14 +81,11 @@ module _ (T : Table) (law : Lawful T) (v : View) (st : Stands T v) (idle : v.und
     pub explains : ExplainsRun T v.shape (event_at v.seen) (length v.seen) order
     explains = (linear v.shape (length v.seen) (event_at v.seen) st.ran).1
 
-    pub part : IsPart v.shape.threads [] (history_of T v.shape v.seen)
-    part = part_of v.shape.threads [] (history_of T v.shape v.seen) explains.history
-
-    -- the calls of one thread, one after the other
+    -- the calls of one thread do not overlap
     pub turns : (i j : ℕ) → i < j → j < length (history_of T v.shape v.seen)
         → (call_numbered (history_of T v.shape v.seen) i).thread ≡ (call_numbered (history_of T v.shape v.seen) j).thread
         → Precedes (call_numbered (history_of T v.shape v.seen) i) (call_numbered (history_of T v.shape v.seen) j)
-    turns i j lt l same = (part.pairs i j no_call lt l).none_open same
+    turns i j lt l same = (explains.history.pairs i j no_call lt l).none_open same
 
     pub kept : Keeps (map (answered (history_of T v.shape v.seen)) order) (record_of v.past)
     kept = keeps v.shape.quota (opening_set v.shape) (history_of T v.shape v.seen) order explains.linearizes turns
@@ -113,7 +108,7 @@ abbrev tail_of : List CallRecord → List CallRecord
 tail_of [] = []
 tail_of (x ∷ xs) = xs
 
--- the last call of a thread has a number in the history
+-- The last call of a thread has a number in the history.
 last_numbered : (u : ℕ) (H xs : List CallRecord) (y : CallRecord) → of_thread u H ≡ xs ++ y ∷ [] → (n : ℕ)
     × (get_elem? H n ≡ some y)
 last_numbered u [] [] y e = let l = ap length e in absurd (omega arith)
@@ -164,7 +159,7 @@ module _ (T : Table) (law : Lawful T) (c : Call) (v : View) (r : Reply) (w : Vie
     })) m.before.1;
   }
 
--- THE CONTRACT OF A CALL, from what the call did to the view of its seat
+-- THE CONTRACT OF A CALL, from the effect of the call on the view of its seat
 abbrev pub seat_at : TableSeat → SeatValue
 seat_at s = record {
   set = record { table = s.table_id; shape = s.me.0.shape };

@@ -1,4 +1,4 @@
--- What a closed set says.
+-- The words and the keys of a closed set.
 use Rattle.std.specs.Prelude.{◌≡◌, ℕ, ◌+◌, ◌*◌, ◌<◌, ◌≤◌, List, length}
 use Rattle.lset_words.specs.declared.TheConstants.{MOST_WORDS}
 use Rattle.lset_words.specs.Words.{lock_index, tail_word, word_count, Opening, sizes, Sizes}
@@ -9,12 +9,12 @@ use Rattle.lset_steps.specs.Steps.{Table}
 use Rattle.lset_steps.specs.Laws.{Lawful}
 use Rattle.lset_rule.specs.Runs.{end_of, IsRunOf}
 
--- the words that a run has left
+-- The words after a run
 pub record LastWords : Type 0 where
   pub sizes : Sizes
   pub words : List ℕ
 
--- they are those after the events of a run of some list
+-- The words are those after a run of some list.
 pub record IsLast (c : LastWords) : Type 0 where
   pub opening : Opening
   pub of_sizes : sizes opening ≡ c.sizes
@@ -28,11 +28,11 @@ pub record IsLast (c : LastWords) : Type 0 where
 abbrev pub HasKeys : LastWords → List ℕ → Type 0
 HasKeys c keys = IsContent (view c.sizes c.words (λ t. 0)) keys
 
--- the most keys that a set can hold: one for each slot, and the opening keys
+-- The maximum number of keys of a set: one for each slot, and the opening keys
 abbrev pub most_keys : Sizes → ℕ
 most_keys s = s.threads * s.quota + s.opening
 
--- what the walk along the chain rests on
+-- The facts that the walk along the chain uses
 pub record HasLaws (c : LastWords) : Type 0 where
   pub few : length c.words ≤ MOST_WORDS
   pub count : length c.words ≡ word_count c.sizes

@@ -1,4 +1,4 @@
--- What contracts see of a running set and of a seat.
+-- The values of running sets and seats, as contracts see them.
 use Rattle.std.specs.Prelude.{◌≡◌, ◌<◌, ◌≤◌, ◌⊎◌, length, ℕ, Bool, true, false, List, [], ◌∷◌, Option, Some, None, map}
 use Rattle.std.specs.List.{range_with_len}
 use Rattle.std.specs.List.Sorted.{IsStrictlyIncreasing}
@@ -14,40 +14,40 @@ use Rattle.lset_live.specs.declared.fault.OpenFault.{OpenFault}
 use Rattle.lset_live.specs.declared.fault.OpenFault.TheVariants as fault
 use Rattle.lset_words.specs.Records.{Record, fresh, gathered}
 
--- a set: its table, its threads and its quota
+-- A set: its table, its threads and its quota
 pub record SetValue : Type 0 where
   pub table : TableId
   pub shape : Opening
 
--- a seat: its set, its record, the seats that it holds (itself included), and the events that it has seen. The running program
--- stores none of these but the count.
+-- A seat: its set, its record, the number of seats that it holds (itself included), and the events that it has seen. The running
+-- program stores only the number.
 pub record SeatValue : Type 0 where
   pub set : SetValue
   pub past : Record
   pub held : ℕ
   pub events : List Event
 
--- a receipt: its set, and the events that a seat of it had seen when it gave it
+-- A receipt: its set, and the events that a seat had seen when it made the receipt
 pub record ReceiptValue : Type 0 where
   pub set : SetValue
   pub events : List Event
 
--- the seat of a thread as the set is opened
+-- The seat of a thread when the set is opened
 abbrev pub new_seat : SetValue → ℕ → SeatValue
 new_seat set t = record { set = set; past = fresh t; held = 1; events = [] }
 
--- a set that was just opened so: seat t is that of thread t
+-- The set was just opened with these sizes and keys: seat t is the seat of thread t.
 abbrev pub IsOpened : SetValue → Opening → List SeatValue → Type 0
 IsOpened set opening seats = (set.shape ≡ opening) × (seats ≡ map (new_seat set) (range_with_len 0 opening.threads))
 
--- why a set is not opened; a failed allocation, within the limits, is not told apart
+-- The error with which a set is not opened: the first size outside its limits, or Memory if all are within their limits
 abbrev pub RefusesSeats : Sizes → OpenFault → Type 0
 RefusesSeats s fault.Seats = RefusesSizes s layout.Threads
 RefusesSeats s fault.Quota = RefusesSizes s layout.Quota
 RefusesSeats s fault.Memory = IsWithin s
 RefusesSeats s fault.Opening = ⊥
 
--- the same of a set that is to open with keys: they do not increase strictly, or are too many
+-- The error with which a set is not opened with keys: also if the keys do not increase strictly, or are too many
 abbrev pub RefusesOpening : Opening → OpenFault → Type 0
 RefusesOpening o fault.Seats = RefusesSizes (sizes o) layout.Threads
 RefusesOpening o fault.Quota = RefusesSizes (sizes o) layout.Quota
@@ -55,18 +55,18 @@ RefusesOpening o fault.Memory = Opens o
 RefusesOpening o fault.Opening = ((0 < o.threads) × (o.threads ≤ MOST_THREADS) × (o.quota ≤ MOST_QUOTA))
     × ((IsStrictlyIncreasing o.keys → ⊥) ⊎ (MOST_OPENING < length o.keys))
 
--- what an answer of `contains_now` counts as
+-- The reply that a result of `contains_now` stands for
 abbrev pub reply_of : Bool → Reply
 reply_of true = True
 reply_of false = False
 
--- the records of some seats, gathered one after the other into the first
+-- The records of some seats, gathered one after another into the first
 abbrev pub gather_onto : Option Record → List Record → Option Record
 gather_onto r [] = r
 gather_onto None (g ∷ gs) = gather_onto (Some g) gs
 gather_onto (Some r) (g ∷ gs) = gather_onto (Some (gathered r g)) gs
 
--- the seats that are held by a seat, if there is one
+-- The number of seats that a seat holds; 0 without a seat
 abbrev pub held_in : Option SeatValue → ℕ
 held_in None = 0
 held_in (Some s) = s.held

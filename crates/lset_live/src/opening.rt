@@ -61,9 +61,8 @@ fn open_on<M: Machine>(
 }
 
 /// Opens a set with 1 to `MOST_THREADS` seats, seat `t` for thread `t`, and a quota of 0 to `MOST_QUOTA` for each.
-/// All memory that a set takes is taken here, but for that of `Closed::keys`.
-/// `OpenFault::Seats` where the seats are outside their limits, else `OpenFault::Quota` where the quota is, and
-/// `OpenFault::Memory` if an allocation failed.
+/// Allocates all memory of the set; only `Closed::keys` allocates later. Returns `OpenFault::Seats` if the number of seats is
+/// outside its limits, else `OpenFault::Quota` if the quota is, and `OpenFault::Memory` if an allocation fails.
 pub fn open<M: Machine>(
     alloc: Global,
     seats: u32,
@@ -84,13 +83,12 @@ pub fn open<M: Machine>(
     }
 }
 
-/// Opens a set that has these keys, 0 to `MOST_OPENING` of them, in strictly increasing order, and else as `open` does: with 1 to
-/// `MOST_THREADS` seats and a quota of 0 to `MOST_QUOTA` for each. The opening keys use up no quota and count as nobody's
-/// adds, and each seat may take them out; the keys of a closed set open the next one, of the same list or another. (This
-/// project's own: the lists of the book open empty.)
-/// `OpenFault::Seats` where the seats are outside their limits, else `OpenFault::Quota` where the quota is, else
-/// `OpenFault::Opening` where the keys are too many or one is not above the key before it, and `OpenFault::Memory` where memory
-/// was refused.
+/// Opens a set with 0 to `MOST_OPENING` opening keys, in strictly increasing order, with 1 to `MOST_THREADS` seats and a quota
+/// of 0 to `MOST_QUOTA` for each. The opening keys use no quota and are nobody's adds. Each seat can remove them. The final
+/// keys of a closed set can open another set, of any list. (The lists in the literature open empty.)
+/// Returns `OpenFault::Seats` if the number of seats is outside its limits, else `OpenFault::Quota` if the quota is, else
+/// `OpenFault::Opening` if there are too many keys or a key is not above the key before it, and `OpenFault::Memory` if an
+/// allocation fails.
 pub fn open_with<M: Machine>(
     alloc: Global,
     seats: u32,

@@ -1,17 +1,18 @@
-//! What a seat has seen, without a thread: what a message from one thread to another can carry.
+//! Receipts: what a seat has seen, in a form that a message from one thread to another can carry.
 ghost use Rattle.std.specs.Prelude.{◌≡◌};
 ghost use Rattle.lset_live.specs.Explained.{ReceiptsKeepOrder};
 ghost use Rattle.lset_rule.specs.Runs.{StartsWith};
 
 use crate::seat::Seat;
 use crate::set::LiveSet;
-use lset_rule::{Heeding, Learning, Noting, TableSeat};
+use lset_rule::{GiveReceipt, Learn, TableSeat, TakeReceipt};
 use lset_steps::Machine;
 use std::marker::{Model, PhantomData};
 
-/// What a seat of a running set had seen when it gave the receipt. It has no thread and makes no call: a thread sends it to another
-/// thread beside a message of any kind, and the calls that the other makes once it has taken it (`LiveSet::after`) come after all
-/// that it stands for. It has no bytes, may go to any thread, and may be dropped. Contracts see its set and the events.
+/// A receipt of a seat of a running set: the events that the seat had seen when it returned the receipt. A receipt makes no
+/// calls. A thread sends it to another thread with a message of any kind. The calls that the receiver makes after
+/// `LiveSet::after` come after all events of the receipt. A receipt has no bytes, can go to any thread, and can be dropped.
+/// Contracts see its set and its events.
 #[derive(Drop)]
 pub struct Receipt<M: Machine> {
     pub(crate) place: TableSeat,
@@ -33,37 +34,39 @@ impl<M: Machine> Model for Receipt<M> {
 }
 
 impl<M: Machine> LiveSet<M> {
-    /// Gives a receipt of what the seat, which is one of this set, has seen so far: its own calls, and all that it has gathered or
-    /// been given. The seat stays as it is. It neither blocks nor allocates.
+    /// Returns a receipt of what the seat has seen so far: its own calls, and what it has gathered or received. The seat must
+    /// belong to this set, and does not change. Neither blocks nor allocates.
     pub fn receipt(&self, seat: &mut Seat<M>) -> Receipt<M>
         requires { seat.old.set ≡ self.now }
         ensures seat { seat.new ≡ seat.old }
         ensures receipt { result ≡ record { set = self.now; events = seat.old.events } }
     {
-        let place = self.table.shared.split_seat::<Noting>(&mut seat.place);
+        let place = self.table.shared.split_seat::<GiveReceipt>(&mut seat.place);
         Receipt {
             place,
             of: PhantomData,
         }
     }
 
-    /// Gives a second receipt of the same, of this set. It neither blocks nor allocates.
+    /// Returns a second receipt with the same events. The receipt must belong to this set. Neither blocks nor allocates.
     pub fn copied(&self, receipt: &mut Receipt<M>) -> Receipt<M>
         requires { receipt.old.set ≡ self.now }
         ensures same { receipt.new ≡ receipt.old }
         ensures copy { result ≡ receipt.old }
     {
-        let place = self.table.shared.split_seat::<Noting>(&mut receipt.place);
+        let place = self
+            .table
+            .shared
+            .split_seat::<GiveReceipt>(&mut receipt.place);
         Receipt {
             place,
             of: PhantomData,
         }
     }
 
-    /// From now on the seat has seen what the receipt stands for; both are of this set. The calls that the seat makes from now on
-    /// begin after all calls that the seat which gave the receipt had made by then, and each order that explains them has those
-    /// calls before (`receipts_keep_order`). The seat's record and the seats that it holds stay. It does not block and allocates
-    /// nothing.
+    /// Adds the events of the receipt to what the seat has seen. Both must belong to this set. Later calls of the seat begin after
+    /// all calls in the receipt's events, and each order that explains them has those calls first (`receipts_keep_order`). The
+    /// seat's record and the seats that it holds do not change. Neither blocks nor allocates.
     pub fn after(&self, seat: &mut Seat<M>, receipt: Receipt<M>)
         requires seat { seat.old.set ≡ self.now }
         requires receipt { receipt.set ≡ self.now }
@@ -73,13 +76,13 @@ impl<M: Machine> LiveSet<M> {
         let Receipt { place, of: _ } = receipt;
         self.table
             .shared
-            .join_seat::<Heeding>(&mut seat.place, place);
-        self.table.shared.load::<Learning<M>>(&mut seat.place, 0);
+            .join_seat::<TakeReceipt>(&mut seat.place, place);
+        self.table.shared.load::<Learn<M>>(&mut seat.place, 0);
     }
 }
 
-/// The law of receipts: a call that had been answered in what a receipt stands for stands before each call that a seat makes once it
-/// has taken the receipt, in each order of calls that linearizes what is seen then or later.
+/// The law of receipts: a call that has ended in the events of a receipt comes before each call that a seat makes after it has
+/// taken the receipt, in each order of calls that linearizes what is seen then or later.
 pub fn receipts_keep_order()
     ensures { ReceiptsKeepOrder }
 {}

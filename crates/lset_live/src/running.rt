@@ -1,4 +1,4 @@
-//! Calls that may wait, over table, seat and pause, and a `contains` that does not block.
+//! Calls that can wait, on a table, a seat and a pause; and a `contains` that does not block.
 ghost use Rattle.lset_words.specs.declared.Call.TheVariants.{Contains};
 ghost use Rattle.lset_rule.specs.Seats.{HasCalled, MayCall};
 
@@ -13,12 +13,12 @@ use lset_steps::OpenReads;
 use lset_words::{Call, Key, Reply};
 use std::sync::Wait;
 
-/// A machine whose calls may wait, on words that threads share.
+/// A machine whose calls run on shared words and can wait.
 ///
-/// A list that is `Bounded` meets this trait with no body: `impl Running for MyList {}`.
+/// A list that is `Bounded` implements this trait without a body: `impl Running for MyList {}`.
 pub trait Running: Bounded {
-    /// Makes a call of any kind, in as many rounds as it takes. `rt` is what it waits by; the other arguments, and what it asks
-    /// and owes, are those of `Bounded::make_within`.
+    /// Makes a call of any kind, with as many rounds as it needs. `rt` is the runtime by which it waits. The other arguments, the
+    /// precondition and the postcondition are those of `Bounded::make_within`.
     fn make_on<R: Wait, P: Pause>(
         rt: &R,
         table: &Words<Self>,
@@ -45,11 +45,11 @@ impl Running for LazyList {}
 
 impl Running for LockFreeList {}
 
-/// A machine whose `contains` does not block, on shared words too.
+/// A machine whose `contains` does not block on shared words.
 ///
-/// A list with bounded reads (`OpenReads`) meets it with no body.
+/// A list with bounded reads (`OpenReads`) implements this trait without a body.
 pub trait RunningReads: Running + OpenReads {
-    /// Makes a `contains` that does not block. It has no handle to block by, and makes at most `OpenReads::bound` steps.
+    /// Makes a `contains` without a runtime, so it cannot block, in at most `OpenReads::bound` steps.
     fn contains_now_on(
         table: &Words<Self>,
         place: &mut TableSeat,

@@ -21,7 +21,9 @@ use crate::seat::Seat;
 use crate::typed::truth_of;
 use atomic_table::Table;
 use lset_lists::runs_are_linearizable;
-use lset_rule::{Cutting, Follows, Learning, Opened, Pause, Rounds, Spin, TableSeat, Taking, View};
+use lset_rule::{
+    Follows, JoinSeats, Learn, Opened, Pause, Rounds, Spin, SplitSeat, TableSeat, View,
+};
 use lset_steps::Machine;
 use lset_words::{Call, Key, Reply};
 use std::alloc::{AllocError, Global};
@@ -30,7 +32,7 @@ use std::marker::{Model, PhantomData};
 use std::sync::Wait;
 use thiserror::Error;
 
-/// A running set of the list `M` (Herlihy and Shavit's `Set`, with a quota). Threads share it by `&`, and each calls from
+/// A running set of the list `M` (Herlihy and Shavit's `Set`, with a quota). Threads share it by `&`. Each thread calls from
 /// a seat of its own. Contracts see its table, its threads and its quota.
 #[derive(Drop)]
 pub struct LiveSet<M: Machine> {
@@ -52,7 +54,7 @@ impl<M: Machine> Model for LiveSet<M> {
     ghost view = { λ s. record { table = s.table.shared.table_id; shape = s.table.shared.key } };
 }
 
-/// A set that is not closed, since the seat does not hold all seats.
+/// The error of `close`: the seat does not hold all seats. Has the set and the seat, unchanged.
 #[derive(Drop, Error)]
 #[error("the seat does not hold all seats of the set")]
 pub struct SeatsOut<M: Machine> {
@@ -70,7 +72,7 @@ impl<M: Machine> fmt::Debug for SeatsOut<M> {
 }
 
 impl<M: Machine> LiveSet<M> {
-    /// The number of seats that the set was opened with.
+    /// Returns the number of seats of the set at its opening.
     pub fn seats(&self) -> u32
         ensures seats { result ≡ self.now.shape.threads }
         ensures range { (0 < result) × (result ≤ MOST_THREADS) }
@@ -78,7 +80,7 @@ impl<M: Machine> LiveSet<M> {
         self.threads
     }
 
-    /// The quota that the set was opened with.
+    /// Returns the quota of each seat.
     pub fn quota(&self) -> u32
         ensures quota { result ≡ self.now.shape.quota }
         ensures range { result ≤ MOST_QUOTA }
@@ -86,7 +88,7 @@ impl<M: Machine> LiveSet<M> {
         self.quota
     }
 
-    /// The most keys that the set can hold: one for each slot of each thread, and the opening keys.
+    /// Returns the maximum number of keys of the set: one for each slot of each thread, and the opening keys.
     pub fn most_keys(&self) -> usize
         ensures { result ≡ most_keys (sizes self.now.shape) }
     {
@@ -95,12 +97,12 @@ impl<M: Machine> LiveSet<M> {
 }
 
 impl<M: Running> LiveSet<M> {
-    /// Makes the call from the seat, which is one of this set. `pause` is asked after each of its steps but the last.
+    /// Makes the call from the seat, which must belong to this set. Calls `pause` after each step of the call but the last.
     ///
-    /// The seat's record grows by the call with its reply. The call begins after all that the seat had seen, and its
-    /// answering step is the last event that the seat has then seen. One order of the calls of these events linearizes
-    /// their history and keeps the record (Herlihy and Wing). It may block while another thread
-    /// holds a lock that the call needs. It does not allocate.
+    /// Appends the call with its reply to the seat's record. The call begins after all that the seat had seen, and its last step
+    /// is the last event that the seat has seen afterwards. There is an order of the calls of these events that linearizes their
+    /// history and keeps the record (Herlihy and Wing). Can block while another thread holds a lock that the call needs. Does
+    /// not allocate.
     pub fn call<R: Wait, P: Pause>(
         &self,
         rt: &R,
@@ -124,8 +126,8 @@ impl<M: Running> LiveSet<M> {
         reply
     }
 
-    /// Puts the key in, and answers `True`, if it was not there; `Full` where it was not and the thread has used all of its
-    /// slots. As `call` with `Spin`.
+    /// Adds the key. Returns `True` if the key was absent and is added, `False` if it is present already, and `Full` if it is
+    /// absent and the thread has used its quota. Otherwise like `call` with `Spin`.
     pub fn add<R: Wait>(&self, rt: &R, seat: &mut Seat<M>, key: Key) -> Reply
         requires { seat.old.set ≡ self.now }
         ensures { HasAnswered M.table self.now seat.old (Add key) result seat.new }
@@ -133,7 +135,7 @@ impl<M: Running> LiveSet<M> {
         self.call(rt, seat, Call::Add(key), &Spin::new())
     }
 
-    /// Takes the key out, and answers `True`, if it was there. As `call` with `Spin`.
+    /// Removes the key. Returns `True` if the key was present, else `False`. Otherwise like `call` with `Spin`.
     pub fn remove<R: Wait>(&self, rt: &R, seat: &mut Seat<M>, key: Key) -> Reply
         requires { seat.old.set ≡ self.now }
         ensures { HasAnswered M.table self.now seat.old (Remove key) result seat.new }
@@ -141,7 +143,7 @@ impl<M: Running> LiveSet<M> {
         self.call(rt, seat, Call::Remove(key), &Spin::new())
     }
 
-    /// Returns whether the key is there. As `call` with `Spin`.
+    /// Returns whether the key is present, as `True` or `False`. Otherwise like `call` with `Spin`.
     pub fn contains<R: Wait>(&self, rt: &R, seat: &mut Seat<M>, key: Key) -> Reply
         requires { seat.old.set ≡ self.now }
         ensures { HasAnswered M.table self.now seat.old (Contains key) result seat.new }
@@ -149,7 +151,7 @@ impl<M: Running> LiveSet<M> {
         self.call(rt, seat, Call::Contains(key), &Spin::new())
     }
 
-    /// Returns the smallest key at or above this one, or that there is none. As `call` with `Spin`.
+    /// Returns `At` with the smallest key at or above `key`, or `Nothing` if there is none. Otherwise like `call` with `Spin`.
     pub fn ceiling<R: Wait>(&self, rt: &R, seat: &mut Seat<M>, key: Key) -> Reply
         requires { seat.old.set ≡ self.now }
         ensures { HasAnswered M.table self.now seat.old (Ceiling key) result seat.new }
@@ -159,13 +161,12 @@ impl<M: Running> LiveSet<M> {
 }
 
 impl<M: Bounded> LiveSet<M> {
-    /// Makes the call from the seat, which is one of this set, with no handle to block by: each of its loops makes at most
-    /// `N::MOST` rounds, but for the walk of a `contains` of LazyList and LockFreeList, which does not block and makes as many
-    /// as it needs. The answer is the seat and the reply, and of both is so what `call` says.
+    /// Makes the call from the seat, which must belong to this set, without a runtime: each loop of the call makes at most
+    /// `N::MOST` rounds. (The walk of a `contains` of LazyList and LockFreeList does not block and makes as many rounds as it
+    /// needs.) Returns the seat and the reply; they meet the postcondition of `call`.
     ///
-    /// `None` where a loop has made all its rounds, as at a lock that is held. The call is still under way, with the locks that
-    /// it has. Its seat could make no other and is gone, so the set is not closed any more. With [`Countless`] rounds no run comes
-    /// to it.
+    /// Returns `None` if a loop has made all its rounds, for example at a held lock. The call is then still pending and holds its
+    /// locks. The seat is consumed, so the set can never be closed. With [`Countless`] rounds no run reaches this case.
     pub fn call_within<P: Pause, N: Rounds>(
         &self,
         seat: Seat<M>,
@@ -200,8 +201,8 @@ impl<M: Bounded> LiveSet<M> {
 }
 
 impl<M: Machine> LiveSet<M> {
-    /// Merges `from` into `into`: its record, the seats that it holds, and what it has seen. A call that follows is explained
-    /// with all gathered calls before it.
+    /// Merges `from` into `into`: its record, the seats that it holds, and what it has seen. Later calls of `into` are explained
+    /// with all gathered calls before them.
     pub fn gather(&self, into: &mut Seat<M>, from: Seat<M>)
         requires into { into.old.set ≡ self.now }
         requires from { from.set ≡ self.now }
@@ -218,13 +219,13 @@ impl<M: Machine> LiveSet<M> {
         } = from;
         self.table
             .shared
-            .join_seat::<Taking>(&mut into.place, place);
-        self.table.shared.load::<Learning<M>>(&mut into.place, 0);
+            .join_seat::<JoinSeats>(&mut into.place, place);
+        self.table.shared.load::<Learn<M>>(&mut into.place, 0);
         into.held += held;
     }
 
-    /// Closes the set if the seat holds all its seats; else `SeatsOut` returns both unchanged. One legal order of
-    /// calls keeps the seat's record, has no other call, and leaves just the keys that are left.
+    /// Closes the set if the seat holds all seats; else returns both unchanged in `SeatsOut`. There is a legal order of calls that
+    /// keeps the seat's record, has no other call, and leaves exactly the final keys.
     pub fn close(self, seat: Seat<M>) -> Result<Closed, SeatsOut<M>>
         requires { seat.set ≡ self }
         ensures all { IfOk result (λ c. seat.held ≡ self.shape.threads) }
@@ -260,8 +261,8 @@ impl<M: Machine> LiveSet<M> {
         })
     }
 
-    /// Closes the set, of which the seat holds all seats, and gives the keys that are left. It fails only where memory was
-    /// refused.
+    /// Closes the set and returns its final keys, in increasing order. `seat` must hold all seats. Fails only if an allocation
+    /// fails.
     pub fn keys_left(self, seat: Seat<M>) -> Result<Vec<u32>, AllocError>
         requires seat { seat.set ≡ self }
         requires all { seat.held ≡ self.shape.threads }
@@ -274,7 +275,8 @@ impl<M: Machine> LiveSet<M> {
         closed.keys()
     }
 
-    /// The same in a vector that is empty and has room for `most_keys`. Does not allocate, and does not fail.
+    /// Closes the set and returns its final keys, in increasing order, in `room`, which must be empty with a capacity of at least
+    /// `most_keys`. `seat` must hold all seats. Does not allocate and does not fail.
     pub fn keys_left_in(self, seat: Seat<M>, room: Vec<u32>) -> Vec<u32>
         requires seat { seat.set ≡ self }
         requires all { seat.held ≡ self.shape.threads }
@@ -298,13 +300,13 @@ impl<M: Machine> LiveSet<M> {
             × (place.new.me ≡ (left_view place.old.me.0, place.old.me.1)) }
         ensures new { (result.table_id ≡ place.old.table_id) × (result.me ≡ (right_view place.old.me.0, [])) }
     {
-        self.table.shared.split_seat::<Cutting>(place)
+        self.table.shared.split_seat::<SplitSeat>(place)
     }
 }
 
 impl<M: RunningReads> LiveSet<M> {
-    /// Returns whether the key is in the set, without blocking or allocating. It is wait-free: whatever the other threads do, it
-    /// makes at most `bound` steps, each a load (`lset_steps::OpenReads`). The result stands for the reply `True` or `False`.
+    /// Returns whether the key is in the set, without blocking or allocating. The call is wait-free: whatever other threads do,
+    /// it makes at most `bound` steps, each a load (`lset_steps::OpenReads`). In the seat's record the reply is `True` or `False`.
     pub fn contains_now(&self, seat: &mut Seat<M>, key: Key) -> bool
         requires { seat.old.set ≡ self.now }
         ensures answered { HasAnswered M.table self.now seat.old (Contains key) (reply_of result) seat.new }

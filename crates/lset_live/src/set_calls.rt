@@ -1,4 +1,4 @@
-//! A running set as those see it who ask for any call.
+//! The implementation of `SetCalls` for running sets.
 ghost use Rattle.std.specs.Prelude.{◌≡◌};
 
 use crate::running::Running;

@@ -1,4 +1,4 @@
-//! Calls from a seat that return a value of a type of their own. `LiveSet` has the same calls with a `Reply`.
+//! Calls from a seat, each with a result type of its own. `LiveSet` has these calls with a `Reply`.
 ghost use Rattle.std.specs.Prelude.{◌≡◌};
 ghost use Rattle.lset_words.specs.declared.Call.TheVariants.{Add, Remove, Contains, Ceiling};
 ghost use Rattle.lset_live.specs.Explained.{HasAnswered};
@@ -11,25 +11,24 @@ use crate::set::LiveSet;
 use lset_words::{Key, Reply};
 use std::sync::Wait;
 
-/// What a call of `Seat::add` did.
+/// The result of `Seat::add`.
 #[derive(Clone, Copy, Debug, PartialEq, Eq)]
 #[must_use]
 pub enum Added {
-    /// The key was not in the set, and is in it now. It took one of the slots of the seat's thread. The reply `True`.
+    /// The key was absent and was added. It takes one slot of the seat's thread. The reply is `True`.
     New,
-    /// The key was in the set already. Nothing changed. The reply `False`.
+    /// The key was present already. Nothing changed. The reply is `False`.
     Already,
-    /// The key was not in the set, and is not: the seat's thread has used up its quota. Nothing
-    /// changed. The reply `Full`.
+    /// The key is absent, and the seat's thread has used up its quota. Nothing changed. The reply is `Full`.
     Full,
 }
 
 impl<M: Running> Seat<M> {
-    /// Adds `key` to `set`, and returns whether the key is new, was there already, or exceeds the quota. This seat must be one of
-    /// the set's.
+    /// Adds `key` to `set`. Returns whether the key was added, was present already, or exceeds the quota. This seat must belong to
+    /// `set`.
     ///
-    /// The seat's record grows by the call of `LiveSet::add`, with the reply that the result stands for. A key that is removed
-    /// frees no slot. May block while another thread holds a lock that the call needs. Does not allocate.
+    /// Appends the call with its reply to the seat's record, as `LiveSet::add` does. Removing a key frees no slot. Can block while
+    /// another thread holds a lock that the call needs. Does not allocate.
     ///
     /// For example:
     ///
@@ -46,10 +45,10 @@ impl<M: Running> Seat<M> {
         added_of(reply)
     }
 
-    /// Removes `key` from `set`, and returns whether it was there. This seat must be one of the set's.
+    /// Removes `key` from `set`, and returns whether it was present. This seat must belong to `set`.
     ///
-    /// The seat's record grows by the call of `LiveSet::remove`, with the reply `True` or `False`. May block while another thread
-    /// holds a lock that the call needs. Does not allocate.
+    /// Appends the call with the reply `True` or `False` to the seat's record, as `LiveSet::remove` does. Can block while another
+    /// thread holds a lock that the call needs. Does not allocate.
     ///
     /// For example:
     ///
@@ -64,10 +63,10 @@ impl<M: Running> Seat<M> {
         truth_of(reply)
     }
 
-    /// Returns whether `key` is in `set`. This seat must be one of the set's.
+    /// Returns whether `key` is in `set`. This seat must belong to `set`.
     ///
-    /// The seat's record grows by the call of `LiveSet::contains`, with the reply `True` or `False`. May block while another
-    /// thread holds a lock that the call needs; `LiveSet::contains_now` does not. Does not allocate.
+    /// Appends the call with the reply `True` or `False` to the seat's record, as `LiveSet::contains` does. Can block while another
+    /// thread holds a lock that the call needs; `LiveSet::contains_now` never blocks. Does not allocate.
     ///
     /// For example:
     ///
@@ -82,10 +81,10 @@ impl<M: Running> Seat<M> {
         truth_of(reply)
     }
 
-    /// Returns the smallest key of `set` at or above `key`, or `None` if there is none. This seat must be one of the set's.
+    /// Returns the smallest key of `set` at or above `key`, or `None` if there is none. This seat must belong to `set`.
     ///
-    /// The seat's record grows by the call of `LiveSet::ceiling`, with the reply `At` of the key that is returned, or `Nothing`.
-    /// May block while another thread holds a lock that the call needs. Does not allocate.
+    /// Appends the call with the reply `At` (of the returned key) or `Nothing` to the seat's record, as `LiveSet::ceiling` does.
+    /// Can block while another thread holds a lock that the call needs. Does not allocate.
     ///
     /// For example:
     ///
@@ -101,7 +100,7 @@ impl<M: Running> Seat<M> {
     }
 }
 
-/// The answer to an `add` that has this reply.
+/// Returns the result of an `add` with this reply.
 fn added_of(reply: Reply) -> Added
     requires { IsAddReply reply }
     ensures { reply_of_add result ≡ reply }
@@ -114,7 +113,7 @@ fn added_of(reply: Reply) -> Added
     }
 }
 
-/// The answer to a `remove` or a `contains` that has this reply.
+/// Returns the result of a `remove` or a `contains` with this reply.
 pub(crate) fn truth_of(reply: Reply) -> bool
     requires { IsTruth reply }
     ensures { reply_of result ≡ reply }
@@ -126,7 +125,7 @@ pub(crate) fn truth_of(reply: Reply) -> bool
     }
 }
 
-/// The answer to a `ceiling` that has this reply.
+/// Returns the result of a `ceiling` with this reply.
 fn key_of(reply: Reply) -> Option<Key>
     requires { IsCeilingReply reply }
     ensures { reply_of_ceiling result ≡ reply }

@@ -1,4 +1,4 @@
--- LockFreeList: the rows of its table (Harris's marks and Michael's one node at a time, as Herlihy and Shavit
+-- LockFreeList: the rows of its table (Harris's marks and Michael's unlinking of one node at a time, as Herlihy and Shavit
 -- describe them).
 use Rattle.std.specs.Prelude.{ℕ, ◌+◌, ◌*◌, ◌/◌, ◌%◌, Bool, true, false, if◌then◌else◌, Option, Some, None, ◌==◌, nat_lt}
 use Rattle.lset_words.specs.declared.Key.{Key}
@@ -13,7 +13,7 @@ use Rattle.lset_steps.specs.Steps.{Table}
 use Rattle.lset_steps.specs.Rows.{own_slot, decided_on}
 use Rattle.lset_steps.specs.ReadRows.{begun_reading, read_action, read_fed, continued, leaves_with}
 
--- the rows to which a call goes on from its decision; where it leaves, it answers at once
+-- The rows at which a call continues after its decision. A call that leaves replies at once.
 abbrev pub targets : Targets
 targets = record { adds = 5; removes = 8; leaves = 0 }
 
@@ -31,22 +31,22 @@ next_action l =
     else if l.pc == 10 then Exchange (link_index l.pred) (2 * l.curr) (2 * l.succ)
     else read_action l
 
--- where the walk sees the link word of curr: with a mark, or without
+-- The step that has read the link word of curr: a marked curr is unlinked next, and the key of an unmarked one is loaded.
 abbrev pub at_link : ℕ → Local → Fed
 at_link seen l =
     if seen % 2 == 0 then continued (record l { pc = 4; succ = seen / 2 }) else continued (record l { pc = 3; succ = seen / 2 })
 
--- from its decision a call goes on, or answers
+-- The step after the decision: the call continues, or ends with its reply.
 abbrev pub decision_of : Local → Fed
 decision_of l = record { local = l; answer = if l.pc == 0 then l.reply else None }
 
--- where it sees the key word of curr
+-- The step that has read the key word of curr: the walk continues while the word is below the call's key; then the call decides.
 abbrev pub at_key : ℕ → Local → Fed
 at_key seen l =
     if nat_lt seen (target l.call) then continued (record l { pc = 2; pred = l.curr; curr = l.succ })
     else decision_of (decided_on targets seen l)
 
--- where an exchange failed, the walk starts again
+-- The step of a failed exchange: the walk starts again.
 abbrev pub again : Local → Fed
 again l = continued (record l { pc = 1 })
 

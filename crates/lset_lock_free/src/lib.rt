@@ -1,5 +1,5 @@
-//! LockFreeList: nodes are marked and unlinked by exchanges, one at a time (Herlihy and Shavit's lock-free list, after
-//! Harris and Michael).
+//! LockFreeList: nodes are marked and unlinked by exchanges, one at a time (Herlihy and Shavit's lock-free list, after Harris and
+//! Michael).
 #![tactic(auto)]
 
 ghost use Rattle.std.specs.Prelude.{◌≡◌, ◌+◌};
@@ -17,20 +17,20 @@ use lset_steps::rows::{Targets, decide, key_index, link_index, own_slot};
 use lset_steps::{Action, Fed, Local, Machine, OpenReads};
 use lset_words::{Call, HEAD, Key, Kind, Reply};
 
-/// The list without locks: a node is marked by an exchange of its link, and then unlinked by an exchange of the link before
-/// it, by whichever call reaches it (Herlihy and Shavit's lock-free list).
+/// The list without locks. A node is marked by an exchange of its link, and then unlinked by an exchange of the link before it,
+/// by any call that reaches it (Herlihy and Shavit's lock-free list).
 #[derive(Clone, Copy)]
 pub struct LockFreeList;
 
-/// The rows at which a call continues from its decision; if it leaves, it replies at once.
+/// The rows at which a call continues after its decision. A call that leaves replies at once.
 const TARGETS: Targets = Targets {
     adds: 5,
     removes: 8,
     leaves: 0,
 };
 
-/// Returns the next step of a thread with a pending call, by its row of the table. Its numbers must be small, as those of
-/// every run are.
+/// Returns the next step of a thread with a pending call, by its row of the table. Its numbers must be small; they are in every
+/// run.
 #[inline(always)]
 pub fn next_action(local: &Local) -> Action
     requires { IsSmall local.now }
@@ -49,7 +49,7 @@ pub fn next_action(local: &Local) -> Action
     }
 }
 
-/// The walk comes to the node `curr` behind `pred`, whose link is looked at next.
+/// Returns the step after which the walk is at node `curr` after `pred`, and loads the link of `curr` next.
 #[inline(always)]
 fn at_node(pred: u64, curr: u64, local: &Local) -> Fed
     ensures { result ≡ continued (record local.now { pc = 2; pred = pred; curr = curr }) }
@@ -62,7 +62,7 @@ fn at_node(pred: u64, curr: u64, local: &Local) -> Fed
     })
 }
 
-/// Goes on to the key of a node without a mark, and else to taking the node out.
+/// Returns the step that has read the link of `curr`: a marked node is unlinked next, and the key of an unmarked one is loaded.
 #[inline(always)]
 fn at_link(local: &Local, seen: u64) -> Fed
     ensures { result ≡ at_link seen local.now }
@@ -75,7 +75,7 @@ fn at_link(local: &Local, seen: u64) -> Fed
     })
 }
 
-/// From its decision a call goes on, or answers.
+/// Returns the step after the decision: the call continues, or ends with its reply.
 #[inline(always)]
 fn decision_of(local: Local) -> Fed
     ensures { result ≡ decision_of local }
@@ -84,7 +84,7 @@ fn decision_of(local: Local) -> Fed
     Fed { local, answer }
 }
 
-/// Walks on if the key word is below that of the call, else decides.
+/// Returns the step that has read a key word: the walk continues if the word is below the call's key, else the call decides.
 #[inline(always)]
 fn at_key(local: &Local, seen: u64) -> Fed
     ensures { result ≡ at_key seen local.now }
@@ -96,7 +96,7 @@ fn at_key(local: &Local, seen: u64) -> Fed
     }
 }
 
-/// The node is in the chain, and its slot is used: the call answers True.
+/// Returns the step of a successful insertion: the slot is used, and the call ends with `True`.
 #[inline(always)]
 fn puts_in(local: &Local) -> Fed
     requires { IsSmall local.now }
@@ -109,7 +109,7 @@ fn puts_in(local: &Local) -> Fed
     leaves_with(Reply::True, local)
 }
 
-/// The walk starts again.
+/// Returns the step after which the walk starts again.
 #[inline(always)]
 fn again(local: &Local) -> Fed
     ensures { result ≡ again local.now }
@@ -117,7 +117,7 @@ fn again(local: &Local) -> Fed
     continued(Local { pc: 1, ..*local })
 }
 
-/// Returns the thread's state after its next step, in which it saw `seen`, and the reply if the step ends the call.
+/// Returns the thread's state after its next step, which saw `seen`, and the reply if the step ends the call.
 #[inline(always)]
 pub fn fed_by(local: &Local, seen: u64) -> Fed
     requires { IsSmall local.now }
@@ -143,8 +143,8 @@ pub fn fed_by(local: &Local, seen: u64) -> Fed
     }
 }
 
-/// Returns the key that the thread's next step adds (`true`) or removes (`false`), which only a successful exchange does;
-/// `None` if it does not change the set.
+/// Returns the key that the thread's next step adds (`true`) or removes (`false`), as only a successful exchange does. `None` if
+/// the step does not change the set.
 #[inline(always)]
 pub fn effect_of(local: &Local, seen: u64) -> Option<(Key, bool)>
     requires { IsSmall local.now }

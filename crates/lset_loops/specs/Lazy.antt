@@ -1,4 +1,4 @@
--- Where an add or a remove of LazyList stands.
+-- The rows of LazyList at which the parts of the loop of an add or a remove begin and end.
 use Rattle.std.specs.Prelude.{ℕ, Option, Some, None}
 use Rattle.lset_words.specs.declared.Reply.{Reply}
 use Rattle.lset_steps.specs.Rows.{decided_on}
@@ -10,15 +10,15 @@ use Rattle.lset_loops.specs.declared.decision.Found.{Found}
 use Rattle.lset_loops.specs.Begun.{Begun}
 use Rattle.lset_loops.specs.Calling.{Holds, Rest, row}
 
--- It is about to load the key of the node x, to which the link of p led.
+-- The call is about to load the key of the node x, to which the link of p led.
 abbrev pub AtKey : Begun → OwnSlots → ℕ → ℕ → TableSeat → Type 0
 AtKey b own p x s = (j : Rest) × Holds lazy b (row own b.call 2 None p x j) s
 
--- Its walk has stopped there, and it is about to lock the first node.
+-- The walk has stopped at this place, and the call is about to lock the first node.
 abbrev pub StopsAt : Begun → OwnSlots → Found → TableSeat → Type 0
 StopsAt b own f s = (j : Rest) × Holds lazy b (row own b.call 4 None f.pred.number f.curr.number (record j { ckey = f.word })) s
 
--- It has locked both nodes, and is about to load the link of the first.
+-- The call has locked both nodes, and is about to load the link of the first.
 abbrev pub HasLocked : Begun → OwnSlots → Found → TableSeat → Type 0
 HasLocked b own f s = (j : Rest) × Holds lazy b (row own b.call 6 None f.pred.number f.curr.number (record j { ckey = f.word })) s
 
@@ -28,14 +28,14 @@ AreNeighbours b own f n s = (j : Rest)
     × Holds lazy b (decided_on targets f.word
     (row own b.call 7 None f.pred.number f.curr.number (record j { ckey = f.word; succ = n.number }))) s
 
--- It is about to release both locks: with this reply, or with none, to start over.
+-- The call is about to release both locks: with this reply, or without one, to start over.
 abbrev pub GivesBack : Begun → Found → OwnSlots → Option Reply → TableSeat → Type 0
 GivesBack b f own r s = (j : Rest) × Holds lazy b (row own b.call 13 r f.pred.number f.curr.number j) s
 
 abbrev pub Leaves : Begun → Found → OwnSlots × Reply → TableSeat → Type 0
 Leaves b f answer s = GivesBack b f answer.0 (Some answer.1) s
 
--- by whether they are neighbours
+-- What holds after the check whether the two nodes are neighbours.
 abbrev pub HasValidated : Begun → OwnSlots → Found → Option Node → TableSeat → Type 0
 HasValidated b own f (Some n) s = AreNeighbours b own f n s
 HasValidated b own f None s = GivesBack b f own None s

@@ -12,7 +12,7 @@ use lset_coarse::CoarseList;
 use lset_rule::{OwnSlots, Pause, Rounds, TableSeat, Words};
 use lset_words::{Call, LOCK, Reply};
 
-/// Walks from the head to the first key that is not below that of the call.
+/// Walks from the head to the first key that is not below the call's.
 fn walk<P: Pause, N: Rounds>(caller: &Caller<CoarseList, P>, place: &mut TableSeat) -> Option<Found>
     requires { AtHead caller.now.origin caller.now.slots place.old }
     ensures { IfSome result (λ f. StopsAt caller.now.origin caller.now.slots f place.new) }
@@ -32,7 +32,7 @@ fn walk<P: Pause, N: Rounds>(caller: &Caller<CoarseList, P>, place: &mut TableSe
     None
 }
 
-/// Does what the call does at the key that was found.
+/// Adds, removes or only replies, at the key that the walk has found.
 fn act<P: Pause>(
     caller: &Caller<CoarseList, P>,
     place: &mut TableSeat,
@@ -55,8 +55,8 @@ fn act<P: Pause>(
     }
 }
 
-/// Makes a whole call: it takes the lock, walks to its key, acts there, and releases the lock. (Herlihy and Shavit's
-/// coarse-grained list.) `None` where a loop of it has made `N::MOST` rounds.
+/// Makes a whole call: takes the lock, walks to the key, acts there, and releases the lock. (Herlihy and Shavit's coarse-grained
+/// list.) Returns `None` if one of its loops has made `N::MOST` rounds.
 pub fn coarse_within<P: Pause, N: Rounds>(
     table: &Words<CoarseList>,
     place: &mut TableSeat,

@@ -1,4 +1,4 @@
-//! What a call does where its walk has stopped.
+//! The decision of a call after its walk has stopped.
 ghost use Rattle.std.specs.Prelude.{◌≡◌, ◌<◌};
 ghost use Rattle.lset_loops.specs.Calling.{Decides, HasStored, MayStore, one_more, put_stores, slot, slot_stores};
 
@@ -10,7 +10,8 @@ use lset_steps::Machine;
 use lset_steps::rows::ceiling_at;
 use lset_words::{Call, Reply, slot_node};
 
-/// Where the walk has stopped: at the first node `curr` whose key word is not below that of the call, and `pred` before it.
+/// The place at which a walk has stopped: `curr` is the first node whose key word is not below the call's, and `pred` the node
+/// before it.
 #[derive(Clone, Copy)]
 pub(crate) struct Found {
     pub pred: Node,
@@ -18,7 +19,7 @@ pub(crate) struct Found {
     pub word: u64,
 }
 
-/// What a call is to do.
+/// The decision of a call: to link in a node, to unlink one, or to reply.
 #[derive(Clone, Copy)]
 pub(crate) enum Decision {
     PutIn,
@@ -26,7 +27,7 @@ pub(crate) enum Decision {
     Answer(Reply),
 }
 
-/// What `call` is to do at this key word.
+/// Decides what `call` does at this key word.
 pub fn decide(call: Call, word: u64, slots: OwnSlots) -> Decision
     ensures deed { Decides call slots word result }
     ensures room { result ≡ Decision.PutIn → slots.used < slots.quota }
@@ -44,7 +45,7 @@ pub fn decide(call: Call, word: u64, slots: OwnSlots) -> Decision
     }
 }
 
-/// The slots, of which one more is used.
+/// Returns the slots with one more slot used.
 pub(crate) fn one_more(slots: OwnSlots) -> OwnSlots
     requires { slots.used < slots.quota }
     ensures { result ≡ one_more slots }
@@ -56,7 +57,7 @@ pub(crate) fn one_more(slots: OwnSlots) -> OwnSlots
 }
 
 impl<'a, M: Machine, P: Pause> Caller<'a, M, P> {
-    /// Writes the key and the link of the thread's next slot, which is to lead to `next`, and answers its node.
+    /// Writes the key of the thread's next slot, and its link to `next`. Returns the slot's node.
     pub fn fill_slot(&self, place: &mut TableSeat, next: Node) -> Node
         requires { MayStore M.table self.now.origin (slot_stores self.now.slots self.now.key next.number) place.old }
         ensures node { result.number ≡ slot self.now.slots }
@@ -71,7 +72,7 @@ impl<'a, M: Machine, P: Pause> Caller<'a, M, P> {
         node
     }
 
-    /// Fills the thread's next slot, and puts it in between `pred` and `curr`.
+    /// Fills the thread's next slot and links it in between `pred` and `curr`.
     pub fn put_in(&self, place: &mut TableSeat, found: Found)
         requires { MayStore M.table self.now.origin (put_stores self.now.slots self.now.key found.pred.number found.curr.number) place.old }
         ensures { HasStored M.table self.now.origin (put_stores self.now.slots self.now.key found.pred.number found.curr.number) place.old place.new }

@@ -1,10 +1,10 @@
-//! The plain loops of the five lists: their calls on the shared words, as Herlihy and Shavit write them. Each list has all its
-//! calls here, but for the `ceiling` of LazyList and LockFreeList, which the interpreter makes.
+//! The plain loops of the five lists: their calls on the shared words, as Herlihy and Shavit write them. All calls of each list
+//! are here, except the `ceiling` of LazyList and LockFreeList, which the interpreter makes.
 //!
-//! A loop makes its steps by a `Caller`, the call under way, and asks `decide` what the call does where its walk has stopped. No
-//! table is looked at when they run: each step asks that it is the step of the row of the list's table at which the seat's view
-//! stands, and tells where the row leads, so a loop is proved by computing its table. Each loop makes at most `N::MOST` rounds,
-//! but for that of a `contains` that only reads, which ends. The contracts are those of the interpreter
+//! A loop makes its steps through a `Caller`, which stands for the pending call, and calls `decide` after its walk has stopped.
+//! The loops do not read the list's table when they run. Each step requires that it is the step of the call's current row, and
+//! ensures the row to which it leads: a loop is proved by computing the table. Each loop makes at most `N::MOST` rounds, except
+//! the loop of a `contains` that only reads, which always ends. The contracts are those of the interpreter
 //! (`lset_rule::interpret_within`, `lset_rule::interpret_read`).
 #![tactic(auto)]
 

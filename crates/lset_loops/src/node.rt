@@ -1,7 +1,7 @@
 //! The nodes that a call names.
 ghost use Rattle.std.specs.Prelude.{◌≡◌, ◌/◌, ◌<◌, ◌^◌};
 
-/// A node, by its number, which half a link word can hold.
+/// A node, by its number, which fits into a link word beside the mark.
 #[derive(Clone, Copy)]
 pub struct Node {
     pub number: u64,
@@ -9,14 +9,14 @@ pub struct Node {
 }
 
 impl Node {
-    /// The head.
+    /// Returns the head.
     pub fn head() -> Node
         ensures { result.number ≡ 0 }
     {
         Node { number: 0 }
     }
 
-    /// The node to which a link word leads.
+    /// Returns the node to which a link word leads.
     pub fn behind(link: u64) -> Node
         ensures { result.number ≡ link / 2 }
     {

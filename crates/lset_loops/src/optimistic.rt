@@ -12,14 +12,14 @@ use lset_optimistic::OptimisticList;
 use lset_rule::{OwnSlots, Pause, Rounds, TableSeat, Words};
 use lset_words::{Call, HEAD, Reply};
 
-/// Where the walk has stopped, and the key word that it saw at `pred`, or 0 at the head.
+/// The place at which the walk has stopped, and the key word that it saw at `pred`, or 0 at the head.
 #[derive(Clone, Copy)]
 pub(crate) struct Stopped {
     pub(crate) found: Found,
     pub(crate) before: u64,
 }
 
-/// Walks from the head, whose link led to `first`, to the first key that is not below that of the call.
+/// Walks from the head, whose link led to `first`, to the first key that is not below the call's.
 #[inline(always)]
 fn walk<P: Pause, N: Rounds>(
     caller: &Caller<OptimisticList, P>,
@@ -47,8 +47,8 @@ fn walk<P: Pause, N: Rounds>(
     None
 }
 
-/// Walks a second time from the head, as far as `pred`. Answers whether it came there: not where it saw a key above that of
-/// `pred`.
+/// Walks a second time from the head, up to `pred`. Returns whether the walk reached `pred`: it fails if it sees a key above that
+/// of `pred`.
 #[inline(always)]
 fn reaches<P: Pause, N: Rounds>(
     caller: &Caller<OptimisticList, P>,
@@ -78,7 +78,7 @@ fn reaches<P: Pause, N: Rounds>(
     None
 }
 
-/// Whether `pred` is still in the list and leads to `curr`, both of which are locked.
+/// Checks that `pred` is still in the list and leads to `curr`. Both are locked.
 fn validate<P: Pause, N: Rounds>(
     caller: &Caller<OptimisticList, P>,
     place: &mut TableSeat,
@@ -98,7 +98,7 @@ fn validate<P: Pause, N: Rounds>(
     Some(true)
 }
 
-/// Does what the call does at the key that was found, between two nodes that it has locked.
+/// Adds, removes or only replies, at the key that the walk has found, between two locked nodes.
 fn act<P: Pause>(
     caller: &Caller<OptimisticList, P>,
     place: &mut TableSeat,
@@ -121,9 +121,9 @@ fn act<P: Pause>(
     }
 }
 
-/// Makes a whole call: it walks to its key without a lock, locks the two nodes there, looks by a second walk whether they
-/// are still neighbours in the list, and acts, or releases them and starts over. (Herlihy and Shavit's optimistic list.)
-/// `None` where a loop of it has made `N::MOST` rounds.
+/// Makes a whole call: walks to the key without a lock, locks the two nodes there, and checks by a second walk that they are
+/// still neighbours in the list. If they are, acts and releases them; else releases them and starts over. (Herlihy and Shavit's
+/// optimistic list.) Returns `None` if one of its loops has made `N::MOST` rounds.
 pub fn optimistic_within<P: Pause, N: Rounds>(
     table: &Words<OptimisticList>,
     place: &mut TableSeat,

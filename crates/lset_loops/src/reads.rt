@@ -28,7 +28,7 @@ impl ReadsByRows for LockFreeList {
     ghost reading = { lock_free_rows.reading };
 }
 
-/// What the link word of the node with the key says: a node without a mark is in the set.
+/// Returns the reply for the link word of the node with the key: an unmarked node is in the set.
 fn reply_by_mark(link: u64) -> Reply
     ensures { result ≡ (if link % 2 == 0 then True else False) }
 {
@@ -39,11 +39,11 @@ fn reply_by_mark(link: u64) -> Reply
     }
 }
 
-/// Makes a whole `contains` of `key`: it goes on to the first key that is not below its own, and asks for the mark of a node
-/// that has it. (Herlihy and Shavit's wait-free `contains`.)
+/// Makes a whole `contains` of `key`: walks to the first key that is not below its own, and checks the mark of the node that has
+/// it. (Herlihy and Shavit's wait-free `contains`.)
 ///
-/// `place` is the place of an idle seat of these words, and `slots` are those of its thread. The answer is the slots and the
-/// reply. `pause` is asked after each step that does not answer. It does not block, and returns.
+/// `place` is an idle seat of these words, and `slots` are the slots of its thread. Returns the slots and the reply. `pause` is
+/// called after each step that does not end the call. Does not block, and always returns.
 pub fn contains_on<M: ReadsByRows, P: Pause>(
     table: &Words<M>,
     place: &mut TableSeat,
@@ -73,7 +73,7 @@ pub fn contains_on<M: ReadsByRows, P: Pause>(
     }
 }
 
-/// Asks nobody between two steps.
+/// A pause that does nothing.
 #[derive(Drop)]
 struct Unasked;
 
@@ -83,7 +83,7 @@ impl Pause for Unasked {
     fn failed(&self, _thread: u32) {}
 }
 
-/// The same with no pause.
+/// Makes a whole `contains` of `key`, as [`contains_on`] does, without a pause.
 pub fn contains_now_on<M: ReadsByRows>(
     table: &Words<M>,
     place: &mut TableSeat,

@@ -1,4 +1,4 @@
-//! The steps of a call under way. Each is the step of the row of the list's table at which the seat's view stands.
+//! The steps of a pending call. Each must be the step of the call's current row.
 ghost use Rattle.std.specs.Prelude.{◌≡◌, ◌≢◌, ℕ, ◌+◌, None, IfSome};
 ghost use Rattle.lset_words.specs.Words.{key_index, link_index, lock_index};
 ghost use Rattle.lset_steps.specs.ReadRows.{continued};
@@ -16,13 +16,13 @@ use lset_steps::{Action, Machine};
 use std::marker::Brand;
 
 impl<'a, M: Machine, P: Pause> Caller<'a, M, P> {
-    /// Asks the pause, after a step that did not answer. A step that never answers does so itself.
+    /// Calls the pause after a step that could have ended the call and did not. All other steps call the pause themselves.
     #[inline(always)]
     pub fn goes_on(&self) {
         self.pause.moved(self.slots.thread);
     }
 
-    /// Loads a word by which the call may answer. Where it goes on, the loop asks the pause.
+    /// Loads a word. The call can end with this step; if it continues, the loop calls the pause.
     #[inline(always)]
     fn look_at(&self, place: &mut TableSeat, part: Part) -> u64
         requires { MayAnswer M.table self.now.origin (Load (index_of part)) place.old }
@@ -32,7 +32,7 @@ impl<'a, M: Machine, P: Pause> Caller<'a, M, P> {
         step_on::<M>(self.table, place, Action::Load(part.index()))
     }
 
-    /// Loads the key word of a node, by which the call may answer. Where it goes on, the loop asks the pause.
+    /// Loads the key word of a node. The call can end with this step; if it continues, the loop calls the pause.
     #[inline(always)]
     pub fn look_at_key(&self, place: &mut TableSeat, node: Node) -> u64
         requires { MayAnswer M.table self.now.origin (Load (key_index node.number)) place.old }
@@ -42,7 +42,7 @@ impl<'a, M: Machine, P: Pause> Caller<'a, M, P> {
         self.look_at(place, Part::Key(node))
     }
 
-    /// Loads the link word of a node, by which the call may answer. Where it goes on, the loop asks the pause.
+    /// Loads the link word of a node. The call can end with this step; if it continues, the loop calls the pause.
     #[inline(always)]
     pub fn look_at_link(&self, place: &mut TableSeat, node: Node) -> u64
         requires { MayAnswer M.table self.now.origin (Load (link_index node.number)) place.old }
@@ -87,7 +87,7 @@ impl<'a, M: Machine, P: Pause> Caller<'a, M, P> {
         self.goes_on();
     }
 
-    /// Writes the key word of a node.
+    /// Stores the key word of a node.
     pub fn store_key(&self, place: &mut TableSeat, node: Node, key: u64)
         requires { MayStep M.table self.now.origin (Store (key_index node.number) key) place.old }
         ensures { HasStepped M.table self.now.origin place.old key place.new }
@@ -95,7 +95,7 @@ impl<'a, M: Machine, P: Pause> Caller<'a, M, P> {
         self.store(place, Part::Key(node), key);
     }
 
-    /// Writes the link of a node.
+    /// Stores the link of a node.
     pub fn store_link(&self, place: &mut TableSeat, node: Node, link: Link)
         requires { MayStep M.table self.now.origin (Store (link_index node.number) (word_of link)) place.old }
         ensures { HasStepped M.table self.now.origin place.old (word_of link) place.new }
@@ -103,7 +103,7 @@ impl<'a, M: Machine, P: Pause> Caller<'a, M, P> {
         self.store(place, Part::Link(node), link.word());
     }
 
-    /// Gives the lock of a node back.
+    /// Releases the lock of a node.
     pub fn unlock(&self, place: &mut TableSeat, node: Node)
         requires { MayStep M.table self.now.origin (Store (lock_index node.number) 0) place.old }
         ensures { HasStepped M.table self.now.origin place.old 0 place.new }
@@ -111,7 +111,7 @@ impl<'a, M: Machine, P: Pause> Caller<'a, M, P> {
         self.store(place, Part::Lock(node), 0);
     }
 
-    /// Gives the link of a node the value `new` if it has the value `old`, as the last step of a call, and answers what it saw.
+    /// Exchanges the link of a node from `old` to `new`, as the last step of a call. Returns the value that the link had.
     #[inline(always)]
     pub fn exchange_last(&self, place: &mut TableSeat, node: Node, old: Link, new: Link) -> u64
         requires { MayAnswer M.table self.now.origin (Exchange (link_index node.number) (word_of old) (word_of new)) place.old }
@@ -122,8 +122,8 @@ impl<'a, M: Machine, P: Pause> Caller<'a, M, P> {
         step_on::<M>(self.table, place, action)
     }
 
-    /// Gives the link of a node the value `new` if it has the value `old`, and answers whether it did. The call may answer by it;
-    /// where it goes on although the exchange was made, the loop asks the pause.
+    /// Exchanges the link of a node from `old` to `new`, and returns whether it did. The call can end with this step. If the
+    /// exchange was made and the call continues, the loop calls the pause.
     #[inline(always)]
     pub fn exchange(&self, place: &mut TableSeat, node: Node, old: Link, new: Link) -> bool
         requires { MayAnswer M.table self.now.origin (Exchange (link_index node.number) (word_of old) (word_of new)) place.old }
@@ -136,7 +136,7 @@ impl<'a, M: Machine, P: Pause> Caller<'a, M, P> {
         true
     }
 
-    /// Tries the lock in this word again, until the thread has it or `N::MOST` tries have failed: then the answer is `None`.
+    /// Attempts to take the lock in this word until the thread has it. Returns `None` after `N::MOST` failed attempts.
     #[inline(never)]
     fn wait_for<N: Rounds>(&self, place: &mut TableSeat, word: u64) -> Option<()>
         requires { MayLock M.table self.now.origin word self.now.slots.thread place.old }
@@ -154,7 +154,7 @@ impl<'a, M: Machine, P: Pause> Caller<'a, M, P> {
         None
     }
 
-    /// Takes the lock in this word. `None` where one try and `N::MOST` more have failed.
+    /// Takes the lock in this word. Returns `None` after one failed attempt and `N::MOST` further ones.
     #[inline(always)]
     fn take<N: Rounds>(&self, place: &mut TableSeat, word: u64) -> Option<()>
         requires { MayLock M.table self.now.origin word self.now.slots.thread place.old }
@@ -171,7 +171,7 @@ impl<'a, M: Machine, P: Pause> Caller<'a, M, P> {
         Some(())
     }
 
-    /// Takes the lock of a node. `None` where one try and `N::MOST` more have failed.
+    /// Takes the lock of a node. Returns `None` after one failed attempt and `N::MOST` further ones.
     #[inline(always)]
     pub fn lock<N: Rounds>(&self, place: &mut TableSeat, node: Node) -> Option<()>
         requires { MayLock M.table self.now.origin (lock_index node.number) self.now.slots.thread place.old }
@@ -180,7 +180,7 @@ impl<'a, M: Machine, P: Pause> Caller<'a, M, P> {
         self.take::<N>(place, Part::Lock(node).index())
     }
 
-    /// Begins the call with the taking of the lock in this word. `None` where one try and `N::MOST` more have failed.
+    /// Begins the call by taking the lock in this word. Returns `None` after one failed attempt and `N::MOST` further ones.
     pub fn begin_locked<N: Rounds>(&self, place: &mut TableSeat, word: u64) -> Option<()>
         requires begins { MayBegin M.table self.now.origin self.now.slots place.old }
         requires acts { Exchange word 0 (self.now.slots.thread + 1) ≡ M.table.next (first M.table self.now.origin self.now.slots) }
@@ -200,7 +200,7 @@ impl<'a, M: Machine, P: Pause> Caller<'a, M, P> {
         Some(())
     }
 
-    /// Begins the call with the load of the head's link.
+    /// Begins the call by loading the head's link.
     pub fn begin_at_head(&self, place: &mut TableSeat) -> u64
         requires begins { MayBegin M.table self.now.origin self.now.slots place.old }
         requires acts { Load (link_index 0) ≡ M.table.next (first M.table self.now.origin self.now.slots) }
@@ -213,7 +213,7 @@ impl<'a, M: Machine, P: Pause> Caller<'a, M, P> {
         seen
     }
 
-    /// Gives the lock in this word back, with which the call answers.
+    /// Releases the lock in this word, as the last step of the call.
     pub fn release_last(&self, place: &mut TableSeat, word: u64)
         requires { MayAnswer M.table self.now.origin (Store word 0) place.old }
         ensures { HasTold M.table self.now.origin place.old 0 place.new }
@@ -221,7 +221,7 @@ impl<'a, M: Machine, P: Pause> Caller<'a, M, P> {
         step_on::<M>(self.table, place, Action::Store(word, 0));
     }
 
-    /// Gives the lock of a node back, with which the call answers.
+    /// Releases the lock of a node, as the last step of the call.
     pub fn unlock_last(&self, place: &mut TableSeat, node: Node)
         requires { MayAnswer M.table self.now.origin (Store (lock_index node.number) 0) place.old }
         ensures { HasTold M.table self.now.origin place.old 0 place.new }

@@ -12,7 +12,7 @@ use Rattle.lset_steps.specs.declared.rows.Targets.{Targets}
 use Rattle.lset_steps.specs.Steps.{Table}
 use Rattle.lset_steps.specs.Rows.{own_slot, begun, decided_on}
 
--- the rows to which a call goes on from its decision
+-- The rows at which a call continues after its decision.
 abbrev pub targets : Targets
 targets = record { adds = 9; removes = 12; leaves = 14 }
 
@@ -34,30 +34,30 @@ next_action l =
     else if l.pc == 14 then Store (lock_index l.pred) 0
     else Store (lock_index l.curr) 0
 
--- where the walk sees the key word of curr
+-- The row after the key word of curr: the walk continues while the word is below the call's key; then the call takes the locks.
 abbrev pub at_key : ℕ → Local → Local
 at_key seen l = if nat_lt seen (target l.call) then record l { pc = 3; ckey = seen } else record l { pc = 4; ckey = seen }
 
--- with both locks taken: the second walk begins at the head
+-- The row after both locks are taken: the second walk begins at the head.
 abbrev pub at_locks : Local → Local
 at_locks l = if l.pred == 0 then record l { pc = 8; node = 0 } else record l { pc = 6; node = 0 }
 
--- if validation fails: both locks are released, and there is no reply
+-- The row after a failed validation: both locks are released, and there is no reply.
 abbrev pub gives_up : Local → Local
 gives_up l = record l { pc = 14; reply = None }
 
--- where the second walk sees the key word of node
+-- The row after the key word of node: validation fails above the key of pred, and the walk ends at pred.
 abbrev pub at_node : ℕ → Local → Local
 at_node seen l =
     if nat_lt l.pkey seen then gives_up l
     else if l.node == l.pred then record l { pc = 8 }
     else record l { pc = 6 }
 
--- where the second walk has reached pred, and sees its link
+-- The row after the link of pred, which the second walk has reached: the call decides if the link leads to curr.
 abbrev pub at_link : ℕ → Local → Local
 at_link seen l = if seen / 2 == l.curr then decided_on targets l.ckey l else gives_up l
 
--- where both locks are released: a call without a reply begins again
+-- The row after both locks are released: a call without a reply starts again.
 abbrev pub at_end : Option Reply → Local → Local
 at_end None l = record l { pc = 1 }
 at_end (Some reply) l = record l { pc = 0 }

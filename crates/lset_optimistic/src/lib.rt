@@ -1,5 +1,4 @@
-//! OptimisticList: a walk without locks, two node locks, and a second walk that validates (Herlihy and Shavit's
-//! optimistic list).
+//! OptimisticList: a walk without locks, two node locks, and a second walk that validates (Herlihy and Shavit's optimistic list).
 #![tactic(auto)]
 
 ghost use Rattle.std.specs.Prelude.{◌≡◌, ◌/◌};
@@ -28,20 +27,20 @@ use lset_steps::rows::{
 use lset_steps::{Action, Fed, Local, Machine};
 use lset_words::{Call, HEAD, Key, Kind, Reply};
 
-/// The list that walks without locks, locks the two nodes at which the walk ended, and walks a second time from the head to
-/// see that the first of them is still in the chain and leads to the other (Herlihy and Shavit's optimistic list).
+/// The list that walks without locks and then locks the two nodes at which the walk ended. A second walk from the head checks
+/// that the first of them is still in the chain and leads to the second (Herlihy and Shavit's optimistic list).
 #[derive(Clone, Copy)]
 pub struct OptimisticList;
 
-/// The rows to which a call goes on from its decision.
+/// The rows at which a call continues after its decision.
 const TARGETS: Targets = Targets {
     adds: 9,
     removes: 12,
     leaves: 14,
 };
 
-/// Returns the next step of a thread with a pending call, by its row of the table. Its numbers must be small, as those of
-/// every run are.
+/// Returns the next step of a thread with a pending call, by its row of the table. Its numbers must be small; they are in every
+/// run.
 #[inline(always)]
 pub fn next_action(local: &Local) -> Action
     requires { IsSmall local.now }
@@ -65,7 +64,7 @@ pub fn next_action(local: &Local) -> Action
     }
 }
 
-/// Comes to the node that the link of `pred`, with the key word `pkey`, leads to.
+/// Returns the thread's state after the walk moves on from `pred`, whose key word is `pkey`, to the node that `link` leads to.
 #[inline(always)]
 fn walks_on(local: &Local, pred: u64, pkey: u64, link: u64) -> Local
     ensures { result ≡ record local.now { pc = 2; pred = pred; pkey = pkey; curr = link / 2 } }
@@ -79,7 +78,8 @@ fn walks_on(local: &Local, pred: u64, pkey: u64, link: u64) -> Local
     }
 }
 
-/// Walks on if the key word is below that of the call, else goes to take the locks.
+/// Returns the thread's state after it reads a key word: the walk continues if the word is below the call's key, else the call
+/// takes the locks.
 #[inline(always)]
 fn at_key(local: &Local, seen: u64) -> Local
     ensures { result ≡ at_key seen local.now }
@@ -92,7 +92,7 @@ fn at_key(local: &Local, seen: u64) -> Local
     }
 }
 
-/// Begins the second walk at the head; it ends there if the first one went no further.
+/// Returns the thread's state at the start of the second walk, at the head. If pred is the head, the walk has arrived.
 #[inline(always)]
 fn at_locks(local: &Local) -> Local
     ensures { result ≡ at_locks local.now }
@@ -105,7 +105,7 @@ fn at_locks(local: &Local) -> Local
     }
 }
 
-/// Gives both locks back without a reply.
+/// Returns the thread's state after a failed validation: it releases both locks and has no reply.
 #[inline(always)]
 fn gives_up(local: &Local) -> Local
     ensures { result ≡ gives_up local.now }
@@ -117,7 +117,8 @@ fn gives_up(local: &Local) -> Local
     }
 }
 
-/// Ends the second walk: it fails if it is past the first one, and succeeds if it is at the same node.
+/// Returns the thread's state after the second walk reads a key word. The walk fails if it has passed the first walk's node, and
+/// succeeds if it has reached that node.
 #[inline(always)]
 fn at_node(local: &Local, seen: u64) -> Local
     ensures { result ≡ at_node seen local.now }
@@ -131,7 +132,8 @@ fn at_node(local: &Local, seen: u64) -> Local
     }
 }
 
-/// Decides if the two nodes are still neighbours.
+/// Returns the thread's state after it reads the link of pred: the call decides if the link still leads to curr, else validation
+/// fails.
 #[inline(always)]
 fn at_link(local: &Local, seen: u64) -> Local
     ensures { result ≡ at_link seen local.now }
@@ -143,7 +145,7 @@ fn at_link(local: &Local, seen: u64) -> Local
     }
 }
 
-/// Begins again if there is no reply.
+/// Returns the thread's state after it releases its last lock: a call without a reply starts again.
 #[inline(always)]
 fn at_end(local: &Local) -> Local
     ensures { result ≡ at_end local.now.reply local.now }
@@ -197,7 +199,7 @@ fn local_after(local: &Local, seen: u64) -> Local
     }
 }
 
-/// Returns the thread's state after its next step, in which it saw `seen`, and the reply if the step ends the call.
+/// Returns the thread's state after its next step, which saw `seen`, and the reply if the step ends the call.
 #[inline(always)]
 pub fn fed_by(local: &Local, seen: u64) -> Fed
     requires { IsSmall local.now }
@@ -210,7 +212,7 @@ pub fn fed_by(local: &Local, seen: u64) -> Fed
     }
 }
 
-/// Returns the key that the thread's next step adds (`true`) or removes (`false`); `None` if it does not change the set.
+/// Returns the key that the thread's next step adds (`true`) or removes (`false`); `None` if the step does not change the set.
 #[inline(always)]
 pub fn effect_of(local: &Local, _seen: u64) -> Option<(Key, bool)>
     ensures { result ≡ effect_of local.now _seen }

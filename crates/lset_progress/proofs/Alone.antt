@@ -1,4 +1,4 @@
--- A call of which each step, made alone, ends it or comes nearer to its end, ends alone.
+-- Proof: a call ends alone if each of its steps, made alone, ends the call or brings it nearer to its end.
 use Rattle.std.specs.Prelude.{◌≡◌, ℕ, ◌<◌, ◌≤◌, ◌⊎◌, if◌then◌else◌, ◌==◌, length, refl}
 use Rattle.std.proofs.Common.{arith, inl, inr, sym, ◌∙◌, ap, subst, zero, suc}
 use Rattle.lset_words.proofs.Numbers.{if_same, if_other}
@@ -10,7 +10,7 @@ use Rattle.lset_steps.specs.Laws.{Lawful}
 use Rattle.lset_steps.proofs.MoreEvents.{state_agree}
 use Rattle.lset_progress.specs.Progress.{IsPending, Answers, EndsAlone}
 
--- the run that goes on by a step of t after k events
+-- The run of k events, extended by a step of t.
 abbrev pub then_go : (ℕ → Event) → ℕ → ℕ → ℕ → Event
 then_go es k t j = if j == k then Go t else es j
 
@@ -39,14 +39,14 @@ module _ (T : Table) (op : Opening) (es : ℕ → Event) (k t : ℕ) where
     ];
   }
 
--- a stage of a call, with so many steps to its end at most
+-- A stage of a call: at most this many steps remain.
 abbrev pub Stages : Type 1
 Stages = Sizes → State → ℕ → ℕ → Type 0
 
 pub record Nears (T : Table) (Stage : Stages) : Type 0 where
   pub some : (sz : Sizes) (s : State) (t : ℕ) → Stage sz s t 0 → ⊥
   pub pending : (sz : Sizes) (s : State) (t n : ℕ) → Stage sz s t n → IsPending s t
-  -- a step of t at the moment k of a run
+  -- A step of t at moment k of a run.
   pub steps : (op : Opening) (es : ℕ → Event) (k t n : ℕ) → Run T op es (suc k) → es k ≡ Go t → t < op.threads
       → Stage (sizes op) (state_at T op es k) t (suc n)
       → Answers T (state_at T op es k) t ⊎ Stage (sizes op) (after T (state_at T op es k) (Go t)) t n

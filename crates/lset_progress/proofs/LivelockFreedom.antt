@@ -1,5 +1,6 @@
--- That a list with locks is free from livelock, from its rows. A store of another word than a lock comes behind a decision, from
--- where a call makes 5 steps at most; between two such stores each thread has the steps of its call as it runs alone.
+-- Proof: a list with locks is free from livelock, given its rows. A store to a word other than a lock comes after a decision,
+-- after which a call makes at most 5 steps. Between two such stores each thread makes at most the steps of a call that runs
+-- alone.
 use Rattle.std.specs.Prelude.{◌≡◌, ◌≢◌, ℕ, ◌+◌, ◌*◌, ◌%◌, ◌<◌, ◌≤◌, ◌⊎◌, List, if◌then◌else◌, ◌==◌, nat_lt, true, false, refl}
 use Rattle.std.specs.Prelude.{slice_index, slice_set}
 use Rattle.std.proofs.Common.{arith, inl, inr, sym, ◌∙◌, ap, subst, suc}
@@ -29,8 +30,8 @@ is_lock_test x (inr (i, e)) =
     if_other x 0 (omega arith) true (if nat_lt x 5 then false else if x % 3 == 2 then true else false)
     ∙ if_not_below x 5 (omega arith) false (if x % 3 == 2 then true else false) ∙ if_same (x % 3) 2 (omega arith) true false
 
--- WHAT A LIST SHOWS of the calls whose steps count: they are those that hold locks and change the list, and the others only read;
--- and none of their steps, if it is no failed try of a lock, asks more of the words than holds
+-- The obligations of a list for the calls that count: they are the calls that hold locks and change the list, and all others only
+-- read. If a step of such a call is not a failed attempt to take a lock, the words satisfy the condition of the step.
 pub record Counts (T : Table) (S : Shape) (calls : Call → ℕ) : Type 0 where
   pub one_or_none : (c : Call) → (calls c ≡ 0) ⊎ (calls c ≡ 1)
   pub late : (op : Opening) (last k t : ℕ) (es : ℕ → Event) → Run T op es last → k ≤ last → t < op.threads
@@ -47,15 +48,15 @@ pub record Counts (T : Table) (S : Shape) (calls : Call → ℕ) : Type 0 where
 
 module _ (T : Table) (law : Lawful T) (S : Shape) (most : Sizes → ℕ) (shows : Shows T S most) (calls : Call → ℕ)
     (counts : Counts T S calls) where
-  -- WHAT A THREAD HAS LEFT: of a call that counts, and whoever is to begin one the most
+  -- The time of a thread: the remaining steps of a call that counts; the maximum if the thread is still to begin such a call.
   abbrev Fits : Sizes → List ℕ → ℕ → Local → Type 0
   Fits sz ws m l = (most sz ≤ m) ⊎ ((l.pc ≢ 0) × (calls l.call ≡ 1) × Timed S (node_count sz) ws m l)
 
-  -- and the steps behind its decision
+  -- The steps that the thread can still make after its decision.
   abbrev Owes : ℕ → Local → Type 0
   Owes m l = (5 ≤ m) ⊎ LateBy S m l
 
-  -- what a store may cost the threads
+  -- The number of steps that one store can cost the threads.
   abbrev price : Sizes → ℕ
   price sz = sz.threads * most sz
 
@@ -66,7 +67,7 @@ module _ (T : Table) (law : Lawful T) (S : Shape) (most : Sizes → ℕ) (shows 
     owes : (u : ℕ) → u < sz.threads → Owes (stores u) (local_of s u)
     within : price sz * total stores sz.threads + total time sz.threads ≤ p
 
-  -- where each thread has as much left as before, nothing is lost
+  -- If each thread has the same time as before, the potential does not rise.
   same_phase : (sz : Sizes) (s s' : State) (p : ℕ) (f : Phase sz s p)
       → ((u : ℕ) → u < sz.threads → Fits sz s'.words (f.time u) (local_of s' u) × Owes (f.stores u) (local_of s' u))
       → Phase sz s' p
@@ -78,7 +79,7 @@ module _ (T : Table) (law : Lawful T) (S : Shape) (most : Sizes → ℕ) (shows 
     within = f.within;
   }
 
-  -- AT A BEGIN
+  -- Beginning a call keeps the potential.
   begins : (sz : Sizes) (s : State) (t : ℕ) (c : Call) → Enabled s (Begin t c) → (p : ℕ) → Phase sz s p
       → Phase sz (after T s (Begin t c)) p
   begins sz s t c en p f = same_phase sz s (after T s (Begin t c)) p f (λ u un. elim (same_or_not u t) [
@@ -91,7 +92,7 @@ module _ (T : Table) (law : Lawful T) (S : Shape) (most : Sizes → ℕ) (shows 
         (sym (put_other s t u (T.begin c (local_of s t)) y)) (f.times u un, f.owes u un)
   ])
 
-  -- AT A STEP that ends no call that counts, as much is lost as counts
+  -- A step that does not end a call that counts lowers the potential by as much as it counts.
   module _ (op : Opening) (last k : ℕ) (es : ℕ → Event) (r : Run T op es last) (below : k < last) (t : ℕ) (ee : es k ≡ Go t)
       (en : Enabled (state_at T op es k) (Go t)) (p : ℕ) (f : Phase (sizes op) (state_at T op es k) p) where
     abbrev s : State
@@ -125,7 +126,7 @@ module _ (T : Table) (law : Lawful T) (S : Shape) (most : Sizes → ℕ) (shows 
     abbrev Later : Type 0
     Later = (p' : ℕ) × (p' + moves calls T s (Go t) ≤ p) × Phase (sizes op) s' p'
 
-    -- a failed try leaves everything as it is
+    -- A failed attempt to take a lock changes nothing.
     module _ (w from to : ℕ) (acts : T.next L ≡ Exchange w from to) (y : Row (Exchange w from to))
         (held : slice_index s.words w ≢ 0) where
       not_from : slice_index (state_at T op es k).words w ≢ from
@@ -156,7 +157,7 @@ module _ (T : Table) (law : Lawful T) (S : Shape) (most : Sizes → ℕ) (shows 
             × Owes (f.stores u) l) (sym (local_stays u)) (f.times u un, f.owes u un))),
       )
 
-    -- any other step
+    -- A step that is not a failed attempt to take a lock.
     module _ (free : IsFree s.words (T.next L)) where
       weighs : (a : Action) → IsFree (state_at T op es k).words a → Row a
           → unless_failed (state_at T op es k).words a (calls (local_of (state_at T op es k) t).call)
@@ -183,7 +184,7 @@ module _ (T : Table) (law : Lawful T) (S : Shape) (most : Sizes → ℕ) (shows 
         timed_same S (node_count (sizes op)) s.words s'.words m l same.0 same.1 h.2,
       )
 
-      -- of a call that does not count
+      -- A step of a call that does not count.
       module _ (none : calls L.call ≡ 0) where
         not_late : S.late L → ⊥
         not_late h = let one : calls L.call ≡ 1 = counts.late op last k t es r (omega arith) tn h in omega arith
@@ -205,10 +206,10 @@ module _ (T : Table) (law : Lawful T) (S : Shape) (most : Sizes → ℕ) (shows 
           ]),
         )
 
-      -- of one that does: with n steps left
+      -- A step of a call that counts, with n steps left.
       module _ (one : calls L.call ≡ 1) (n : ℕ) (is : f.time t ≡ suc n)
           (time : Timed S (node_count (sizes op)) s.words (suc n) L) where
-        -- each thread has its whole time again
+        -- The other threads have their whole time again.
         abbrev again : ℕ → ℕ
         again = put (λ u. most (sizes op)) t n
 
@@ -236,7 +237,7 @@ module _ (T : Table) (law : Lawful T) (S : Shape) (most : Sizes → ℕ) (shows 
                 (subst (λ m. Owes m (local_of s u)) (sym (others u y)) (f.owes u un))
           ]
 
-          -- keys and links stay
+          -- Case: keys and links do not change.
           quiet : Kept → Later
           quiet same =
               let fewer : total (put f.time t n) op.threads + 1 ≤ total f.time op.threads =
@@ -262,7 +263,7 @@ module _ (T : Table) (law : Lawful T) (S : Shape) (most : Sizes → ℕ) (shows 
                 },
               )
 
-          -- or the step is one behind a decision
+          -- Case: the step is one after a decision.
           stores_on : LateBy S 5 L → (m : ℕ) → f.stores t ≡ suc m → S.left 0 (λ a. 0) L < suc m → Later
           stores_on x m e few =
               let fewer : total (put f.stores t m) op.threads + 1 ≤ total f.stores op.threads =
@@ -348,7 +349,7 @@ module _ (T : Table) (law : Lawful T) (S : Shape) (most : Sizes → ℕ) (shows 
     goes_down : EndsNow ⊎ Later
     goes_down = by_action (T.next L) refl (row T law S most shows op last k t es r (omega arith) tn en.1)
 
-  -- A RUN
+  -- ---- a run
   module _ (op : Opening) (last : ℕ) (es : ℕ → Event) (r : Run T op es last) where
     one_event : (k p : ℕ) → k < last → Phase (sizes op) (state_at T op es k) p → (e : Event) → es k ≡ e
         → Enabled (state_at T op es k) e → Then T (moves calls T) op es (Phase (sizes op)) k p e
@@ -386,7 +387,7 @@ module _ (T : Table) (law : Lawful T) (S : Shape) (most : Sizes → ℕ) (shows 
       (λ j p l f. one_event op (k + n) es r j p l f (es j) refl (r.enabled j l)) (none_left op (k + n) es r (some (sizes op)))
       n k (lock_window most (sizes op)) (omega arith) (starts op (k + n) es r k) h
 
--- all calls count where no step asks anything of the words
+-- All calls count if no step needs anything of the words.
 pub each_counts : (T : Table) (S : Shape) → ((ws : List ℕ) (l : Local) → S.calm ws l) → Counts T S (λ call. 1)
 each_counts T S calm = record {
   one_or_none = λ call. inr refl;

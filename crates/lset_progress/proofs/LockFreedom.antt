@@ -1,5 +1,5 @@
--- That LockFreeList is lock-free. While no call ends, no node is put in, so that each thread marks at most one node, and each
--- node is taken out at most once; between two such exchanges each thread has the steps of its walk and of one more.
+-- Proof: LockFreeList is lock-free. While no call ends, no node is added; therefore each thread marks at most one node, and each
+-- node is unlinked at most once. Between two such exchanges each thread makes at most the steps of its walk and of one more walk.
 use Rattle.std.specs.Prelude.{◌≡◌, ◌≢◌, ℕ, ◌+◌, ◌*◌, ◌%◌, ◌<◌, ◌≤◌, ◌⊎◌, Bool, true, List, if◌then◌else◌, ◌==◌, refl}
 use Rattle.std.proofs.Common.{arith, inl, inr, sym, ◌∙◌, ap, subst, suc}
 use Rattle.lset_words.proofs.Numbers.{same_or_not, if_same, if_other}
@@ -32,19 +32,19 @@ use Rattle.lset_progress.proofs.RowsWithLocks.{no_time, timed_more}
 use Rattle.lset_progress.proofs.StepTotals.{total, total_less, total_all, total_at, total_step, one_price, put, put_this, put_that}
 use Rattle.lset_progress.proofs.Windows.{Then, some_ends, counted_or_not}
 
--- WHAT A THREAD HAS LEFT: a call that counts its walk, and one more where others have disturbed it; and whoever is to begin such
--- a call the most
+-- The time of a thread: for a call that counts, the steps of its walk, and of one more walk if other threads have disturbed it;
+-- the maximum if the thread is still to begin such a call.
 abbrev Fits : Bool → Sizes → (ℕ → ℕ) → List ℕ → ℕ → Local → Type 0
 Fits reads sz key ws m l = (lock_free_steps sz ≤ m)
     ⊎ ((l.pc ≢ 0) × (counted reads l.call ≡ 1) × Timed (node_count sz) key ws m l)
 
--- what an exchange that succeeds may cost the threads
+-- The number of steps that one successful exchange can cost the threads.
 abbrev price : Sizes → ℕ
 price sz = sz.threads * round (node_count sz)
 
 record Phase (reads : Bool) (sz : Sizes) (s : State) (p : ℕ) : Type 0 where
   key : ℕ → ℕ
-  -- what each thread has left, 1 for each that may yet mark a node, and 1 for each node that may yet be taken out
+  -- The time of each thread; 1 for each thread that can still mark a node; and 1 for each node that can still be unlinked.
   time : ℕ → ℕ
   may_mark : ℕ → ℕ
   may_leave : ℕ → ℕ
@@ -64,7 +64,7 @@ update_counts : (reads : Bool) (c : Call) → IsUpdate c → counted reads c ≡
 update_counts reads c (inl x) = subst (λ z. counted reads z ≡ 1) (sym x.1) refl
 update_counts reads c (inr x) = subst (λ z. counted reads z ≡ 1) (sym x.1) refl
 
--- WHAT THE STEPS OF THE OTHERS LEAVE of a thread's time
+-- ---- a thread's time after a step of another thread
 module _ (reads : Bool) (sz : Sizes) (s s' : State) (done : Bool) (l : Local) (x : Quiet (view_of sz s) (view_of sz s'))
     (place : Place (view_of sz s) done l) where
   valid_on : (IsCeiling l.call → ⊥) → Valid (node_link s.words) l → Valid (node_link s'.words) l
@@ -76,7 +76,7 @@ module _ (reads : Bool) (sz : Sizes) (s s' : State) (done : Bool) (l : Local) (x
     along = λ h. absurd (other (ceiling_at_marks place h));
   }
 
-  -- no published node has changed,
+  -- No published node has changed.
   fits_on : (key : ℕ → ℕ) (m : ℕ) → Fits reads sz key s.words m l → Fits reads sz key s'.words m l
   fits_on key m (inl h) = inl h
   fits_on key m (inr f) = inr (
@@ -88,7 +88,7 @@ module _ (reads : Bool) (sz : Sizes) (s s' : State) (done : Bool) (l : Local) (x
     ],
   )
 
--- or some have
+-- Published nodes have changed: the thread needs at most one more walk.
 fits_later : (reads : Bool) (sz : Sizes) (key : ℕ → ℕ) (ws ws' : List ℕ) (m : ℕ) (l : Local) → Fits reads sz key ws m l
     → Fits reads sz key ws' (m + round (node_count sz)) l
 fits_later reads sz key ws ws' m l (inl h) = inl (omega arith)
@@ -101,7 +101,7 @@ fits_later reads sz key ws ws' m l (inr f) = inr (
   ],
 )
 
--- AT A BEGIN nothing is lost
+-- Beginning a call keeps the potential.
 module _ (reads : Bool) (op : Opening) (last k : ℕ) (es : ℕ → Event) (r : Run lock_free op es last) (upto : k ≤ last) (t : ℕ)
     (c : Call)
     (en : Enabled (state_at lock_free op es k) (Begin t c)) (p : ℕ)
@@ -148,7 +148,7 @@ module _ (reads : Bool) (op : Opening) (last k : ℕ) (es : ℕ → Event) (r : 
     within = f.within;
   }
 
--- AT A STEP that ends no call that counts, as much is lost as counts
+-- A step that does not end a call that counts lowers the potential by as much as it counts.
 module _ (reads : Bool) (op : Opening) (last k : ℕ) (es : ℕ → Event) (r : Run lock_free op es last) (below : k < last) (t : ℕ)
     (en : Enabled (state_at lock_free op es k) (Go t)) (p : ℕ) (f : Phase reads (sizes op) (state_at lock_free op es k) p) where
   abbrev S : State
@@ -178,7 +178,7 @@ module _ (reads : Bool) (op : Opening) (last k : ℕ) (es : ℕ → Event) (r : 
   abbrev EndsNow : Type 0
   EndsNow = Answers lock_free S t × (counted reads (local_of S t).call ≡ 1)
 
-  -- what thread t has left
+  -- The time of thread t after its step.
   record Own : Type 0 where
     left_now : ℕ
     less : left_now + counted reads (local_of S t).call ≤ f.time t
@@ -223,7 +223,7 @@ module _ (reads : Bool) (op : Opening) (last k : ℕ) (es : ℕ → Event) (r : 
   Later = (p' : ℕ) × (p' + counted reads (local_of S t).call ≤ p) × Phase reads (sizes op) S' p'
 
   module _ (o : Own) (x : Stepped V W (local_of S' t)) (marked : (local_of S t).pc ≢ 10) where
-    -- the others have so many steps more
+    -- The time of each thread after the step: all threads but t have this many more steps.
     abbrev time_then : ℕ → ℕ → ℕ
     time_then more u = if u == t then o.left_now else f.time u + more
 
@@ -258,7 +258,7 @@ module _ (reads : Bool) (op : Opening) (last k : ℕ) (es : ℕ → Event) (r : 
     disturbed : (u : ℕ) → u < op.threads → u ≢ t → Fits reads (sizes op) f.key S'.words (f.time u + round size) (local_of S u)
     disturbed u un d = fits_later reads (sizes op) f.key S.words S'.words (f.time u) (local_of S u) (f.times u un)
 
-    -- with so many marks and nodes left
+    -- The potential after the step, with this many marks and nodes left.
     later : (more : ℕ) (mark leave : ℕ → ℕ)
         → price (sizes op) * (total leave size + total mark op.threads) + total (time_then more) op.threads
         + counted reads (local_of S t).call ≤ p
@@ -293,7 +293,7 @@ module _ (reads : Bool) (op : Opening) (last k : ℕ) (es : ℕ → Event) (r : 
         markers_then
         (λ a an ia. f.nodes a an (quiet_keeps W V (quiet-ordered V W i.memory.ordered q) (quiet_back V W q) a ia))
 
-    -- an exchange that succeeds is paid for by one mark or node less
+    -- A successful exchange uses up one mark or one node.
     disturbs : (mark leave : ℕ → ℕ) → total leave size + total mark op.threads + 1 ≤ total f.may_leave size + total f.may_mark
         op.threads
         → ((u : ℕ) → u < op.threads → (local_of S' u).pc ≢ 10 → mark u ≡ 1)
@@ -349,7 +349,7 @@ module _ (reads : Bool) (op : Opening) (last k : ℕ) (es : ℕ → Event) (r : 
     ]
   ]
 
--- A RUN of which so many steps count
+-- A run with this many counted steps.
 module _ (reads : Bool) (op : Opening) (last : ℕ) (es : ℕ → Event) (r : Run lock_free op es last) where
   abbrev Event' : ℕ → ℕ → Event → Type 0
   Event' k p e = Then lock_free (steps_of reads) op es (Phase reads (sizes op)) k p e

@@ -1,4 +1,4 @@
--- What is known of a thread with a call at a moment of a run: with this each list looks at its rows.
+-- The knowledge of a thread with a pending call at a moment of a run. Each list proves its rows from it.
 use Rattle.std.specs.Prelude.{◌≡◌, ◌≢◌, ℕ, ◌%◌, ◌<◌, ◌≤◌, Bool, List}
 use Rattle.lset_words.specs.Log.{begun_at, has_changed}
 use Rattle.lset_words.specs.Words.{Sizes, Opening, sizes}

@@ -1,4 +1,4 @@
--- Sums of what the first n threads, or nodes, have left.
+-- Sums over the first n threads or nodes.
 use Rattle.std.specs.Prelude.{◌≡◌, ◌≢◌, ℕ, ◌+◌, ◌*◌, ◌<◌, ◌≤◌, ◌==◌, if◌then◌else◌, refl}
 use Rattle.std.proofs.Common.{arith, inl, inr, ap, zero, suc}
 use Rattle.lset_words.proofs.Numbers.{same_or_not, if_same, if_other}
@@ -26,7 +26,7 @@ total_most b c (suc n) d h =
     let m : suc n * d ≡ d + n * d = grind arith in
     omega arith
 
--- one falls by x, and each other increases by d at most
+-- One summand falls by x, and each other summand rises by at most d.
 pub total_step : (b c : ℕ → ℕ) (n u d x : ℕ) → u < n → c u + x ≤ b u → ((v : ℕ) → v < n → v ≢ u → c v ≤ b v + d)
     → total c n + x ≤ total b n + n * d
 total_step b c zero u d x l e h = absurd (omega arith)
@@ -42,14 +42,14 @@ total_step b c (suc n) u d x l e h =
           omega arith)
     ]
 
--- one falls by 1, and the others stay
+-- One summand falls by 1, and the others do not change.
 pub total_less : (b c : ℕ → ℕ) (n u : ℕ) → u < n → c u + 1 ≤ b u → ((v : ℕ) → v ≢ u → c v ≡ b v) → total c n + 1 ≤ total b n
 total_less b c n u l e h =
     let x : total c n + 1 ≤ total b n + n * 0 =
     total_step b c n u 0 1 l e (λ v vn d. let y : c v ≡ b v = h v d in omega arith) in
     omega arith
 
--- what is one less c times is c less
+-- If a is less than b, then c * a is less than c * b by at least c.
 pub one_price : (c a b : ℕ) → a + 1 ≤ b → c * a + c ≤ c * b
 one_price zero a b l = omega arith
 one_price (suc c) a b l =
@@ -58,7 +58,7 @@ one_price (suc c) a b l =
     let y : suc c * b ≡ c * b + b = grind arith in
     omega arith
 
--- the number given for one of them
+-- The function b with the value n at t.
 abbrev pub put : (ℕ → ℕ) → ℕ → ℕ → ℕ → ℕ
 put b u n t = if t == u then n else b t
 

@@ -1,4 +1,5 @@
--- A run of which so many steps count: if each that ends no call takes as much from a potential as it counts, one ends its call.
+-- Proof: among enough counted steps of a run one ends its call, if each step that ends no call lowers a potential by as much as
+-- the step counts.
 use Rattle.std.specs.Prelude.{◌≡◌, ℕ, ◌+◌, ◌<◌, ◌≤◌, ◌⊎◌, Bool, true, false, refl}
 use Rattle.std.proofs.Common.{arith, inl, inr, subst, zero, suc}
 use Rattle.lset_words.specs.declared.Call.{Call}
@@ -9,7 +10,7 @@ use Rattle.lset_steps.specs.declared.Event.TheVariants.{Go}
 use Rattle.lset_steps.specs.Steps.{Table, State, state_at, after}
 use Rattle.lset_progress.specs.Progress.{Answers, SomeEnds, counted, steps_among}
 
--- whether the steps of a call count
+-- Whether the steps of a call count.
 pub counted_or_not : (reads : Bool) (c : Call) → (counted reads c ≡ 0) ⊎ (counted reads c ≡ 1)
 counted_or_not reads (call.Add k) = inr refl
 counted_or_not reads (call.Remove k) = inr refl
@@ -17,7 +18,7 @@ counted_or_not true (call.Contains k) = inr refl
 counted_or_not false (call.Contains k) = inl refl
 counted_or_not reads (call.Ceiling k) = inl refl
 
--- one ends in a window that begins an event earlier
+-- A call that ends in a window also ends in the window that begins one event earlier.
 pub ends_later : {count : State → Event → ℕ} {T : Table} {op : Opening} {es : ℕ → Event} {k n : ℕ}
     → SomeEnds count T op es (suc k) n
     → SomeEnds count T op es k (suc n)
@@ -32,7 +33,7 @@ ends_later {k = k} {n = n} e = record {
 }
 
 module _ (T : Table) (count : State → Event → ℕ) (op : Opening) (es : ℕ → Event) (Phase : State → ℕ → Type 0) where
-  -- the event e ends a call at the moment k, or leaves less than p
+  -- Event e ends a call at moment k, or lowers the potential p.
   abbrev pub Then : ℕ → ℕ → Event → Type 0
   Then k p e = ((t : ℕ) × (e ≡ Go t) × Answers T (state_at T op es k) t × (count (state_at T op es k) e ≡ 1))
       ⊎ ((p' : ℕ) × (p' + count (state_at T op es k) e ≤ p) × Phase (after T (state_at T op es k) e) p')

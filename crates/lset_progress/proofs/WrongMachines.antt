@@ -1,4 +1,4 @@
--- That the laws of progress refuse the wrong machines: for each a run that is written out.
+-- Proof: the laws of progress reject the wrong machines. Each proof is a run that is written out.
 use Rattle.std.specs.Prelude.{◌≡◌, ℕ, ◌<◌, List, [], ◌∷◌, length, slice_index, refl}
 use Rattle.std.proofs.Common.{arith, inl, inr, sym, ◌∙◌, ap, subst, zero, suc}
 use Rattle.lset_words.specs.declared.Call.TheVariants.{Add, Remove}
@@ -15,8 +15,8 @@ use Rattle.lset_progress.proofs.WrittenRuns.{op, run, is_run, is_after, state_af
 two_values : (n a b : ℕ) → (a ≡ b → ⊥) → n ≡ a → n ≡ b → ⊥
 two_values n a b d e f = d (sym e ∙ f)
 
--- Thread 1 marks the node of 5; thread 0 comes to it, and is about to take it out; thread 1 has taken it out. There thread 0
--- tries again.
+-- Thread 1 marks the node of 5. Thread 0 reaches the node and is about to unlink it, but thread 1 has unlinked it. Thread 0 then
+-- repeats its attempt.
 abbrev spins : List Event
 spins = Begin 0 (Add (record { 0 = 5 })) ∷ Go 0 ∷ Go 0 ∷ Go 0 ∷ Go 0 ∷ Go 0 ∷ Go 0 ∷ Begin 1
     (Remove (record { 0 = 5 })) ∷ Go 1 ∷ Go 1
@@ -37,8 +37,8 @@ pub spinning_is_not_lock_free : NotLockFree spinning
 spinning_is_not_lock_free reads most law = rounds_never_end spinning spins (Go 0) [] refl refl refl refl
     (steps_of reads) refl most law
 
--- Thread 0 has walked to head and tail; thread 1 puts 7 between; thread 0 fails, keeps the lock of the head, and comes to it
--- again.
+-- Thread 0 has walked to head and tail. Thread 1 adds 7 between them. Thread 0 fails, keeps the lock of the head, and reaches the
+-- head again.
 abbrev keeps : List Event
 keeps = Begin 0 (Add (record { 0 = 5 })) ∷ Go 0 ∷ Go 0 ∷ Begin 1
     (Add (record { 0 = 7 })) ∷ Go 1 ∷ Go 1 ∷ Go 1 ∷ Go 1 ∷ Go 1 ∷ Go 1
@@ -47,7 +47,7 @@ keeps = Begin 0 (Add (record { 0 = 5 })) ∷ Go 0 ∷ Go 0 ∷ Begin 1
 abbrev keeping_state : State
 keeping_state = state_after keeping (opening op) keeps
 
--- thread 1 holds none
+-- Thread 1 holds no lock.
 none_of_1 : (x : ℕ) → IsLockWord x → x < 21 → slice_index keeping_state.words x ≡ 2 → ⊥
 none_of_1 x (inl e) h m = two_values (slice_index keeping_state.words 0) 0 2 (λ z. omega arith) refl
     (sym (ap (λ i. slice_index keeping_state.words i) e) ∙ m)
@@ -74,8 +74,8 @@ keeping_is_refused most law =
     (subst (λ s. IsPending s 0) (sym is) (λ z. omega arith)) (subst (λ s. NoOtherHolds (sizes op) s 0) (sym is) others) in
     never_ends_alone keeping 0 keeping_state 0 refl refl (most _) (subst (λ s. EndsAlone keeping s 0 (most (sizes op))) is e)
 
--- Both threads are between the head and the node of 5: thread 0, which adds 3, has the head, and thread 1, which removes 5, its
--- node.
+-- Both threads are between the head and the node of 5. Thread 0, which adds 3, holds the lock of the head; thread 1, which
+-- removes 5, holds the lock of that node.
 abbrev crosses : List Event
 crosses = Begin 0 (Add (record { 0 = 5 })) ∷ Go 0 ∷ Go 0 ∷ Go 0 ∷ Go 0 ∷ Go 0 ∷ Go 0 ∷ Go 0 ∷ Go 0 ∷ Go 0 ∷ Go 0 ∷ Go 0
     ∷ Begin 0 (Add (record { 0 = 3 })) ∷ Go 0 ∷ Go 0 ∷ Go 0 ∷ Begin 1 (Remove (record { 0 = 5 })) ∷ Go 1 ∷ Go 1 ∷ Go 1 ∷ []

@@ -1,5 +1,5 @@
--- Progress of calls, as laws of runs (Herlihy and Shavit's terms). Nothing is asked of the schedule: each law speaks of each
--- moment of each run.
+-- Progress of calls, as laws of runs (in Herlihy and Shavit's terms). The laws hold at each moment of each run, for every
+-- schedule.
 use Rattle.std.specs.Prelude.{◌≡◌, ◌≢◌, ℕ, zero, suc, ◌+◌, ◌*◌, ◌%◌, ◌<◌, ◌≤◌, ◌⊎◌, Bool, true, false, Some, slice_index}
 use Rattle.lset_words.specs.declared.Call.{Call}
 use Rattle.lset_words.specs.declared.Call.TheVariants as call
@@ -12,25 +12,25 @@ use Rattle.lset_steps.specs.Steps.{Table, State, Run, Enabled, state_at, after, 
 use Rattle.lset_steps.specs.Chain.{View, InChain}
 use Rattle.lset_steps.specs.Laws.{IsLockWord, views}
 
--- thread t has a call that has not answered
+-- Thread t has a pending call.
 abbrev pub IsPending : State → ℕ → Type 0
 IsPending s t = (local_of s t).pc ≢ 0
 
--- thread t holds the lock word x
+-- Thread t holds the lock word x.
 pub record Holds (sz : Sizes) (s : State) (t x : ℕ) : Type 0 where
   pub is_lock : IsLockWord x
   pub inside : x < word_count sz
   pub mine : slice_index s.words x ≡ t + 1
 
--- no thread but t holds a lock word
+-- No thread but t holds a lock.
 abbrev pub NoOtherHolds : Sizes → State → ℕ → Type 0
 NoOtherHolds sz s t = (u x : ℕ) → u < sz.threads → u ≢ t → Holds sz s u x → ⊥
 
--- the next step of thread t ends its call
+-- The next step of thread t ends its call.
 abbrev pub Answers : Table → State → ℕ → Type 0
 Answers T s t = (reply : Reply) × ((told T s (Go t)).answer ≡ Some reply)
 
--- [Ends alone]: thread t makes steps, and no other thread does; one of the first n of them ends its call.
+-- [Ends alone]: if only thread t makes steps, one of its next n steps ends its call.
 abbrev pub EndsAlone : Table → State → ℕ → ℕ → Type 0
 EndsAlone T s t zero = ⊥
 EndsAlone T s t (suc n) = Enabled s (Go t) × (Answers T s t ⊎ EndsAlone T (after T s (Go t)) t n)
@@ -49,17 +49,17 @@ IsCeiling call = ⊥
 abbrev pub NoMarkInChain : View → Type 0
 NoMarkInChain v = (b : ℕ) → InChain v b → v.link b % 2 ≡ 0
 
--- [Calls end unhindered]: in a list without locks, whatever the other threads are about to do, a call that runs alone ends within
--- `most` steps (obstruction freedom). But a ceiling begins again at a marked node, and does not unlink it: it ends if no node
--- of the chain is marked.
+-- [Calls end unhindered]: in a list without locks, a call that runs alone ends within `most` steps, whatever the other threads
+-- are about to do (obstruction freedom). A ceiling must find no marked node in the chain: it starts again at a marked node, and
+-- does not unlink it.
 abbrev pub CallsEndUnhindered : Table → (Sizes → ℕ) → Type 0
 CallsEndUnhindered T most = (op : Opening) (k t : ℕ) (es : ℕ → Event) → Run T op es k → t < op.threads
     → IsPending (state_at T op es k) t
     → (IsCeiling (local_of (state_at T op es k) t).call → NoMarkInChain (views T op es k))
     → EndsAlone T (state_at T op es k) t (most (sizes op))
 
--- [A ceiling that never ends]: the call of a thread is a ceiling, every other thread is idle, and however many steps the
--- thread makes alone, none ends its call.
+-- [A ceiling that never ends]: a thread has a pending ceiling, every other thread is idle, and no number of steps of the thread
+-- alone ends the call.
 pub record SomeCeilingNeverEnds (T : Table) : Type 0 where
   pub opening : Opening
   pub events : ℕ → Event
@@ -72,18 +72,20 @@ pub record SomeCeilingNeverEnds (T : Table) : Type 0 where
   pub others_idle : (u : ℕ) → u < opening.threads → u ≢ thread → (local_of (state_at T opening events moment) u).pc ≡ 0
   pub never : (n : ℕ) → EndsAlone T (state_at T opening events moment) thread n → ⊥
 
--- thread t has a call, and its next step is no failed try of a lock
+-- Thread t has a pending call, and its next step is not a failed attempt to take a lock.
 pub record GetsOn (T : Table) (s : State) (t : ℕ) : Type 0 where
   pub enabled : Enabled s (Go t)
   pub tries : (x old new : ℕ) → IsLockWord x → T.next (local_of s t) ≡ Exchange x old new → slice_index s.words x ≡ old
 
--- [Some thread gets on]: while a call is pending, some thread has one whose next step is no failed try of a lock.
+-- [Some thread gets on]: while a call is pending, some thread has a pending call whose next step is not a failed attempt to take
+-- a lock.
 abbrev pub SomeThreadGetsOn : Table → Type 0
 SomeThreadGetsOn T = (op : Opening) (k t : ℕ) (es : ℕ → Event) → Run T op es k → t < op.threads
     → IsPending (state_at T op es k) t
     → (u : ℕ) × (u < op.threads) × GetsOn T (state_at T op es k) u
 
--- whether a step of a call counts: that of an add or a remove, or also that of a contains, but never that of a ceiling
+-- Whether steps of a call count: the steps of add and remove do; the steps of contains do if `reads` is true; the steps of
+-- ceiling do not.
 abbrev pub counted : Bool → Call → ℕ
 counted reads (call.Add k) = 1
 counted reads (call.Remove k) = 1
@@ -95,12 +97,12 @@ abbrev pub steps_of : Bool → State → Event → ℕ
 steps_of reads s (Begin t call) = 0
 steps_of reads s (Go t) = counted reads (local_of s t).call
 
--- how many steps count among the n events from the moment k on, where `count` is 1 for a step that counts
+-- The number of counted steps among the n events from moment k on. `count` is 1 for a counted step.
 abbrev pub steps_among : (State → Event → ℕ) → Table → Opening → (ℕ → Event) → ℕ → ℕ → ℕ
 steps_among count T op es k zero = 0
 steps_among count T op es k (suc n) = count (state_at T op es k) (es k) + steps_among count T op es (suc k) n
 
--- one of those events is a step that counts, and ends its call
+-- One of these events is a counted step that ends its call.
 pub record SomeEnds (count : State → Event → ℕ) (T : Table) (op : Opening) (es : ℕ → Event) (k n : ℕ) : Type 0 where
   pub at : ℕ
   pub from : k ≤ at
@@ -110,17 +112,17 @@ pub record SomeEnds (count : State → Event → ℕ) (T : Table) (op : Opening)
   pub counts : count (state_at T op es at) (es at) ≡ 1
   pub ends : Answers T (state_at T op es at) thread
 
--- of any `most` steps that count and follow one another in a run, one ends its call
+-- Among any `most` successive counted steps of a run, one ends its call.
 abbrev pub EndsAmong : (State → Event → ℕ) → Table → (Sizes → ℕ) → Type 0
 EndsAmong count T most = (op : Opening) (k n : ℕ) (es : ℕ → Event) → Run T op es (k + n)
     → most (sizes op) ≤ steps_among count T op es k n → SomeEnds count T op es k n
 
--- [Lock freedom]: of any `most` steps of adds and removes that follow one another in a run, one ends its call, whichever
--- threads make them, and whatever else happens between them; and of any `most` steps of adds, removes and contains too.
+-- [Lock freedom]: among any `most` successive steps of adds and removes in a run, one ends its call, whichever threads make the
+-- steps, and whatever else happens between them. The same holds for steps of adds, removes and contains.
 abbrev pub IsLockFree : Table → (Sizes → ℕ) → Type 0
 IsLockFree T most = (reads : Bool) → EndsAmong (steps_of reads) T most
 
--- THE MOST STEPS, for N nodes: the head, the tail, n threads with q slots each, and those of the opening keys
+-- The number of steps, for N nodes: the head, the tail, the slots of n threads with quota q, and the nodes of the opening keys.
 abbrev pub coarse_steps : Sizes → ℕ
 coarse_steps sz = 2 * node_count sz + 3
 
@@ -133,8 +135,8 @@ optimistic_steps sz = 8 * node_count sz + 9
 abbrev pub lock_free_steps : Sizes → ℕ
 lock_free_steps sz = 4 * node_count sz + 5
 
--- for each thread the steps of its call as it stands, and a walk more for each exchange that can succeed and ends no call: at
--- most a mark for each thread, and for each node that it is taken out
+-- The steps of each thread's pending call, and one more walk for each exchange that succeeds without ending a call: each thread
+-- marks at most one node, and each node is unlinked at most once.
 abbrev pub lock_free_window : Sizes → ℕ
 lock_free_window sz =
     sz.threads * (2 * node_count sz + 2) * (node_count sz + sz.threads) + sz.threads * lock_free_steps sz

@@ -1,4 +1,4 @@
--- [Wrong machines]: each is wrong in one row or two, and a law of progress does not hold for it.
+-- [Wrong machines]: each has one or two wrong rows, and does not satisfy a law of progress.
 use Rattle.std.specs.Prelude.{ℕ, ◌+◌, ◌*◌, if◌then◌else◌, ◌==◌, Bool, Option, Some, None}
 use Rattle.lset_words.specs.declared.Call.{Call}
 use Rattle.lset_words.specs.declared.Call.TheVariants as call
@@ -16,7 +16,7 @@ use Rattle.lset_lock_free.specs.LockFree.{lock_free}
 use Rattle.lset_progress.specs.DeadlockFreedom.{IsLivelockFree}
 use Rattle.lset_progress.specs.Progress.{CallsEndAlone, CallsEndUnhindered, EndsAmong, steps_of}
 
--- LockFreeList whose walk makes the exchange of row 3 again if it failed, and does not start again from the head
+-- LockFreeList whose walk repeats the exchange of row 3 after a failure, and does not start again from the head.
 abbrev pub spins_on : Local → ℕ → Fed
 spins_on l seen = if seen == 2 * l.curr then continued (record l { pc = 2; curr = l.succ }) else continued l
 
@@ -29,8 +29,8 @@ spinning = record {
   effect = lock_free.effect;
 }
 
--- LockFreeList whose add, from its decision, writes its number into the lock word of pred (row 11), and goes on only if it
--- still reads it there (row 12); else it writes it again
+-- LockFreeList whose add writes its number into the lock word of pred after its decision (row 11). It continues only if it then
+-- reads its own number there (row 12), and else writes again.
 abbrev pub claims_first : Fed → Fed
 claims_first f = record { local = if f.local.pc == 5 then record f.local { pc = 11 } else f.local; answer = f.answer }
 
@@ -56,7 +56,7 @@ claiming = record {
   effect = lock_free.effect;
 }
 
--- OptimisticList that keeps the lock of pred if validation fails: from there it goes to row 15, and leaves row 14 out
+-- OptimisticList that keeps the lock of pred if validation fails: it skips row 14 and continues at row 15.
 abbrev pub keeps_pred : Option Reply → Local → Local
 keeps_pred None l = record l { pc = 15 }
 keeps_pred (Some r) l = l
@@ -73,7 +73,7 @@ keeping = record {
   effect = optimistic.effect;
 }
 
--- LazyList whose remove takes the lock of curr before that of pred, and its add the other way round
+-- LazyList whose remove takes the lock of curr before that of pred, and whose add takes them in the other order.
 abbrev pub first_lock : Call → Local → ℕ
 first_lock (call.Remove k) l = l.curr
 first_lock c l = l.pred
@@ -97,8 +97,8 @@ crossed = record {
   effect = lazy.effect;
 }
 
--- The same, but no thread waits for its second lock: it looks at it (row 16), and if it is taken gives the first back (row 15),
--- and starts again.
+-- LazyList with locks in these two orders, in which no thread waits for its second lock. A thread reads that lock (row 16); if it
+-- is taken, the thread releases the first lock (row 15) and starts again.
 abbrev pub looks_first : Fed → Fed
 looks_first f = record { local = if f.local.pc == 5 then record f.local { pc = 16 } else f.local; answer = f.answer }
 
@@ -124,7 +124,7 @@ yielding = record {
   effect = lazy.effect;
 }
 
--- The law holds with no number of steps.
+-- The law holds for no number of steps.
 abbrev pub NoCallsEndAlone : Table → Type 0
 NoCallsEndAlone T = (most : Sizes → ℕ) → CallsEndAlone T most → ⊥
 

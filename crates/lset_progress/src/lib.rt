@@ -1,5 +1,5 @@
-//! Progress of the five lists, as laws of the runs of their step machines: each law is a function whose contract is the law, and
-//! whose call does nothing. Nothing is asked of the schedule.
+//! Progress of the five lists, as laws of the runs of their step machines. Each law is the contract of a function whose body is
+//! empty. The laws assume nothing about the schedule, except that freedom from deadlock assumes a fair run.
 //!
 //! N is the number of nodes: head, tail, one for each slot of each thread, and one for each opening key.
 #![tactic(auto)]
@@ -51,62 +51,60 @@ pub fn fine_calls_end_alone()
     ensures { CallsEndAlone fine fine_steps }
 {}
 
-/// Theorem: while no other thread holds a lock of an OptimisticList, a call that runs alone ends within `8N + 9` steps: it
-/// walks from the head at most once more, since validation fails only if another thread has changed what the walk read.
-/// (Solo termination, of Herlihy and Shavit's optimistic list.)
+/// Theorem: while no other thread holds a lock of an OptimisticList, a call that runs alone ends within `8N + 9` steps. It walks
+/// from the head at most once more, since validation fails only if another thread has changed what the walk read. (Solo
+/// termination, of Herlihy and Shavit's optimistic list.)
 #[tactic(auto, using(crate::proofs::OptimisticProgress::optimistic_calls_end))]
 pub fn optimistic_calls_end_alone()
     ensures { CallsEndAlone optimistic optimistic_steps }
 {}
 
-/// Theorem: while no other thread holds a lock of a LazyList, a call that runs alone ends within `4N + 15` steps, a
-/// `ceiling` too: a thread that has marked a node holds its lock until the node is unlinked. (Solo termination, of Heller
-/// and others' lazy list.)
+/// Theorem: while no other thread holds a lock of a LazyList, a call that runs alone ends within `4N + 15` steps, also a
+/// `ceiling`: a thread that has marked a node holds its lock until the node is unlinked. (Solo termination, of Heller and others'
+/// lazy list.)
 #[tactic(auto, using(crate::proofs::LazyProgress::lazy_calls_end))]
 pub fn lazy_calls_end_alone()
     ensures { CallsEndAlone lazy lazy_steps }
 {}
 
-/// Theorem: whatever the other threads of a LockFreeList are about to do, a call that runs alone ends within `4N + 5` steps.
-/// A `ceiling` does so if no node of the chain is marked: if it reaches a marked node it begins again, and it unlinks none.
-/// (Obstruction freedom, which is Herlihy, Luchangco and Moir's; the list is Harris's and Michael's.)
+/// Theorem: a call of a LockFreeList that runs alone ends within `4N + 5` steps, whatever the other threads are about to do. For
+/// a `ceiling` this holds if no node of the chain is marked: at a marked node a `ceiling` starts again, and it unlinks no node.
+/// (Obstruction freedom, by Herlihy, Luchangco and Moir; the list is Harris's and Michael's.)
 #[tactic(auto, using(crate::proofs::LockFreeProgress::lock_free_calls_end))]
 pub fn lock_free_calls_end_alone()
     ensures { CallsEndUnhindered lock_free lock_free_steps }
 {}
 
-/// Theorem: of any `n(2N + 2)(N + n) + n(4N + 5)` steps of `add` and `remove` that the n threads of a LockFreeList make one
-/// after another, one ends its call, whichever threads make them, and whatever else happens between them; and of as many
-/// steps of `add`, `remove` and `contains` too. (Lock freedom, of Harris's and Michael's list, as Herlihy and Shavit define
-/// it.)
+/// Theorem: among any `n(2N + 2)(N + n) + n(4N + 5)` successive steps of `add` and `remove` by the n threads of a LockFreeList,
+/// one step ends its call, whichever threads make the steps, and whatever else happens between them. The same number holds for
+/// steps of `add`, `remove` and `contains`. (Lock freedom of Harris's and Michael's list, as Herlihy and Shavit define it.)
 #[tactic(auto, using(crate::proofs::LockFreedom::lock_free_is_lock_free))]
 pub fn lock_free_list_is_lock_free()
     ensures { IsLockFree lock_free lock_free_window }
 {}
 
-/// Theorem: a `ceiling` of LockFreeList may never end, though every other thread is idle, if a completed `remove` has left
-/// its marked node in the chain. So only `add`, `remove` and `contains` of LockFreeList are obstruction-free.
+/// Theorem: a `ceiling` of LockFreeList need not end, even if every other thread is idle: a completed `remove` can leave its
+/// marked node in the chain. Only `add`, `remove` and `contains` of LockFreeList are obstruction-free.
 #[tactic(auto, using(crate::proofs::CeilingWaits::ceiling_waits))]
 pub fn a_lock_free_ceiling_may_never_end()
     ensures { SomeCeilingNeverEnds lock_free }
 {}
 
-/// Theorem: while a call of a CoarseList is pending, some thread can make a step that is not a failed attempt to take the
-/// lock.
+/// Theorem: while a call of a CoarseList is pending, some thread can make a step that is not a failed attempt to take the lock.
 #[tactic(auto, using(crate::proofs::CoarseProgress::coarse_gets_on))]
 pub fn some_coarse_call_gets_on()
     ensures { SomeThreadGetsOn coarse }
 {}
 
-/// Theorem: of any `n(2N + 3)(5n + 1)` steps of the n threads of a CoarseList that follow one another and are no failed
-/// attempts to take the lock, one ends its call. (Freedom from livelock.)
+/// Theorem: among any `n(2N + 3)(5n + 1)` successive steps of the n threads of a CoarseList that are not failed attempts to take
+/// the lock, one ends its call. (Freedom from livelock.)
 #[tactic(auto, using(crate::proofs::CoarseProgress::coarse_livelock_free))]
 pub fn coarse_list_is_livelock_free()
     ensures { IsLivelockFree each_call coarse (lock_window coarse_steps) }
 {}
 
-/// Theorem: in each run of a CoarseList without an end in which each thread with a call goes on, while a call is pending, one
-/// ends later. (Freedom from deadlock, as Herlihy and Shavit define it.)
+/// Theorem: in each infinite run of a CoarseList in which every thread with a pending call makes further steps, some call ends
+/// after each moment at which a call is pending. (Freedom from deadlock, as Herlihy and Shavit define it.)
 #[tactic(auto, using(crate::proofs::CoarseProgress::coarse_deadlock_free))]
 pub fn coarse_list_is_deadlock_free()
     ensures { IsDeadlockFree each_call coarse }
@@ -119,15 +117,15 @@ pub fn some_fine_call_gets_on()
     ensures { SomeThreadGetsOn fine }
 {}
 
-/// Theorem: of any `n(4N + 3)(5n + 1)` steps of the n threads of a FineList that follow one another and are no failed
-/// attempts to take a lock, one ends its call. (Freedom from livelock.)
+/// Theorem: among any `n(4N + 3)(5n + 1)` successive steps of the n threads of a FineList that are not failed attempts to take a
+/// lock, one ends its call. (Freedom from livelock.)
 #[tactic(auto, using(crate::proofs::FineProgress::fine_livelock_free))]
 pub fn fine_list_is_livelock_free()
     ensures { IsLivelockFree each_call fine (lock_window fine_steps) }
 {}
 
-/// Theorem: in each run of a FineList without an end in which each thread with a call goes on, while a call is pending, one
-/// ends later. (Freedom from deadlock, as Herlihy and Shavit define it.)
+/// Theorem: in each infinite run of a FineList in which every thread with a pending call makes further steps, some call ends
+/// after each moment at which a call is pending. (Freedom from deadlock, as Herlihy and Shavit define it.)
 #[tactic(auto, using(crate::proofs::FineProgress::fine_deadlock_free))]
 pub fn fine_list_is_deadlock_free()
     ensures { IsDeadlockFree each_call fine }
@@ -140,15 +138,15 @@ pub fn some_optimistic_call_gets_on()
     ensures { SomeThreadGetsOn optimistic }
 {}
 
-/// Theorem: of any `n(8N + 9)(5n + 1)` steps of the n threads of an OptimisticList that follow one another and are no failed
-/// attempts to take a lock, one ends its call. (Freedom from livelock.)
+/// Theorem: among any `n(8N + 9)(5n + 1)` successive steps of the n threads of an OptimisticList that are not failed attempts to
+/// take a lock, one ends its call. (Freedom from livelock.)
 #[tactic(auto, using(crate::proofs::OptimisticProgress::optimistic_livelock_free))]
 pub fn optimistic_list_is_livelock_free()
     ensures { IsLivelockFree each_call optimistic (lock_window optimistic_steps) }
 {}
 
-/// Theorem: in each run of an OptimisticList without an end in which each thread with a call goes on, while a call is
-/// pending, one ends later. (Freedom from deadlock, as Herlihy and Shavit define it.)
+/// Theorem: in each infinite run of an OptimisticList in which every thread with a pending call makes further steps, some call
+/// ends after each moment at which a call is pending. (Freedom from deadlock, as Herlihy and Shavit define it.)
 #[tactic(auto, using(crate::proofs::OptimisticProgress::optimistic_deadlock_free))]
 pub fn optimistic_list_is_deadlock_free()
     ensures { IsDeadlockFree each_call optimistic }
@@ -161,58 +159,58 @@ pub fn some_lazy_call_gets_on()
     ensures { SomeThreadGetsOn lazy }
 {}
 
-/// Theorem: of any `n(4N + 15)(5n + 1)` steps of `add` and `remove` that the n threads of a LazyList make one after another,
-/// and that are no failed attempts to take a lock, one ends its call, whatever else happens between them; and of as many
-/// steps of `add`, `remove` and `contains` too. (Freedom from livelock.)
+/// Theorem: among any `n(4N + 15)(5n + 1)` successive steps of `add` and `remove` by the n threads of a LazyList that are not
+/// failed attempts to take a lock, one ends its call, whatever else happens between them. The same number holds for steps of
+/// `add`, `remove` and `contains`. (Freedom from livelock.)
 pub fn lazy_list_is_livelock_free()
     ensures { (reads : Bool) → IsLivelockFree (counted reads) lazy (lock_window lazy_steps) }
 {}
 
-/// Theorem: in each run of a LazyList without an end in which each thread with a call goes on, while a call is pending, one
-/// ends later; while an `add` or a `remove` is, one of these; and while an `add`, a `remove` or a `contains` is, one of
-/// these. (Freedom from deadlock, as Herlihy and Shavit define it.)
+/// Theorem: in each infinite run of a LazyList in which every thread with a pending call makes further steps, some call ends
+/// after each moment at which a call is pending. If an `add` or a `remove` is pending, an `add` or a `remove` ends; if one of
+/// `add`, `remove` and `contains` is pending, one of these three ends. (Freedom from deadlock, as Herlihy and Shavit define it.)
 #[tactic(auto, using(crate::proofs::CeilingEnds::all_deadlock_free, crate::proofs::LazyProgress::lazy_deadlock_free))]
 pub fn lazy_list_is_deadlock_free()
     ensures all { IsDeadlockFree each_call lazy }
     ensures counted { (reads : Bool) → IsDeadlockFree (counted reads) lazy }
 {}
 
-/// Lemma: the law of `lock_free_calls_end_alone` refuses a LockFreeList whose walk attempts to unlink a marked node again
-/// after that has failed, and does not start again from the head.
+/// Lemma: the law of `lock_free_calls_end_alone` rejects a LockFreeList whose walk repeats a failed attempt to unlink a marked
+/// node and does not start again from the head.
 #[tactic(auto, using(crate::proofs::WrongMachines::spinning_is_refused))]
 pub fn a_spinning_walk_is_refused()
     ensures { NoCallsEndUnhindered spinning }
 {}
 
-/// Lemma: the law of `lock_free_list_is_lock_free` refuses a LockFreeList whose walk attempts to unlink a marked node again
-/// after that has failed, whether steps of `contains` count or not.
+/// Lemma: the law of `lock_free_list_is_lock_free` rejects a LockFreeList whose walk repeats a failed attempt to unlink a marked
+/// node, whether steps of `contains` count or not.
 #[tactic(auto, using(crate::proofs::WrongMachines::spinning_is_not_lock_free))]
 pub fn a_spinning_walk_is_not_lock_free()
     ensures { NotLockFree spinning }
 {}
 
-/// Lemma: the law of `lock_free_list_is_lock_free` refuses a LockFreeList in which two calls of `add` hinder each other for
-/// ever: each writes its number beside the place of its node, and continues only if it still finds it there.
+/// Lemma: the law of `lock_free_list_is_lock_free` rejects a LockFreeList in which two calls of `add` can hinder each other for
+/// ever. Each writes its number beside the place of its node, and continues only if it then reads its own number there.
 #[tactic(auto, using(crate::proofs::Livelock::claiming_is_not_lock_free))]
 pub fn two_that_claim_a_place_are_not_lock_free()
     ensures { NotLockFree claiming }
 {}
 
-/// Lemma: the law of `optimistic_calls_end_alone` refuses an OptimisticList that keeps a lock if its validation fails.
+/// Lemma: the law of `optimistic_calls_end_alone` rejects an OptimisticList that keeps a lock if its validation fails.
 #[tactic(auto, using(crate::proofs::WrongMachines::keeping_is_refused))]
 pub fn a_kept_lock_is_refused()
     ensures { NoCallsEndAlone keeping }
 {}
 
-/// Lemma: the law of `some_lazy_call_gets_on` refuses a LazyList whose `remove` takes its two locks in the other order.
+/// Lemma: the law of `some_lazy_call_gets_on` rejects a LazyList whose `remove` takes its two locks in the other order.
 #[tactic(auto, using(crate::proofs::WrongMachines::crossed_is_refused))]
 pub fn crossed_locks_are_refused()
     ensures { SomeThreadGetsOn crossed → ⊥ }
 {}
 
-/// Lemma: the laws of freedom from livelock and from deadlock refuse a LazyList whose `remove` takes its two locks in the
-/// other order, and in which a thread that finds its second lock taken releases the first and starts again: two threads can
-/// do so for ever, in a run that is fair.
+/// Lemma: the laws of freedom from livelock and from deadlock reject a LazyList whose `remove` takes its two locks in the other
+/// order, and in which a thread that finds its second lock taken releases the first and starts again. Two threads can repeat this
+/// for ever in a fair run.
 pub fn two_that_yield_are_not_deadlock_free()
     ensures bounded { (reads : Bool) → NotLivelockFree (counted reads) yielding }
     ensures fair { (reads : Bool) → IsDeadlockFree (counted reads) yielding → ⊥ }

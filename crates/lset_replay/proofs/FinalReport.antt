@@ -1,26 +1,25 @@
--- What holds of the report at the end of a run.
+-- The report at the end of a run.
 use Rattle.std.proofs.Common.{◌≡◌, ℕ, suc, ◌<◌, ◌≤◌, Bool, true, false, List, [], ◌∷◌, length, map, sym, refl, subst, ap, ◌∙◌, arith}
-use Rattle.std.specs.Prelude.{Option, Some, None, IfSome}
-use Rattle.std.proofs.lemmas.List.{length-map, get_or-map}
+use Rattle.std.specs.Prelude.{Option, Some, None}
+use Rattle.std.specs.List.{swap}
+use Rattle.std.specs.List.Sorted.{IsPermutation}
+use Rattle.std.proofs.lemmas.List.{length-map, get_or-map, map-set}
+use Rattle.std.proofs.lemmas.List.Sorted.{IsPermutation-refl, IsPermutation-swap, IsPermutation-trans, IsPermutation-keeps}
 use Rattle.lset_words.specs.declared.Reply.{Reply}
 use Rattle.lset_words.specs.Log.{Log, TracedCall, calls_at, history_at}
 use Rattle.lset_words.specs.Account.{Contents, Counts, Account}
-use Rattle.lset_words.specs.Placement.{Standing, standing, makes_change, traced_at, no_traced, StandsBy, StandsAt, IsPlacement, reply_by}
+use Rattle.lset_history.specs.Placement.{Standing, standing, makes_change, traced_at, StandsBy, IsPlacement, placed_of, reply_by}
 use Rattle.lset_words.specs.Words.{Opening}
 use Rattle.lset_words.specs.declared.history.CallRecord.{CallRecord}
 use Rattle.lset_words.specs.declared.history.Placed.{Placed}
 use Rattle.lset_words.specs.History.{Linearizes}
 use Rattle.lset_words.specs.SequentialSet.{opening_set}
-use Rattle.lset_history.proofs.Lists.{all_at}
-use Rattle.lset_history.proofs.Calls.{Traced, ChangedBy, EndedBy}
-use Rattle.lset_history.proofs.CallSteps.{run_of, calls_of}
-use Rattle.lset_report.specs.Order.{by_points, placed_in, pointed_of}
-use Rattle.lset_report.proofs.SortedPlaces.{placed_by_moments}
+use Rattle.lset_report.specs.Order.{placed_in, pointed_of}
 use Rattle.lset_replay.specs.declared.places.Linearized.{Linearized}
 use Rattle.lset_replay.specs.Trace.{trace_at, place_at, Trace}
-use Rattle.lset_replay.specs.Blocks.{point_of, pointed_from, blocks_upto, StandUpTo}
+use Rattle.lset_replay.specs.Blocks.{point_of, pointed_from, IsOrderOf}
 use Rattle.lset_replay.proofs.KeyChanges.{HoldsKeys}
-use Rattle.lset_replay.proofs.ReplayKept.{Follows, PlaceBy, PlaceOf}
+use Rattle.lset_replay.proofs.ReplayKept.{PlaceBy, PlaceOf}
 use Rattle.lset_replay.proofs.RecorderReady.{follows, few_calls}
 use Rattle.lset_steps.specs.declared.Event.{Event}
 use Rattle.lset_steps.specs.Steps.{Table, Run, event_at, log_of}
@@ -39,13 +38,13 @@ use Rattle.lset_replay.proofs.FollowedRuns.{TellsKeys, shown, account_then, low_
 use Rattle.lset_replay.proofs.EventLists.{as_many}
 use Rattle.lset_schedule.specs.Plan.{Plan, opening_in}
 
--- ---- the order that is made of the places is [Placement]
+-- ---- the order of the points is the [Placement]
 
 abbrev moment_of : Option Linearized → Option ℕ
 moment_of None = None
 moment_of (Some p) = Some p.moment
 
--- what a place has of its call
+-- The fields of a point, from its call
 changes : Option ℕ → Bool
 changes None = false
 changes (Some m) = true
@@ -79,6 +78,30 @@ makes s = at s s.traced.changed refl
     at s None e = rw e refl
     at s (Some m) e = rw e refl
 
+placed_each : (ss : List Standing) → placed_in (map pointed_of ss) ≡ map placed_of ss
+placed_each [] = refl
+placed_each (s ∷ ss) = ap (λ z. placed_of s ∷ z) (placed_each ss)
+
+map_swap : {X Y : Type 0} (f : X → Y) (zs : List X) (i j : ℕ) → i < length zs → j < length zs
+    → swap (map f zs) i j ≡ map f (swap zs i j)
+map_swap f [] i j a b = absurd (omega arith)
+map_swap f (z ∷ zs) i j a b = rw (get_or-map f (z ∷ zs) i z (f z) a, get_or-map f (z ∷ zs) j z (f z) b) (simp map-set)
+
+-- A permutation of `map f xs` is `map f` of a permutation of xs.
+moved_back : {X Y : Type 0} (f : X → Y) (xs : List X) (ys : List Y) → IsPermutation (map f xs) ys
+    → (zs : List X) × IsPermutation xs zs × (ys ≡ map f zs)
+moved_back {X = X} {Y = Y} f xs ys moved = IsPermutation-keeps (map f xs) (λ l. (zs : List X) × IsPermutation xs zs × (l ≡ map f zs))
+    (xs, IsPermutation-refl xs, refl) (λ l i j a b z. by_swap z.0 l i j a b z.1 z.2) ys moved
+  where
+    by_swap : (zs : List X) (l : List Y) (i j : ℕ) → i < length l → j < length l → IsPermutation xs zs → l ≡ map f zs
+        → (ws : List X) × IsPermutation xs ws × (swap l i j ≡ map f ws)
+    by_swap zs l i j a b p e = (
+      swap zs i j,
+      IsPermutation-trans xs zs (swap zs i j) p (IsPermutation-swap zs (swap zs i j) i j
+          (omega (arith, length-map zs f, ap length e)) (omega (arith, length-map zs f, ap length e)) refl),
+      rw e (map_swap f zs i j (omega (arith, length-map zs f, ap length e)) (omega (arith, length-map zs f, ap length e))),
+    )
+
 module _ (q : ℕ) (contents : Contents) (counts : Counts) where
   pointed_there : (x : TracedCall) (number : ℕ) (p : Linearized) → PlaceOf q contents counts x (Some p)
       → pointed_of (record { number = number; traced = x; moment = p.moment })
@@ -100,51 +123,38 @@ module _ (q : ℕ) (contents : Contents) (counts : Counts) where
 
   module _ (xs : List TracedCall) (ps : List (Option Linearized)) (l : length ps ≡ length xs)
       (h : (i : ℕ) → i < length xs → PlaceOf q contents counts (traced_at xs i) (place_at ps i)) where
-    is_placement : (last : ℕ) → IsPlacement q last xs contents counts (blocks_upto ps last)
-    is_placement last = record {
-      places = map moment_of ps;
-      one_each = length-map ps moment_of ∙ l;
-      stands = λ i n. rw (get_or-map moment_of ps i None None (omega arith)) (stands_there q contents counts
-          (traced_at xs i) (traced_at xs i).changed (traced_at xs i).ended (place_at ps i)
-          (h i n));
-      in_order = ap (λ zs. placed_in (by_points last zs)) (sym (pointed_each 0 xs ps l h))
-          ∙ placed_by_moments last (standing 0 xs (map moment_of ps));
-    }
+    is_placement : (order : List Placed) → IsOrderOf ps order → IsPlacement q xs contents counts order
+    is_placement order o =
+        let ss : List Standing = standing 0 xs (map moment_of ps) in
+        let z : (zs : List Standing) × IsPermutation ss zs × (o.sorted ≡ map pointed_of zs) =
+        moved_back pointed_of ss o.sorted (rw (pointed_each 0 xs ps l h) o.moved) in
+        record {
+          places = map moment_of ps;
+          one_each = length-map ps moment_of ∙ l;
+          stands = λ i n. rw (get_or-map moment_of ps i None None (omega arith)) (stands_there q contents counts
+              (traced_at xs i) (traced_at xs i).changed (traced_at xs i).ended (place_at ps i)
+              (h i n));
+          sorted = z.0;
+          moved = z.1;
+          rises = λ i j d n m. rw (get_or-map pointed_of z.0 i d (pointed_of d) (omega arith), get_or-map pointed_of z.0 j d (pointed_of d) m)
+              at ((rw z.2 at o.rises) i j (pointed_of d) n (omega (arith, length-map z.0 pointed_of)));
+          in_order = o.is ∙ ap placed_in z.2 ∙ placed_each z.0;
+        }
 
--- and no call stands after the last moment
 module _ (op : Opening) (last : ℕ) (log : Log) (contents : Contents) (counts : Counts)
     (account : Account op last log contents counts)
     (low : HoldsKeys last contents) where
-  upto : (x : TracedCall) (changed : Option ℕ) (ended : Option (ℕ × Reply)) (p : Option Linearized)
-      → PlaceBy op.quota contents counts x changed ended p
-      → ChangedBy (run_of op.threads op.quota log contents counts) last x.thread x.call x.begun changed
-      → EndedBy (run_of op.threads op.quota log contents counts) last x.thread x.call x.begun changed ended
-      → IfSome p (λ (z : Linearized). z.moment ≤ last)
-  upto x (Some m) ended p h c e = subst (λ y. IfSome y (λ (z : Linearized). z.moment ≤ last)) (sym h) c.0
-  upto x None None p h c e = subst (λ y. IfSome y (λ (z : Linearized). z.moment ≤ last)) (sym h) tt
-  upto x None (Some end) p h c e = rw h.1 (let a : h.0 ≤ end.0 = h.2.upto in let b : end.0 ≤ last = e.0 in omega arith)
-
-  pub stand_upto : StandUpTo last (trace_at op log last).places
-  stand_upto i l =
-      let f = follows op last log contents counts account low last (omega arith) in
-      let count : length (trace_at op log last).places ≡ length (calls_at log last) = f.numbered in
-      let t = all_at (Traced (run_of op.threads op.quota log contents counts) last) (calls_at log last) no_traced i
-      (omega arith)
-      (calls_of op last log contents counts account last (omega arith)).each in
-      upto (traced_at (calls_at log last) i) (traced_at (calls_at log last) i).changed (traced_at (calls_at log last) i).ended
-      (place_at (trace_at op log last).places i)
-      (f.placed i (omega arith)) t.changes t.ends
-
-  pub placement : IsPlacement op.quota last (calls_at log last) contents counts (blocks_upto (trace_at op log last).places last)
+  pub placement : (order : List Placed) → IsOrderOf (trace_at op log last).places order
+      → IsPlacement op.quota (calls_at log last) contents counts order
   placement =
       let f = follows op last log contents counts account low last (omega arith) in
-      is_placement op.quota contents counts (calls_at log last) (trace_at op log last).places f.numbered f.placed last
+      is_placement op.quota contents counts (calls_at log last) (trace_at op log last).places f.numbered f.placed
 
--- a world has one content
+-- A world has one content.
 content_once : (v : View) (ks js : List ℕ) → IsContent v ks → IsContent v js → ks ≡ js
 content_once v ks js a b = a.0.2 ∙ ap (keys_in v) (chain_once v 0 a.0.0 b.0.0 a.0.1 b.0.1) ∙ sym b.0.2
 
--- THE REPORT of a run that has been followed
+-- THE REPORT of a run that was recorded
 module _ (T : Table) (accounts : TellsKeys T) (op : Opening) (events : List LineEvent) (k : ℕ) (w : WorldState) (r : Recorder)
     (h : HasFollowed T op events k w r) where
   open shown T op events use {log, contents, counts}
@@ -156,23 +166,15 @@ module _ (T : Table) (accounts : TellsKeys T) (op : Opening) (events : List Line
       let b : length (calls_at log k) ≤ k = few_calls log k in
       omega arith
 
-  pub places_upto : StandUpTo k r.places.items
-  places_upto = subst (λ (s : Trace). StandUpTo k s.places) (sym h.trace)
-      (stand_upto op k log contents counts (account_then T accounts op events k w r h)
-      (low_then T accounts op events k w r h))
+  pub order_then : (order : List Placed) → IsOrderOf r.places.items order → IsPlacement op.quota (calls_at log k) contents counts order
+  order_then order o = placement op k log contents counts (account_then T accounts op events k w r h)
+      (low_then T accounts op events k w r h) order (subst (λ (s : Trace). IsOrderOf s.places order) h.trace o)
 
-  pub order_then : IsPlacement op.quota k (calls_at log k) contents counts
-      (blocks_upto r.places.items k)
-  order_then = subst (λ (s : Trace). IsPlacement op.quota k (calls_at log k) contents
-      counts (blocks_upto s.places k)) (sym h.trace)
-      (placement op k log contents counts (account_then T accounts op events k w r h)
-      (low_then T accounts op events k w r h))
-
--- and of all events
+-- The report of all events of a schedule
 pub replay_is : (T : Table) (accounts : TellsKeys T) (p : Plan) (w : WorldState) (r : Recorder) (order : List Placed)
     (keys : List ℕ)
     → HasFollowed T (opening_in p) (events_of p) (length (events_of p)) w r
-    → order ≡ blocks_upto r.places.items (length (events_of p))
+    → IsOrderOf r.places.items order
     → IsContent (view_of w.sizes w.state) keys
     → IsReplay T p (record { version = p.version; kind = p.kind; history = r.history; order = order; keys = keys })
 replay_is T accounts p w r order keys h o c =
@@ -187,10 +189,8 @@ replay_is T accounts p w r order keys h o c =
       report = record {
         run = subst (λ z. Run T op es z) (sym e) h.run;
         history_is = (kept_then T accounts op (events_of p) n w r h).history ∙ ap (λ z. history_at (log_of T op es) z) (sym e);
-        placement = subst (λ z. IsPlacement op.quota z (calls_at (log_of T op es) z) (contents_of (views T op es))
-            (counts_of (views T op es)) order) (sym e)
-            (subst (λ z. IsPlacement op.quota n (calls_at (log_of T op es) n) (contents_of (views T op es))
-            (counts_of (views T op es)) z) (sym o) (order_then T accounts op (events_of p) n w r h));
+        placement = subst (λ z. IsPlacement op.quota (calls_at (log_of T op es) z) (contents_of (views T op es))
+            (counts_of (views T op es)) order) (sym e) (order_then T accounts op (events_of p) n w r h order o);
         content = subst (λ z. IsContent (views T op es z) keys) (sym e)
             (subst (λ (z : WorldState). IsContent (view_of z.sizes z.state) keys) h.world c);
       };
@@ -200,7 +200,7 @@ replay_is T accounts p w r order keys h o c =
 module _ (T : Table) (headline : PlacementExplainsRuns T) (op : Opening) (events : List Event) (history : List CallRecord)
     (order : List Placed) (keys : List ℕ)
     (h : IsReportOf T op events history order keys) where
-  -- the order of the run is the report's
+  -- The report's order is the placement of the run, so it explains the run.
   run_explained : ExplainsRun T op (event_at events) (length events) order
   run_explained =
       let found : (o : List Placed) × ExplainsRun T op (event_at events) (length events) o

@@ -1,22 +1,20 @@
--- How the list of calls changes at an entry: by a new call, or at the open one of a thread.
+-- The effect of an entry on the list of calls: a call is appended, or the pending call of a thread changes.
 use Rattle.std.proofs.lemmas.Grind.{common_steps}
 use Rattle.std.proofs.Common.{◌≡◌, ◌≢◌, ℕ, zero, suc, ◌+◌, ◌<◌, ◌≤◌, ◌⊎◌, true, false, inl, inr, List, [], ◌∷◌, ◌++◌, length, map}
 use Rattle.std.proofs.Common.{set, sym, refl, subst, ap, ◌∙◌, arith}
-use Rattle.std.specs.Prelude.{Option, None, if◌then◌else◌, IsSomeAnd}
+use Rattle.std.specs.Prelude.{AllPairs, Option, None, if◌then◌else◌, IsSomeAnd}
 use Rattle.std.proofs.lemmas.List.{length-append, length-map, get_or-map, get_or_append_left, get_or_push}
 use Rattle.lset_words.specs.declared.Call.{Call}
 use Rattle.lset_words.specs.declared.Reply.{Reply}
 use Rattle.lset_words.specs.Log.{Log, Change, TracedCall, is_under_way, traced_on, calls_at, calls_after}
 use Rattle.lset_words.specs.Log.Entry.{began, stepped}
 use Rattle.lset_words.specs.Account.{Contents, Counts, Account}
-use Rattle.lset_words.specs.Placement.{no_traced, traced_at}
+use Rattle.lset_history.specs.Placement.{no_traced, traced_at}
 use Rattle.std.proofs.lemmas.Bool.{cases_Bool, cases_order}
-use Rattle.lset_history.proofs.Lists.{Pairs, pairs_std}
-use Rattle.lset_history.proofs.Calls.{Later, IsOpenOf, Calls, new_call}
-use Rattle.lset_history.proofs.CallSteps.{step_of, way_of, is_way, run_of, calls_of}
+use Rattle.lset_history.proofs.Calls.{Later, IsOpenOf, new_call, step_of, way_of, is_way, calls_of}
 use Rattle.lset_words.specs.Words.{Opening}
 
--- how many calls have begun
+-- The number of calls that have begun
 pub length_began : (log : Log) (k t : ℕ) (call : Call) → log k ≡ began t call
     → length (calls_at log (suc k)) ≡ suc (length (calls_at log k))
 length_began log k t call e = grind (arith, common_steps)
@@ -26,11 +24,11 @@ pub length_stepped : (log : Log) (k t : ℕ) (change : Option Change) (reply : O
 length_stepped log k t change reply e = ap (λ z. length (calls_after (suc k) z (calls_at log k))) e
     ∙ length-map (calls_at log k) (step_of k t change reply)
 
--- an open call of the thread: this one, which began at that moment
+-- A pending call of the thread, with this call and this begin
 abbrev pub IsOpenAs : ℕ → Call → ℕ → TracedCall → Type 0
 IsOpenAs t call begun x = (x.thread ≡ t) × (x.ended ≡ None) × (x.call ≡ call) × (x.begun ≡ begun)
 
--- the call of that number is it
+-- The pending call of the thread has this number.
 pub record OpenNumber (xs : List TracedCall) (t number : ℕ) (call : Call) (begun : ℕ) : Type 0 where
   pub below : number < length xs
   pub open_call : IsOpenAs t call begun (traced_at xs number)
@@ -43,7 +41,7 @@ open_new k t call xs =
       open_call = rw (get_or_push xs (new_call k t call) no_traced (length xs) refl) (refl, refl, refl, refl);
     }
 
--- it stays so where another call begins,
+-- The pending call keeps its number if another thread begins a call.
 pub open_began : (x : TracedCall) (xs : List TracedCall) (t number : ℕ) (call : Call) (begun : ℕ) → OpenNumber xs t number call begun
     → OpenNumber (xs ++ x ∷ []) t number call begun
 open_began x xs t number call begun p =
@@ -54,7 +52,7 @@ open_began x xs t number call begun p =
       open_call = subst (IsOpenAs t call begun) (sym (get_or_append_left xs (x ∷ []) no_traced number low)) p.open_call;
     }
 
--- and at a step of another thread, or one without an answer
+-- The pending call keeps its number at a step of another thread, and at a step without a reply.
 pub open_stepped : (k u t : ℕ) (change : Option Change) (reply : Option Reply) (xs : List TracedCall) (number : ℕ) (call : Call)
     (begun : ℕ) → (reply ≡ None) ⊎ (u ≢ t) → OpenNumber xs t number call begun
     → OpenNumber (map (step_of k u change reply) xs) t number call begun
@@ -73,8 +71,8 @@ open_stepped k u t change reply xs number call begun c p =
       | inr b ↦ rw b o
     ]
 
--- A STEP sets the open call anew, and leaves the others
-open_once : (xs : List TracedCall) (t i j : ℕ) → Pairs Later xs → i < length xs → j < length xs → IsOpenOf t (traced_at xs i)
+-- A STEP writes the pending call of its thread, and no other call.
+open_once : (xs : List TracedCall) (t i j : ℕ) → AllPairs Later xs → i < length xs → j < length xs → IsOpenOf t (traced_at xs i)
     → IsOpenOf t (traced_at xs j) → i ≡ j
 open_once xs t i j p l m a b = elim (cases_order i j) [
   | inl e ↦ e
@@ -83,7 +81,7 @@ open_once xs t i j p l m a b = elim (cases_order i j) [
   where
     clash : (i j : ℕ) → i < j → j < length xs → IsOpenOf t (traced_at xs i) → IsOpenOf t (traced_at xs j) → ⊥
     clash i j n m a b =
-        let q : Later (traced_at xs i) (traced_at xs j) = pairs_std Later xs p i j no_traced n m in
+        let q : Later (traced_at xs i) (traced_at xs j) = p i j no_traced n m in
         subst (λ z. IsSomeAnd z (λ (d : ℕ × Reply). d.0 < (traced_at xs j).begun)) a.1 (q.one_thread (a.0 ∙ sym b.0))
 
 map_sets : (t i : ℕ) (f : TracedCall → TracedCall) (xs : List TracedCall) → i < length xs → is_under_way t (traced_at xs i) ≡ true
@@ -106,7 +104,7 @@ map_sets t (suc i) f (x ∷ xs) l u n =
     let e = map_sets t i f xs (omega arith) u (λ j m d. n (suc j) (omega arith) (λ g. d (omega arith))) in
     rw (b, e) refl
 
--- at one step of an account
+-- At a step of an account
 pub step_sets : (op : Opening) (last : ℕ) (log : Log) (contents : Contents) (counts : Counts)
     → Account op last log contents counts
     → (k t : ℕ) (change : Option Change) (reply : Option Reply) → k ≤ last
@@ -119,7 +117,7 @@ step_sets op last log contents counts a k t change reply l number call begun p =
     (is_way t (traced_at (calls_at log k) number) p.open_call.0 p.open_call.1)
     (λ j m n. others j m n c.pairs (cases_Bool (is_under_way t (traced_at (calls_at log k) j))))
   where
-    others : (j : ℕ) → j < length (calls_at log k) → j ≢ number → Pairs Later (calls_at log k)
+    others : (j : ℕ) → j < length (calls_at log k) → j ≢ number → AllPairs Later (calls_at log k)
         → (is_under_way t (traced_at (calls_at log k) j) ≡ true) ⊎ (is_under_way t (traced_at (calls_at log k) j) ≡ false)
         → is_under_way t (traced_at (calls_at log k) j) ≡ false
     others j m n q (inr b) = b

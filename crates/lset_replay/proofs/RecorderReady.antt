@@ -1,12 +1,11 @@
--- A run's next event finds the recorder ready for it.
-use Rattle.std.proofs.Common.{◌≡◌, ℕ, zero, suc, ◌<◌, ◌≤◌, ◌^◌, Bool, true, false, List, [], ◌∷◌, get_or, sym, refl, subst, ap, ◌∙◌, arith, ◌&&◌, inl, inr, length}
-use Rattle.std.specs.Prelude.{All, if◌then◌else◌, Contains as InList, ◌==◌, Option, Some, None, is_none, IfSome, IsSomeAnd}
-use Rattle.std.specs.List.{AllByRecursion, list_any}
-use Rattle.std.proofs.lemmas.List.Elements.{All-from_get_or, All-from_recursion}
+-- The recorder is ready for the next event of a run.
+use Rattle.std.proofs.Common.{◌≡◌, ℕ, zero, suc, ◌<◌, ◌≤◌, ◌^◌, Bool, true, false, List, [], ◌∷◌, get_or, sym, refl, subst, ap, ◌∙◌, arith, ◌&&◌, length}
+use Rattle.std.specs.Prelude.{All, if◌then◌else◌, Contains as InList, ◌==◌, Option, None, is_none, IfSome}
+use Rattle.std.proofs.lemmas.List.Elements.{All-from_get_or, All-map}
 use Rattle.std.proofs.lemmas.List.{length-map, length-replicate, get_or-replicate}
 use Rattle.std.proofs.lemmas.List.Folds.{list_any_none}
 use Rattle.std.proofs.Math.ListN.{get_or-map}
-use Rattle.std.proofs.lemmas.Bool.{cases_Bool, false_from_ne_true}
+use Rattle.std.proofs.lemmas.Bool.{false_from_ne_true}
 use Rattle.lset_words.specs.Account.{Contents, Counts, Enters, Account}
 use Rattle.lset_words.specs.SequentialSet.{has_key}
 use Rattle.lset_words.specs.Words.{Opening}
@@ -15,23 +14,20 @@ use Rattle.lset_words.specs.declared.Reply.{Reply}
 use Rattle.lset_words.specs.declared.history.CallRecord.{CallRecord}
 use Rattle.lset_words.specs.Log.{Log, Entry, Change, TracedCall, is_under_way, calls_at, history_at, record_of, is_open}
 use Rattle.lset_words.specs.Log.Entry.{began, stepped}
-use Rattle.lset_words.specs.Placement.{no_traced}
+use Rattle.lset_history.specs.Placement.{no_traced}
 use Rattle.lset_words.specs.History.{call_numbered}
 use Rattle.lset_history.specs.Changes.{opened_moments, is_present, state_at, IsBounded, moments_of}
 use Rattle.lset_history.proofs.Keys.{has_from, has_false, has_none}
-use Rattle.lset_history.specs.History.{IsLater, MayBegin, MayEnd, has_open}
-use Rattle.lset_history.proofs.Lists.{all_imply, all_map}
-use Rattle.lset_history.proofs.Calls.{Traced, EndedBy, OpenAt}
-use Rattle.lset_history.proofs.CallSteps.{run_of, calls_of, way_of}
+use Rattle.lset_history.specs.History.{IsLater, MayBegin, has_open}
+use Rattle.lset_history.proofs.Calls.{Traced, if_some, run_of, calls_of, way_of}
 use Rattle.lset_replay.proofs.KeyChanges.{Tells, HoldsKeys, may_change}
 use Rattle.lset_replay.proofs.OpenCalls.{OpenNumber, length_began, length_stepped}
-use Rattle.lset_replay.specs.declared.places.OpenCall.{OpenCall}
 use Rattle.lset_replay.specs.declared.recorder.Recorder.{Recorder}
-use Rattle.lset_replay.specs.Trace.{Trace, open_call_at, trace_at, trace_after, trace_of, MayStep, MayChange}
-use Rattle.lset_replay.proofs.ReplayKept.{Follows, IsWatched, follows_beginning}
+use Rattle.lset_replay.specs.Trace.{Trace, trace_at, trace_after, trace_of, MayStep, MayChange}
+use Rattle.lset_replay.proofs.ReplayKept.{Follows, follows_beginning}
 use Rattle.lset_replay.proofs.StepKept.{follows_step}
 
--- ---- what the opening keys are in a trace before its first event
+-- ---- the opening keys in a trace before its first event
 
 one_upto : (i : ℕ) → i < 1 → get_or (0 ∷ []) i 0 ≤ 0
 one_upto zero l = omega arith
@@ -70,7 +66,7 @@ module _ (op : Opening) (contents : Contents) (opens : (k : ℕ) → (contents 0
 module _ (op : Opening) (last : ℕ) (log : Log) (contents : Contents) (counts : Counts)
     (account : Account op last log contents counts)
     (low : HoldsKeys last contents) where
-  -- THE TRACE of a run is what it has to be
+  -- THE TRACE of a run meets its invariant.
   entered : (k : ℕ) → k < last → (s : Trace) → (e : Entry) → log k ≡ e → Enters op.threads op.quota log contents counts k e
       → Follows op log contents counts k s
       → Follows op log contents counts (suc k) (trace_after (suc k) e s)
@@ -96,7 +92,7 @@ module _ (op : Opening) (last : ℕ) (log : Log) (contents : Contents) (counts :
     now : Follows op log contents counts k (trace_of r)
     now = subst (λ s. Follows op log contents counts k s) (sym is) (follows k below)
 
-    each : AllByRecursion (Traced (run_of op.threads op.quota log contents counts) k) (calls_at log k)
+    each : All (Traced (run_of op.threads op.quota log contents counts) k) (calls_at log k)
     each = (calls_of op last log contents counts account k below).each
 
     begun_before : (x : TracedCall) → Traced (run_of op.threads op.quota log contents counts) k x → (record_of x).begun < suc k
@@ -104,30 +100,23 @@ module _ (op : Opening) (last : ℕ) (log : Log) (contents : Contents) (counts :
 
     ended_before : (x : TracedCall) → Traced (run_of op.threads op.quota log contents counts) k x
         → IfSome (record_of x).ended (λ (e : ℕ × Reply). e.0 < suc k)
-    ended_before x t = at x.ended t.ends
-      where
-        at : (ended : Option (ℕ × Reply)) → EndedBy (run_of op.threads op.quota log contents counts) k x.thread x.call x.begun
-            x.changed ended
-            → IfSome ended (λ (e : ℕ × Reply). e.0 < suc k)
-        at None h = tt
-        at (Some e) h = let a : e.0 ≤ k = h.0 in omega arith
+    ended_before x t = if_some x.ended (λ e. e.0 < suc k) (λ e i. omega (arith, (t.ends e.0 e.1 i).0))
+
+    of_each : (P : CallRecord → Type 0) → ((x : TracedCall) → Traced (run_of op.threads op.quota log contents counts) k x → P (record_of x))
+        → All P (history_at log k)
+    of_each P f = All-map P record_of (calls_at log k) (λ i d l. f _ (each i d l))
 
     later : IsLater r.history.calls (suc k)
     later = subst (λ (xs : List CallRecord). IsLater xs (suc k)) (sym now.history) (record {
       counted = omega arith;
-      begins = All-from_recursion (λ (y : CallRecord). y.begun < suc k) (history_at log k)
-          (all_map record_of (λ (y : CallRecord). y.begun < suc k) (calls_at log k) (all_imply (Traced
-          (run_of op.threads op.quota log contents counts) k) (λ x. (record_of x).begun < suc k) begun_before (calls_at log k)
-          each));
-      ends = All-from_recursion (λ (y : CallRecord). IfSome y.ended (λ (e : ℕ × Reply). e.0 < suc k)) (history_at log k)
-          (all_map record_of (λ (y : CallRecord). IfSome y.ended (λ (e : ℕ × Reply). e.0 < suc k)) (calls_at log k)
-          (all_imply (Traced (run_of op.threads op.quota log contents counts) k) (λ x. IfSome (record_of x).ended
-          (λ (e : ℕ × Reply). e.0 < suc k)) ended_before (calls_at log k) each));
+      begins = of_each (λ y. y.begun < suc k) begun_before;
+      ends = of_each (λ y. IfSome y.ended (λ (e : ℕ × Reply). e.0 < suc k)) ended_before;
     })
 
     shut : (t : ℕ) → is_open log t k ≡ false → (x : TracedCall) → Traced (run_of op.threads op.quota log contents counts) k x
         → is_under_way t x ≡ false
-    shut t e x h = false_from_ne_true (is_under_way t x) (λ y. grind arith)
+    shut t e x h = false_from_ne_true (is_under_way t x) (λ y. let w = way_of t x y in let o = h.is_open w.1 in
+        let busy : is_open log t k ≡ true = rw w.0 o.is in cc)
 
     pub may_begin : (t : ℕ) (call : Call) → Enters op.threads op.quota log contents counts k (began t call)
         → MayBegin r.history t (suc k) × (t < length r.under_way.items)
@@ -136,9 +125,7 @@ module _ (op : Opening) (last : ℕ) (log : Log) (contents : Contents) (counts :
         of_a_thread = rw threads en.of_a_thread;
         idle = ap (λ (xs : List CallRecord). has_open xs t) now.history
             ∙ list_any_none (λ (x : CallRecord). x.thread == t && is_none x.ended) (history_at log k)
-            (All-from_recursion _ (history_at log k) (all_map record_of (λ (x : CallRecord). (x.thread == t && is_none x.ended) ≡ false) (calls_at log k)
-            (all_imply (Traced (run_of op.threads op.quota log contents counts) k)
-            (λ x. is_under_way t x ≡ false) (shut t en.idle) (calls_at log k) each)));
+            (of_each (λ x. (x.thread == t && is_none x.ended) ≡ false) (shut t en.idle));
         later = later;
       },
       (let a : t < op.threads = en.of_a_thread in let b : length r.under_way.items ≡ op.threads = now.seats in omega arith),
@@ -175,7 +162,7 @@ module _ (op : Opening) (last : ℕ) (log : Log) (contents : Contents) (counts :
           may_change contents k (moments_of r.changes) now.upto now.keys change en.content,
         )
 
--- there are no more calls than events
+-- There are at most as many calls as events.
 pub few_calls : (log : Log) (k : ℕ) → length (calls_at log k) ≤ k
 few_calls log zero = omega arith
 few_calls log (suc k) = at (log k) refl (few_calls log k)

@@ -1,9 +1,9 @@
--- What replay keeps after the first events of a run: the run's history, what each open call has seen, the places of the calls.
+-- The trace after the first events of a run: the history, the pending calls, the points of the calls.
 use Rattle.std.proofs.lemmas.Grind.{common_steps}
 use Rattle.std.proofs.Common.{◌≡◌, ◌≢◌, ℕ, suc, ◌+◌, ◌<◌, ◌≤◌, true, false, inl, inr, List, [], ◌∷◌, ◌++◌, length, map, sym, refl}
 use Rattle.std.proofs.Common.{subst, ap, ◌∙◌, arith, length-set, get_or-set_same, get_or-set_other}
 use Rattle.std.specs.Prelude.{All, Option, Some, None}
-use Rattle.std.proofs.lemmas.List.{length-map, length_push, get_or_push, get_or_append_left, map-append}
+use Rattle.std.proofs.lemmas.List.{length-map, get_or_push, get_or_append_left, map-append}
 use Rattle.lset_words.specs.declared.Call.{Call}
 use Rattle.lset_words.specs.declared.Reply.{Reply}
 use Rattle.lset_words.specs.declared.history.CallRecord.{CallRecord}
@@ -11,7 +11,7 @@ use Rattle.lset_words.specs.Log.{Log, Entry, Change, TracedCall, calls_at, calls
 use Rattle.lset_words.specs.Log.{has_changed}
 use Rattle.lset_words.specs.Log.Entry.{began}
 use Rattle.lset_words.specs.Account.{Contents, Counts, Enters}
-use Rattle.lset_words.specs.Placement.{traced_at, no_traced, IsSmallestFit}
+use Rattle.lset_history.specs.Placement.{traced_at, no_traced, IsSmallestFit}
 use Rattle.lset_words.proofs.Numbers.{same_or_not, below_or_not, if_same, if_other}
 use Rattle.lset_words.specs.Words.{Opening}
 use Rattle.lset_history.proofs.Calls.{open_is, changed_is, new_call}
@@ -22,16 +22,16 @@ use Rattle.lset_replay.specs.Trace.{Trace, open_call_at, place_at, number_of, fi
 use Rattle.lset_replay.specs.Trace.{ended_on}
 use Rattle.lset_history.specs.Changes.{is_present, IsBounded}
 use Rattle.lset_history.proofs.ChangeLaws.{all_upto_later}
-use Rattle.lset_replay.proofs.KeyChanges.{Tells, changes_by, quiet_keys, last_or_before}
+use Rattle.lset_replay.proofs.KeyChanges.{Tells, changes_by, quiet_keys}
 
--- AN OPEN CALL of a thread, at moment k
+-- A PENDING CALL of a thread, at moment k
 pub record IsWatched (log : Log) (contents : Contents) (counts : Counts) (k t : ℕ) (o : OpenCall) : Type 0 where
   pub here : OpenNumber (calls_at log k) t o.number o.call o.begun
   pub since : o.begun ≤ k
-  -- until its change the count of its thread stays
+  -- until its change, the count of its thread stays the same
   pub steady : has_changed log t k ≡ false → (m : ℕ) → o.begun ≤ m → m ≤ k → counts m t ≡ counts k t
 
--- THE PLACE of a call
+-- THE POINT of a call
 abbrev pub PlaceBy : ℕ → Contents → Counts → TracedCall → Option ℕ → Option (ℕ × Reply) → Option Linearized → Type 0
 PlaceBy q contents counts x (Some m) ended p = p ≡ Some (changed_at m)
 PlaceBy q contents counts x None None p = p ≡ None
@@ -41,7 +41,7 @@ PlaceBy q contents counts x None (Some end) p =
 abbrev pub PlaceOf : ℕ → Contents → Counts → TracedCall → Option Linearized → Type 0
 PlaceOf q contents counts x p = PlaceBy q contents counts x x.changed x.ended p
 
--- WHAT IS KEPT after k events
+-- THE TRACE after k events
 pub record Follows (op : Opening) (log : Log) (contents : Contents) (counts : Counts) (k : ℕ) (s : Trace) : Type 0 where
   pub history : s.calls ≡ history_at log k
   pub seats : length s.under_way ≡ op.threads
@@ -55,7 +55,7 @@ pub record Follows (op : Opening) (log : Log) (contents : Contents) (counts : Co
   pub placed : (i : ℕ) → i < length (calls_at log k)
       → PlaceOf op.quota contents counts (traced_at (calls_at log k) i) (place_at s.places i)
 
--- ---- what a step does to the parts of a trace
+-- ---- the effect of a step on the parts of a trace
 abbrev pub change_place : Option Change → ℕ → Option Linearized → Option Linearized
 change_place None m p = p
 change_place (Some c) m p = Some (changed_at m)
@@ -134,7 +134,7 @@ module _ (m t : ℕ) where
 pub calls_are : (log : Log) (k : ℕ) (e : Entry) → log k ≡ e → calls_at log (suc k) ≡ calls_after (suc k) e (calls_at log k)
 calls_are log k e at = ap (λ z. calls_after (suc k) z (calls_at log k)) at
 
--- an open call stays watched where the count of its thread stays until its change
+-- A pending call keeps its facts, if the count of its thread stays the same until its change.
 module _ (log : Log) (contents : Contents) (counts : Counts) (k u : ℕ) (o : OpenCall)
     (quiet : has_changed log u (suc k) ≡ false → (has_changed log u k ≡ false) × (counts (suc k) u ≡ counts k u))
     (w : IsWatched log contents counts k u o) where

@@ -1,7 +1,7 @@
--- What replay keeps at a step: the history, the open calls, the places and the keys after it.
-use Rattle.std.proofs.Common.{◌≡◌, ◌≢◌, ℕ, suc, ◌<◌, ◌≤◌, Bool, true, false, ◌||◌, inl, inr, List, length, map, set, sym, refl}
+-- The trace after a step: the history, the pending calls, the points and the keys.
+use Rattle.std.proofs.Common.{◌≡◌, ◌≢◌, ℕ, suc, ◌<◌, ◌≤◌, true, false, ◌||◌, inl, inr, List, length, map, set, sym, refl}
 use Rattle.std.proofs.Common.{subst, ap, ◌∙◌, arith, get_or-set_same, get_or-set_other}
-use Rattle.std.specs.Prelude.{All, ◌-◌, Option, Some, None, is_some}
+use Rattle.std.specs.Prelude.{All, ◌-◌, Option, Some, None}
 use Rattle.std.proofs.lemmas.List.{map-set, set-get_or}
 use Rattle.std.proofs.lemmas.Bool.{or_parts, or_from}
 use Rattle.std.proofs.Math.ListN.{get_or-map}
@@ -10,14 +10,11 @@ use Rattle.lset_words.specs.Log.{Log, Change, TracedCall, traced_on, changed_by,
 use Rattle.lset_words.specs.Log.{record_of, last_call, begun_at, is_open, has_changed, is_change, open_after}
 use Rattle.lset_words.specs.Log.Entry.{stepped}
 use Rattle.lset_words.specs.Account.{Contents, Counts, FitsSometime, RightReply, Enters, Account, count_after}
-use Rattle.lset_words.specs.Placement.{traced_at, no_traced, IsSmallestFit}
-use Rattle.lset_words.specs.History.{call_numbered, no_call}
-use Rattle.lset_history.specs.History.{ended_with}
+use Rattle.lset_history.specs.Placement.{traced_at, no_traced, IsSmallestFit}
+use Rattle.lset_words.specs.History.{no_call}
 use Rattle.lset_words.proofs.Numbers.{same_or_not, if_same, if_other}
 use Rattle.lset_words.specs.Words.{Opening}
-use Rattle.lset_history.proofs.Lists.{all_at}
-use Rattle.lset_history.proofs.Calls.{Run, Traced, EndedBy, OpenAt, open_is, changed_is}
-use Rattle.lset_history.proofs.CallSteps.{run_of, calls_of}
+use Rattle.lset_history.proofs.Calls.{Run, Traced, OpenAt, open_is, changed_is, run_of, calls_of}
 use Rattle.lset_replay.proofs.OpenCalls.{OpenNumber, open_stepped, length_stepped, step_sets}
 use Rattle.lset_replay.specs.declared.places.OpenCall.{OpenCall}
 use Rattle.lset_replay.specs.declared.places.Linearized.{Linearized}
@@ -32,7 +29,7 @@ use Rattle.lset_replay.proofs.ReplayKept.{changed_seats, changed_open, changed_c
 use Rattle.lset_replay.proofs.ReplayKept.{ended_seats, ended_others, ended_seat, ended_count, ended_other, ended_here}
 use Rattle.lset_replay.proofs.ReplayKept.{ended_changes, calls_are, steady_next, watched_next}
 
--- the place of the call that steps
+-- The point of the call that makes the step
 module _ (q : ℕ) (contents : Contents) (counts : Counts) (x : TracedCall) (m : ℕ) (changes : ℕ → List ℕ) (o : OpenCall) where
   changed_place : (ch : Option Change) (r : Option Reply) (p : Option Linearized) (c : ℕ) → p ≡ Some (changed_at c)
       → end_place changes m r o p ≡ Some (changed_at c)
@@ -55,7 +52,7 @@ module _ (q : ℕ) (contents : Contents) (counts : Counts) (x : TracedCall) (m :
         record { from = w.2.from; upto = w.2.upto; fits = w.2.fits; smallest = w.2.smallest },
       )
 
--- the history after an answer
+-- The history after a reply
 module _ (m t : ℕ) (cs : List TracedCall) (ch : Option Change) (o : OpenCall) (s : Trace) where
   abbrev num : ℕ
   num = o.number
@@ -93,7 +90,7 @@ module _ (op : Opening) (last : ℕ) (log : Log) (contents : Contents) (counts :
   abbrev open_now : (o : OpenCall) × (open_call_at s.under_way t ≡ Some o) × IsWatched log contents counts k t o
   open_now = f.busy t en.of_a_thread en.under_way
 
-  -- the call that steps, its number, and where it is open
+  -- the call that makes the step, and its number
   abbrev watching : OpenCall
   watching = open_now.0
 
@@ -106,7 +103,7 @@ module _ (op : Opening) (last : ℕ) (log : Log) (contents : Contents) (counts :
   number : OpenNumber (calls_at log k) t number_here watching.call watching.begun
   number = open_now.2.here
 
-  -- what is kept after its change, and after its end
+  -- the trace after its change, and after its end
   abbrev changed : Trace
   changed = changed_on (suc k) t ch s
 
@@ -114,11 +111,10 @@ module _ (op : Opening) (last : ℕ) (log : Log) (contents : Contents) (counts :
   kept = ended_on (suc k) t r changed
 
   traced : Traced run k here
-  traced = all_at (Traced run k) (calls_at log k) no_traced number_here number.below
-      (calls_of op last log contents counts account k below).each
+  traced = (calls_of op last log contents counts account k below).each number_here no_traced number.below
 
   told : OpenAt run k here.thread here.call here.begun here.changed
-  told = subst (EndedBy run k here.thread here.call here.begun here.changed) number.open_call.1 traced.ends
+  told = traced.is_open number.open_call.1
 
   calls_next : calls_at log (suc k) ≡ set (calls_at log k) number_here (traced_on (suc k) ch r here)
   calls_next = calls_are log k (stepped t ch r) at
@@ -166,7 +162,7 @@ module _ (op : Opening) (last : ℕ) (log : Log) (contents : Contents) (counts :
   open_other None u d e = e
   open_other (Some a) u d e = sym (if_other t u d false (is_open log u k)) ∙ e
 
-  -- it stays open unless it answers
+  -- the call stays pending unless it ends
   open_here : (a : Option Reply) → open_after (stepped t ch a) t (is_open log t k) ≡ true
       → (open_call_at (ended_on (suc k) t a changed).under_way t ≡ Some watching)
       × OpenNumber (calls_after (suc k) (stepped t ch a) (calls_at log k)) t number_here watching.call watching.begun

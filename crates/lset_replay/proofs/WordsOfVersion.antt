@@ -1,6 +1,6 @@
--- A replay tells calls and replies that its schedule's version has words for.
-use Rattle.std.proofs.Common.{ap, ◌≡◌, ℕ, zero, suc, ◌+◌, ◌<◌, Bool, true, false, List, [], ◌∷◌, length, get_or, map, replicate}
-use Rattle.std.proofs.Common.{refl, sym, subst, ◌∙◌, arith}
+-- The calls and replies of a replay have words in the version of its schedule.
+use Rattle.std.proofs.Common.{ap, ◌≡◌, ℕ, zero, suc, ◌+◌, Bool, true, false, List, [], ◌∷◌, length, map, replicate}
+use Rattle.std.proofs.Common.{refl, sym, subst, ◌∙◌}
 use Rattle.std.specs.Prelude.{Option, Some, None, ◌==◌, Contains, if◌then◌else◌}
 use Rattle.std.specs.List.{AllByRecursion}
 use Rattle.std.proofs.lemmas.List.{get_or_default}
@@ -35,7 +35,7 @@ use Rattle.lset_replay.specs.declared.events.LineEvent.{LineEvent}
 use Rattle.lset_replay.specs.Events.{events_of_line, events_from, events_of, only_events}
 use Rattle.lset_replay.specs.Reports.{IsReplay, IsExplained}
 
--- ---- what begins has a word
+-- ---- calls that begin have words
 
 abbrev BeginsIn : Version → Event → Type 0
 BeginsIn v (event.Begin t c) = HasCall v c
@@ -59,7 +59,7 @@ lines_begin v n [] h = tt
 lines_begin v n (l ∷ ls) h = all-append (BeginsLineIn v) (events_of_line n l) (events_from (n + 1) ls) (line_begins v n l h.0)
     (lines_begin v (n + 1) ls h.1)
 
--- past the end stands a step
+-- The event past the end is a step.
 event_begins : (v : Version) (es : List LineEvent) (k : ℕ) → AllByRecursion (BeginsLineIn v) es
     → BeginsIn v (event_at (only_events es) k)
 event_begins v [] k h = tt
@@ -116,7 +116,7 @@ history_is_in v T op k es h =
     all_map record_of (IsRecordIn v) (calls_at (log_of T op at) k)
     (calls_are_in v (log_of T op at) k (λ j. entry_enters v T (state_at T op at j) (at j) (event_begins v es j h)))
 
--- ---- the set gives a call of the first version a reply of it
+-- ---- the set's replies to calls of version 1 are replies of version 1
 
 abbrev IsReplyIn : Placed → Type 0
 IsReplyIn p = HasReply One p.reply
@@ -133,7 +133,7 @@ reply_is_in q s t (call.Remove k) h = either (has_key k.0 s.keys) reply.True rep
 reply_is_in q s t (call.Contains k) h = either (has_key k.0 s.keys) reply.True reply.False tt tt
 reply_is_in q s t (call.Ceiling k) h = absurd h
 
--- no number has a ceiling
+-- No call of the history is a ceiling.
 call_at_is_in : (calls : List CallRecord) (number : ℕ) → AllByRecursion (IsRecordIn One) calls
     → HasCall One (call_numbered calls number).call
 call_at_is_in [] number h = tt
@@ -149,7 +149,7 @@ order_is_in q calls s (p ∷ ps) legal h =
       order_is_in q calls (after_call s c.thread c.call p.reply) ps legal.1 h,
     )
 
--- ---- an ended call has the reply of a place
+-- ---- a completed call has the reply of its place
 
 end_is_in : (order : List Placed) (number : ℕ) (end : Option (ℕ × Reply)) → AllByRecursion IsReplyIn order
     → ((m : ℕ) (r : Reply) → end ≡ Some (m, r) → Contains order (record { call = number; reply = r })) → HasEnd One end

@@ -10,7 +10,7 @@ use Rattle.lset_schedule.specs.declared.TheConstants.{MOST_EVENTS}
 use Rattle.lset_schedule.specs.Plan.{Plan, event_count, first_event_line, opening_in}
 use Rattle.lset_replay.specs.declared.events.LineEvent.{LineEvent}
 
--- a line stands for one beginning, or for that many steps
+-- The events of a line: one begin, or a number of steps
 abbrev pub events_of_line : ℕ → Line → List LineEvent
 events_of_line number (line.Begin t call) = record { line = number; event = event.Begin t call } ∷ []
 events_of_line number (line.Go t steps) = replicate steps (record { line = number; event = event.Go t })
@@ -22,18 +22,19 @@ events_from number (l ∷ ls) = events_of_line number l ++ events_from (number +
 abbrev pub events_of : Plan → List LineEvent
 events_of p = events_from (first_event_line p) p.lines
 
--- what can be replayed: an opening within the limits, and no more events than there may be, whatever the calls are
+-- A schedule that can be replayed: the opening is within the limits, and there are at most MOST_EVENTS events. The calls are
+-- arbitrary.
 pub record IsInLimits (p : Plan) : Type 0 where
   pub opens : Opens (opening_in p)
   pub few : sum_by event_count p.lines ≤ MOST_EVENTS
 
--- without the numbers of the lines
+-- An event without the number of its line
 abbrev pub event_in : LineEvent → Event
 event_in e = e.event
 
 abbrev pub only_events : List LineEvent → List Event
 only_events es = map event_in es
 
--- the number of the line of the event at that index
+-- The line number of the event at an index
 abbrev pub line_at : List LineEvent → ℕ → ℕ
 line_at es index = (slice_index_or es index (record { line = 0; event = event.Go 0 })).line

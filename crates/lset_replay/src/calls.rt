@@ -1,4 +1,4 @@
-//! The calls of a run, gathered from what its events did.
+//! The calls of a run, collected from the effects of its events.
 ghost use Rattle.lset_words.specs.Words.{Opens};
 ghost use Rattle.lset_schedule.specs.Plan.{opening_in, view};
 
@@ -13,23 +13,23 @@ use lset_text::Cause;
 use lset_words::{Placed, Point, Reply};
 use std::alloc::{AllocError, Global};
 
-/// The calls of a run up to its last event, or to the first that cannot be made.
+/// The calls of a run up to its last event, or up to the first event that cannot be made.
 #[derive(Drop)]
 pub struct RunCalls {
     pub history: History,
     /// The calls that take effect, in the order in which they do.
     pub order: Vec<Placed>,
-    /// Of each place of the order the linearization point. (Herlihy and Wing's.)
+    /// The linearization point of each place of the order (Herlihy and Wing).
     pub points: Vec<Point>,
-    /// The keys that are left.
+    /// The final keys.
     pub keys: Vec<u32>,
-    /// How many events were made.
+    /// The number of events that were made.
     pub events: u32,
-    /// The number of the line of the event that cannot be made, and why.
+    /// The line number of the event that cannot be made, and the cause; `None` if all events were made.
     pub refused: Option<(u64, Cause)>,
 }
 
-/// The calls so far, and of each that takes effect its place.
+/// The calls so far, and the place of each call that has taken effect.
 #[derive(Drop)]
 struct Calls {
     history: History,
@@ -47,7 +47,7 @@ impl Calls {
         })
     }
 
-    /// Keeps what an event did to its call, if it did more than a step of it.
+    /// Records the effect of an event on its call, if the event begins, changes or ends the call.
     #[inline(always)]
     fn keep(&mut self, event: Event, made: MadeEvent) -> Result<(), AllocError> {
         match made.call {
@@ -56,7 +56,7 @@ impl Calls {
         }
     }
 
-    /// Keeps what an event did to the call of this number. (A history takes each call of a run, if there is memory.)
+    /// Records the effect of an event on the call with this number. (A history accepts each call of a run, if memory suffices.)
     #[inline(never)]
     fn keep_turn(&mut self, number: u32, event: Event, made: MadeEvent) -> Result<(), AllocError> {
         let moment = made.moment;
@@ -93,7 +93,7 @@ impl Calls {
         }
     }
 
-    /// The places, in the order in which the calls take effect.
+    /// Returns the places, in the order in which the calls take effect.
     fn sorted(&self, alloc: Global) -> Result<Vec<Pointed>, AllocError> {
         let mut pointed = Vec::new(alloc);
         for place in &self.places {
@@ -106,7 +106,7 @@ impl Calls {
     }
 }
 
-/// Makes the events of a schedule, up to the first that cannot be made: its line and the cause.
+/// Makes the events of a schedule, up to the first that cannot be made. Returns the line of that event and the cause.
 fn make_all<W: Steps + Drop>(
     schedule: &Schedule,
     run: &mut Run<W>,
@@ -126,13 +126,13 @@ fn make_all<W: Steps + Drop>(
     Ok(None)
 }
 
-/// Makes the events of a schedule, up to the first that cannot be made, and returns the calls of the run, which must be before
+/// Makes the events of a schedule, up to the first that cannot be made, and returns the calls of the run. `run` must be before
 /// its first event.
 ///
 /// A call that changed the set is placed at the event of its change, even if it is pending. Any other completed call is placed
-/// at the first moment of the call at which its reply is correct or, if a broken list has none, at its end. Of a list that is
-/// not broken these are the history, the order and the keys that `replay` returns. `schedule` must be within the limits, as
-/// every schedule from `read_schedule` is. Allocates; `AllocError` if that fails.
+/// at the first moment of the call at which its reply is correct. If a broken list has no such moment, the call is placed at
+/// its end. For a correct list, history, order and keys are those that `replay` returns. `schedule` must be within the limits,
+/// as every schedule from `read_schedule` is. Allocates; `AllocError` if that fails.
 pub fn calls_of<W: Steps + Drop>(
     alloc: Global,
     schedule: &Schedule,

@@ -11,7 +11,7 @@ pub struct LineEvent {
     pub event: Event,
 }
 
-/// Returns the event that a line of a schedule stands for, with the line's number, and how many times it comes.
+/// Returns the event of a line of a schedule, with the line's number, and how many times the line repeats it.
 pub fn event_of(number: u64, line: Line) -> (LineEvent, u32)
     ensures { events_of_line number line ≡ replicate result.1 result.0 }
 {

@@ -4,20 +4,20 @@ ghost use Rattle.lset_replay.specs.declared.fault.ReplayFault.TheVariants.{Memor
 use std::alloc::AllocError;
 use thiserror::Error;
 
-/// Why `replay` refuses a schedule: the first event that is not enabled, by the number of its line in the schedule's text,
-/// counted from 1 with the header; or that an allocation failed.
+/// An error of `replay`: the first event that is not enabled, with the number of its line in the schedule's text (counted
+/// from 1, the header included); or a failed allocation.
 #[derive(Clone, Copy, Debug, PartialEq, Eq, Error)]
 pub enum ReplayFault {
     /// There is no such thread.
     #[error("line {0}: NoThread")]
     NoThread(u64),
-    /// The thread that is to begin a call has one open.
+    /// The thread begins a call while it has one pending.
     #[error("line {0}: Busy")]
     Busy(u64),
-    /// The thread that is to make a step has no call open.
+    /// The thread makes a step while it has no call pending.
     #[error("line {0}: Idle")]
     Idle(u64),
-    /// There was no memory for the replay.
+    /// An allocation failed.
     #[error("out of memory")]
     Memory,
 }

@@ -9,8 +9,8 @@ use crate::places::{OpenCall, found_in, needs_key};
 use lset_history::Changes;
 use lset_words::{Call, Reply};
 
-/// Returns the first moment of a pending call, up to `last`, at which this reply is correct, if the call changes nothing;
-/// `None` if there is none.
+/// Returns the first moment of a pending call, up to `last`, at which this reply is correct if the call changes nothing.
+/// `None` if there is no such moment.
 pub fn fit(changes: &Changes, made: OpenCall, reply: Reply, last: u32) -> Option<u32>
     requires { made.begun ≤ last }
     ensures { result ≡ fit (moments_of changes.now) made reply last }
@@ -23,7 +23,7 @@ pub fn fit(changes: &Changes, made: OpenCall, reply: Reply, last: u32) -> Option
     }
 }
 
-/// The same of a call whose reply speaks of its own key alone.
+/// Returns what `fit` returns, for a call whose reply depends on its own key alone: any call but a `ceiling`.
 fn fit_by_key(changes: &Changes, made: OpenCall, reply: Reply, last: u32) -> Option<u32>
     requires span { made.begun ≤ last }
     requires own_key { (k : Key) → made.call ≢ Ceiling k }

@@ -1,7 +1,6 @@
-//! Replays schedules step by step, and reports what happened: the history of the calls, an order of them that
-//! explains it, and the keys that are left. `replay` does so with a contract, and keeps what that speaks of (`Recorder`). A `Run`
-//! tells what each event did, also on a broken list, and `calls_of` gathers its calls: traces and pictures stand on these, with
-//! tests in place of contracts.
+//! Replays schedules step by step and reports the run: the history of the calls, an order that explains the history, and the
+//! final keys. `replay` is proved; it collects the calls in a `Recorder`. A `Run` returns the effect of each event, on broken
+//! lists too, and `calls_of` collects its calls. Traces and pictures use `Run` and `calls_of`, which are tested, not proved.
 #![tactic(auto)]
 
 mod calls;

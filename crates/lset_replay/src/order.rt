@@ -1,13 +1,13 @@
-ghost use Rattle.std.specs.Prelude.{◌≡◌, ℕ, ◌≤◌, length, IfOk};
+ghost use Rattle.std.specs.Prelude.{◌≡◌, ◌≤◌, length, IfOk};
 ghost use Rattle.lset_schedule.specs.declared.TheConstants.{MOST_EVENTS};
-ghost use Rattle.lset_replay.specs.Blocks.{blocks_upto, pointed_from, StandUpTo};
+ghost use Rattle.lset_replay.specs.Blocks.{pointed_from, IsOrderOf};
 
 use crate::places::Linearized;
 use lset_report::{Pointed, order_of, sort_by_points};
 use lset_words::{Placed, Point};
 use std::alloc::{AllocError, Global};
 
-/// The calls that stand, by their numbers.
+/// Returns the calls that have a linearization point, by their numbers.
 fn pointed_calls(alloc: Global, places: &[Option<Linearized>]) -> Result<Vec<Pointed>, AllocError>
     requires { length places.now ≤ MOST_EVENTS }
     ensures { IfOk result (λ v. v.items ≡ pointed_from 0 places.now) }
@@ -30,14 +30,14 @@ fn pointed_calls(alloc: Global, places: &[Option<Linearized>]) -> Result<Vec<Poi
     Ok(pointed)
 }
 
-/// Returns the order of calls with these linearization points: by moment, and at one moment the change first, then the
-/// others by their numbers. Allocates; `AllocError` if that fails.
+/// Returns the order of the calls with these linearization points: by moment; at one moment the change first, then the
+/// other calls by their numbers. Allocates; `AllocError` if that fails.
 pub(crate) fn in_order(
     alloc: Global,
     places: &[Option<Linearized>],
 ) -> Result<Vec<Placed>, AllocError>
     requires { length places.now ≤ MOST_EVENTS }
-    ensures { IfOk result (λ v. (last : ℕ) → StandUpTo last places.now → v.items ≡ blocks_upto places.now last) }
+    ensures { IfOk result (λ v. IsOrderOf places.now v.items) }
 {
     let mut pointed = pointed_calls(alloc, places)?;
     sort_by_points(&mut pointed)?;

@@ -27,8 +27,8 @@ use lset_steps::{Event, Told};
 use lset_words::{Call, Key, Reply};
 use std::alloc::{AllocError, Global};
 
-/// The history of a run so far, and what the linearization points of its calls depend on: the pending call of each thread,
-/// the point of each call that has one, and when keys were added and removed.
+/// The recorder of a run: the history so far, the pending call of each thread, the linearization point of each call that has
+/// one, and the moments at which keys were added and removed.
 #[derive(Drop)]
 pub(crate) struct Recorder {
     pub history: History,
@@ -64,7 +64,7 @@ impl Recorder {
         }
     }
 
-    // Few events begin, change or end anything: what follows those lies outside the loop of the many that tell nothing.
+    // Few events begin, change or end a call. Their code is not inlined, so that the loop over the other events stays small.
     #[inline(never)]
     fn begin(&mut self, thread: u32, call: Call, moment: u32) -> Result<(), AllocError>
         requires may { MayBegin self.old.history thread moment }
@@ -137,7 +137,7 @@ impl Recorder {
         self.under_way[thread as usize] = None;
     }
 
-    /// Records an event that led to a moment, and what it did. May allocate.
+    /// Records an event and its effect; `moment` is the moment after it. Can allocate.
     #[inline(always)]
     pub fn follow(&mut self, event: Event, told: Told, moment: u32) -> Result<(), AllocError>
         requires { MayRecord self.old moment event told }

@@ -32,7 +32,7 @@ fn refusal(cause: StepFault, line: u64) -> ReplayFault
     }
 }
 
-/// Follows the events of the lines, one after another; the first line has the number `first`.
+/// Makes and records the events of the lines in turn. The first line has the number `first`.
 fn follow<M: Machine>(
     world: &mut World<M>,
     recorder: &mut Recorder,
@@ -92,7 +92,7 @@ fn replay_on<M: Machine>(alloc: Global, schedule: &Schedule) -> Result<Report, R
     })
 }
 
-/// The replay of a schedule, whatever its list.
+/// The replay of a schedule, as a task for the list of any kind.
 #[derive(Clone, Copy)]
 struct Replaying<'a> {
     alloc: Global,
@@ -121,7 +121,7 @@ impl Task for Replaying<'_> {
 /// and opening keys, `write_report` takes the report, which has the same version.
 ///
 /// A call that changed the set is placed at the event of its change, even if it is pending. Any other completed call is
-/// placed at the first moment of the call at which its reply is correct. (Herlihy and Wing's linearizability.)
+/// placed at the first moment of the call at which its reply is correct. (Linearizability is Herlihy and Wing's.)
 ///
 /// As in `crates/first_program`:
 ///

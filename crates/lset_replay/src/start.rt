@@ -1,4 +1,4 @@
-//! How the run of a schedule starts.
+//! The start of a schedule's run.
 ghost use Rattle.std.specs.Prelude.{◌≡◌, IfOk};
 ghost use Rattle.lset_words.specs.Words.{Opens, sizes};
 ghost use Rattle.lset_schedule.specs.Plan.{opening_in, view};
@@ -28,9 +28,9 @@ pub(crate) fn world_of<M: Machine>(
     World::<M>::opened(alloc, layout, keys)
 }
 
-/// Returns the run of a schedule before its first event, on the list of the machine `M`, of which each event is told: with `chains` also
-/// the chain after each event that changed it. `schedule` must be within the limits, as every schedule from `read_schedule` is. Allocates;
-/// `AllocError` if that fails.
+/// Returns the run of a schedule before its first event, on the list of the machine `M`. If `chains` is true, the run also
+/// returns the chain after each event that changed it. `schedule` must be within the limits, as every schedule from
+/// `read_schedule` is. Allocates; `AllocError` if that fails.
 pub fn run_of<M: Machine>(
     alloc: Global,
     schedule: &Schedule,

@@ -1,8 +1,8 @@
 use lset_steps::{Action, ChainKey, Local};
 use lset_words::{Call, Key, Reply};
 
-/// What an event of a run did: its thread began a call; or made one access and saw this value, of a store the value stored, of an
-/// exchange the value that the word held before.
+/// What an event of a run did: the begin of a call, or one access of a word and its value. The value of a load is the loaded
+/// one, of a store the stored one, of an exchange the word's value before the exchange.
 #[derive(Clone, Copy)]
 pub enum Deed {
     Begin(Call),
@@ -16,9 +16,9 @@ pub struct CallEnd {
     pub moment: u32,
 }
 
-/// What an event of a run did to the set and to its call: its moment, which is its number, counted from 1; its thread; the number of the
-/// call, counted from 0, if it began or ended that or changed the set for it; the key that it added (`true`) or removed (`false`), if it
-/// changed the set; and the end of the call, if it ended it.
+/// The effect of an event of a run. `moment` is the number of the event, counted from 1. `call` is the number of the call,
+/// counted from 0, if the event began the call, ended it, or changed the set for it. `change` is the key that the event added
+/// (`true`) or removed (`false`), if any. `end` is the end of the call, if the event ended it.
 #[derive(Clone, Copy)]
 pub struct MadeEvent {
     pub moment: u32,
@@ -28,8 +28,8 @@ pub struct MadeEvent {
     pub end: Option<CallEnd>,
 }
 
-/// An event of a run as a trace tells it: the number of its line in the schedule's text; what it did, and the state of its thread before
-/// and after; and the chain after it, if chains are asked for and the event changed it.
+/// An event of a run, for a trace: the number of its line in the schedule's text, its effect, the state of its thread before
+/// and after it, and the chain after it, if chains are asked for and the event changed the chain.
 #[derive(Drop)]
 pub struct TracedEvent {
     pub line: u64,

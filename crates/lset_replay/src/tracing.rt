@@ -1,4 +1,4 @@
-//! The events of a run, told one by one as they are made.
+//! Runs whose events are made one by one, each with its effect.
 
 ghost use Rattle.std.specs.List.Sorted.{IsStrictlyIncreasing};
 
@@ -11,21 +11,22 @@ use lset_text::Cause;
 use lset_words::{Call, MOST_THREADS, Reply};
 use std::alloc::{AllocError, Global};
 
-/// A world whose events can be told: that of a list, or that of a broken one.
+/// The world of a list or of a broken list, in which events can be made.
 pub trait Steps {
-    /// What thread `t` holds; `None` if there is no such thread.
+    /// Returns the local state of thread `t`; `None` if there is no such thread.
     fn held(&self, t: u32) -> Option<Local>;
 
-    /// The next access of thread `t` and the value that it will see; `None` if it makes none.
+    /// Returns the next access of thread `t` and the value that it will see; `None` if the thread makes no access.
     fn ahead(&self, t: u32) -> Option<(Action, u64)>;
 
-    /// Makes an event, and says what it did. A refused event changes nothing: `NoThread`, `Busy`, `Idle` or, on a broken list alone, `Lost`.
+    /// Makes an event and returns its effect. A refused event changes nothing; the error is `NoThread`, `Busy`, `Idle` or, on a
+    /// broken list only, `Lost`.
     fn make(&mut self, event: Event) -> Result<Told, Cause>;
 
-    /// The keys from the head to the tail, each with whether its node is marked. Allocates; `AllocError` if that fails.
+    /// Returns the keys from the head to the tail, each with whether its node is marked. Allocates; `AllocError` if that fails.
     fn met(&self) -> Result<Vec<ChainKey>, AllocError>;
 
-    /// The keys of the unmarked nodes among these, in increasing order. Allocates; `AllocError` if that fails.
+    /// Returns the keys of the unmarked nodes of the chain, in increasing order. Allocates; `AllocError` if that fails.
     fn keys(&self) -> Result<Vec<u32>, AllocError>;
 }
 
@@ -57,7 +58,7 @@ impl<M: Machine> Steps for World<M> {
     }
 }
 
-/// A pending call, and when it changed the set, if it has.
+/// A pending call, and the moment at which it changed the set, if it has.
 #[derive(Clone, Copy)]
 struct Pending {
     open: OpenCall,
@@ -70,12 +71,12 @@ fn thread_of(event: Event) -> u32 {
     }
 }
 
-/// Whether the word with an index is the key or the link of a node.
+/// Returns whether the word with this index is the key or the link of a node.
 fn is_node_word(word: u64) -> bool {
     word > 2 && word % 3 != 2
 }
 
-/// Whether an event writes the key or the link of a node; any other leaves the chain as it was.
+/// Returns whether an event writes the key or the link of a node. No other event changes the chain.
 fn writes_node(deed: Deed) -> bool {
     match deed {
         Deed::Begin(_) | Deed::Access(Action::Load(_), _) => false,
@@ -84,7 +85,7 @@ fn writes_node(deed: Deed) -> bool {
     }
 }
 
-/// A run of which each event is told.
+/// A run whose events are made one by one, each with its effect.
 #[derive(Drop)]
 pub struct Run<W: Steps + Drop> {
     alloc: Global,
@@ -96,8 +97,9 @@ pub struct Run<W: Steps + Drop> {
 }
 
 impl<W: Steps + Drop> Run<W> {
-    /// The run before its first event, in a world that opens with these keys. With `chains`, each event that changes the chain or a mark in
-    /// it tells the chain after it, which costs a walk along the chain for each event that writes the key or the link of a node.
+    /// Returns the run before its first event, in a world that opens with these keys. If `chains` is true, each event that
+    /// changes the chain or a mark in it comes with the chain after it. This takes a walk along the chain for each event that
+    /// writes the key or the link of a node.
     pub fn opened(alloc: Global, world: W, keys: &[u32], chains: bool) -> Result<Run<W>, AllocError>
         requires { IsStrictlyIncreasing keys.now }
     {
@@ -112,18 +114,18 @@ impl<W: Steps + Drop> Run<W> {
         })
     }
 
-    /// The world as it is now.
+    /// Returns the world after the last event.
     pub fn world(&self) -> &W {
         &self.world
     }
 
-    /// The number of the last event, counted from 1.
+    /// Returns the number of the last event, counted from 1; 0 before the first event.
     pub fn last(&self) -> u32 {
         self.moments.last()
     }
 
-    /// Makes an event, and says what it did to the set and to its call; or, in the inner error, why it cannot be made. May allocate;
-    /// `AllocError` if that fails.
+    /// Makes an event and returns its effect on the set and on its call. The inner error is the cause if the event cannot be
+    /// made. Can allocate; `AllocError` if that fails.
     #[inline(always)]
     pub fn step(&mut self, event: Event) -> Result<Result<MadeEvent, Cause>, AllocError> {
         let told = match self.world.make(event) {
@@ -134,7 +136,7 @@ impl<W: Steps + Drop> Run<W> {
         Ok(self.follow(event, told).ok_or(Cause::Lost))
     }
 
-    /// Makes an event as `step` does, and tells what a trace has of it.
+    /// Makes an event as `step` does, and returns it for a trace.
     pub fn make(&mut self, next: LineEvent) -> Result<Result<TracedEvent, Cause>, AllocError> {
         let ahead = self.look(next.event);
         let made = match self.step(next.event)? {
@@ -155,7 +157,7 @@ impl<W: Steps + Drop> Run<W> {
         }))
     }
 
-    /// What a thread holds before an event, and what the event will do, if it can be made.
+    /// Returns the local state of the event's thread before the event, and what the event will do; `None` if it cannot be made.
     fn look(&self, event: Event) -> Option<(Local, Deed)> {
         let deed = match event {
             Event::Begin(_, call) => Deed::Begin(call),
@@ -167,7 +169,7 @@ impl<W: Steps + Drop> Run<W> {
         Some((self.world.held(thread_of(event))?, deed))
     }
 
-    /// Follows what an event did; `None` if its thread has no call for that.
+    /// Records the effect of an event; `None` if its thread has no call.
     #[inline(always)]
     fn follow(&mut self, event: Event, told: Told) -> Option<MadeEvent> {
         let made = MadeEvent {
@@ -184,7 +186,7 @@ impl<W: Steps + Drop> Run<W> {
         }
     }
 
-    // Few events begin, change or end anything: what follows those lies outside the loop of the many that tell nothing.
+    // Few events begin, change or end a call. Their code is not inlined, so that the loop over the other events stays small.
     #[inline(never)]
     fn begin(&mut self, made: MadeEvent, call: Call) -> Option<MadeEvent> {
         let seat = self.pending.get_mut(made.thread as usize)?;
@@ -236,7 +238,7 @@ impl<W: Steps + Drop> Run<W> {
         CallEnd { reply, moment }
     }
 
-    /// The chain after an event, if chains are asked for and it differs from the last one that was told.
+    /// Returns the chain after an event, if chains are asked for and the chain differs from the last one that was returned.
     fn changed_chain(&mut self, deed: Deed) -> Result<Option<Vec<ChainKey>>, AllocError> {
         let Some(told) = &mut self.chain else {
             return Ok(None);

@@ -1,12 +1,12 @@
--- The test of a call line is the law of histories, and what the reader keeps decides it.
+-- The test of a call's line decides MayFollow, and the fields of CallsSoFar decide the test.
 use Rattle.std.proofs.Common.{inl, inr, ◌≡◌, ◌≢◌, ℕ, ◌<◌, ◌&&◌, ◌||◌, not, ltb, eqb, Bool, true, false, List, [], ◌∷◌, ◌++◌, length, get_or}
-use Rattle.std.proofs.Common.{Option, Some, None, refl, sym, ap, ◌∙◌, subst, arith, ⊎_elim, append_assoc, zero, suc, replicate}
+use Rattle.std.proofs.Common.{Option, Some, None, refl, sym, ap, ◌∙◌, arith, ⊎_elim, zero, suc, replicate}
 use Rattle.std.proofs.Math.ListN.{set}
 use Rattle.std.proofs.Math.Bool.{or-false, and-true, or_comm, or_assoc}
 use Rattle.std.specs.List.{All, list_all}
 use Rattle.std.specs.Option.{IfSome, IsSomeAnd}
 use Rattle.std.proofs.lemmas.Option.{IfSome_then}
-use Rattle.std.proofs.lemmas.List.{get_or-set_other, get_or-set_same, get_or-replicate, append-nil, length-set, length-replicate}
+use Rattle.std.proofs.lemmas.List.{get_or-set_other, get_or-set_same, get_or-replicate, length-set, length-replicate}
 use Rattle.std.proofs.lemmas.List.Folds.{list_any-append, list_all-append}
 use Rattle.std.proofs.lemmas.Bool.{cases_eq, cases_Bool, and_parts, and_from, and_right, or_from, or_left, not_from_false}
 use Rattle.std.proofs.lemmas.Bool.{ltb-true, lt-ltb, eq-eqb, ne_eqb}
@@ -14,15 +14,16 @@ use Rattle.std.proofs.lemmas.Bool.Decides.{Decides-ltb, Decides-and, Decides-by_
 use Rattle.std.specs.Bool.{Decides}
 use Rattle.lset_words.specs.declared.Reply.{Reply}
 use Rattle.lset_words.specs.declared.history.CallRecord.{CallRecord}
-use Rattle.lset_words.specs.History.{MayFollow, ContinuesHistory, IsHistory}
+use Rattle.lset_words.specs.History.{MayFollow, IsHistory}
 use Rattle.lset_words.specs.Words.{empty}
 use Rattle.lset_history.specs.History.{HistoryValue, with_begun}
+use Rattle.lset_history.proofs.CallByCall.{history_begun}
 use Rattle.lset_report.specs.declared.reading.calls.CallsSoFar.{CallsSoFar}
 use Rattle.lset_report.specs.ReportReading.{ends_at, is_entry, is_taken, begins_later, ended_before, is_idle, ends_later}
 use Rattle.lset_report.specs.ReportReading.{may_follow}
 use Rattle.lset_report.specs.ReportCalls.{threads_of, end_moment, is_open, is_last_end, Tracks}
 
--- ---- the test is the law
+-- ---- the test decides MayFollow
 
 not_or : (a b : Bool) → not (a || b) ≡ (not a && not b)
 not_or true b = refl
@@ -31,7 +32,7 @@ not_or false b = refl
 abbrev Apart : ℕ → CallRecord → Type 0
 Apart m y = (m ≢ y.begun) × IfSome y.ended (λ (d : ℕ × Reply). m ≢ d.0)
 
--- a moment is neither the beginning nor the end of a call, or of any of some calls
+-- A moment is neither the begin nor the end of a call, or of any call of a list.
 apart_by : (m begun : ℕ) (o : Option (ℕ × Reply)) → Decides (not (eqb begun m || ends_at m o)) ((m ≢ begun) × IfSome o (λ d. m ≢ d.0))
 apart_by m begun None = grind (arith, nat_tests)
 apart_by m begun (Some e) = grind (arith, nat_tests)
@@ -59,7 +60,7 @@ idles : (calls : List CallRecord) (t m : ℕ)
 idles calls t m = Decides-by_and (λ y. not (eqb y.thread t) || ended_before m y.ended) _ (λ ys. is_idle ys t m)
     (λ y. idle_by t m y.thread y.ended) refl (λ _ _. refl) calls
 
--- the parts of the test
+-- The parts of the test
 record May (threads : ℕ) (calls : List CallRecord) (x : CallRecord) : Type 0 where
   low : x.thread < threads
   begins : begins_later calls x.begun ≡ true
@@ -85,48 +86,41 @@ may_ok threads calls x h =
     let begins = (increases calls x.begun).0 may.begins in
     let ends = (ends_well calls x.begun x.ended).0 may.ends in
     record {
-      of_a_thread = may.low;
-      counted = begins.0;
-      increasing = begins.1;
-      ends_later = IfSome_then x.ended ends (λ e both. both.0);
-      begins_alone = λ k d b. turned _ x.begun ((untaken calls x.begun).0 may.apart k d b).1;
-      ends_alone = IfSome_then x.ended ends (λ e both. both.1);
-      none_open = (idles calls x.thread x.begun).0 may.idle;
+      call = record { of_a_thread = may.low; counted = begins.0; ends_later = IfSome_then x.ended ends (λ e both. both.0) };
+      follows = λ k d b. record {
+        increasing = begins.1 k d b;
+        begins_alone = turned _ x.begun ((untaken calls x.begun).0 may.apart k d b).1;
+        ends_alone = IfSome_then x.ended ends (λ e both. both.1 k d b);
+        none_open = (idles calls x.thread x.begun).0 may.idle k d b;
+      };
     }
 
 pub may_again : (threads : ℕ) (calls : List CallRecord) (x : CallRecord) → MayFollow threads calls x
     → may_follow threads calls x ≡ true
 may_again threads calls x may =
-    and_from (ltb x.thread threads) _ (lt-ltb _ _ may.of_a_thread)
-    (and_from (begins_later calls x.begun) _ ((increases calls x.begun).1 (may.counted, may.increasing))
-    (and_from (ends_later calls x.begun x.ended) _ ((ends_well calls x.begun x.ended).1 (both _ _ x.ended may.ends_later may.ends_alone))
-    (and_from (not (is_taken calls x.begun)) _ ((untaken calls x.begun).1 (λ k d b. let below = may.increasing k d b in
-    (λ same. omega arith, flipped (get_or calls k d).ended (may.begins_alone k d b))))
-    ((idles calls x.thread x.begun).1 may.none_open))))
+    and_from (ltb x.thread threads) _ (lt-ltb _ _ may.call.of_a_thread)
+    (and_from (begins_later calls x.begun) _ ((increases calls x.begun).1 (may.call.counted, λ k d b. (may.follows k d b).increasing))
+    (and_from (ends_later calls x.begun x.ended) _ ((ends_well calls x.begun x.ended).1
+    (both x.ended may.call.ends_later (λ k d b. (may.follows k d b).ends_alone)))
+    (and_from (not (is_taken calls x.begun)) _ ((untaken calls x.begun).1 (λ k d b. let below = (may.follows k d b).increasing in
+    (λ same. omega arith, flipped (get_or calls k d).ended (may.follows k d b).begins_alone)))
+    ((idles calls x.thread x.begun).1 (λ k d b. (may.follows k d b).none_open)))))
   where
     flipped : (o : Option (ℕ × Reply)) → IfSome o (λ (e : ℕ × Reply). e.0 ≢ x.begun) → IfSome o (λ (e : ℕ × Reply). x.begun ≢ e.0)
     flipped o h = IfSome_then o h (λ e other same. other (sym same))
 
-    both : (P Q : ℕ × Reply → Type 0) (o : Option (ℕ × Reply)) → IfSome o P → IfSome o Q → IfSome o (λ e. P e × Q e)
-    both P Q None p q = tt
-    both P Q (Some e) p q = (p, q)
+    both : (o : Option (ℕ × Reply)) → IfSome o (λ (e : ℕ × Reply). x.begun < e.0)
+        → ((k : ℕ) (d : CallRecord) → k < length calls → IfSome o (λ (e : ℕ × Reply). Apart e.0 (get_or calls k d)))
+        → IfSome o (λ (e : ℕ × Reply). (x.begun < e.0) × All (Apart e.0) calls)
+    both None later apart = tt
+    both (Some e) later apart = (later, λ k d b. apart k d b)
 
-continues_more : (threads : ℕ) (earlier xs : List CallRecord) (x : CallRecord) → ContinuesHistory threads earlier xs
-    → MayFollow threads (earlier ++ xs) x → ContinuesHistory threads earlier (xs ++ x ∷ [])
-continues_more threads earlier [] x h may =
-    (subst (λ (ys : List CallRecord). MayFollow threads ys x) (append-nil earlier) may, tt)
-continues_more threads earlier (y ∷ ys) x h may =
-    let regrouped : earlier ++ y ∷ ys ≡ (earlier ++ y ∷ []) ++ ys = simp append_assoc in (
-      h.0,
-      continues_more threads (earlier ++ y ∷ []) ys x h.1 (rw (← regrouped) may),
-    )
-
--- a history goes on by a call that passes the test
+-- A call that passes the test can be appended to a history.
 pub history_more : (threads : ℕ) (calls : List CallRecord) (x : CallRecord) → IsHistory threads calls
     → may_follow threads calls x ≡ true → IsHistory threads (calls ++ x ∷ [])
-history_more threads calls x h may = continues_more threads [] calls x h (may_ok threads calls x may)
+history_more threads calls x h may = history_begun threads calls x h (may_ok threads calls x may)
 
--- ---- what is kept after one more call
+-- ---- the invariant after a further call
 
 begins_pushed : (calls : List CallRecord) (x : CallRecord) (last : ℕ) → ((m : ℕ) → begins_later calls m ≡ ltb last m)
     → begins_later calls x.begun ≡ true → (m : ℕ) → begins_later (calls ++ x ∷ []) m ≡ ltb x.begun m
@@ -149,7 +143,7 @@ taken_pushed calls x m past =
     list_any-append (is_entry m) calls (x ∷ []) ∙ ap (λ c. is_taken calls m || c) (or-false (is_entry m x))
     ∙ ap (λ c. is_taken calls m || (c || ends_at m x.ended)) other
 
--- what a thread's further end adds to the last ends, where its end before is not that moment
+-- The last ends after a further end of a thread, if the thread's earlier end is another moment
 last_end_set : (ends : List ℕ) (t m v : ℕ) → t < length ends → eqb (get_or ends t 0) m ≡ false
     → is_last_end (set ends t v) m ≡ (is_last_end ends m || eqb v m)
 last_end_set [] t m v low old = absurd (omega (arith, low))
@@ -171,7 +165,7 @@ idle_step : (calls : List CallRecord) (x : CallRecord) (t m : ℕ)
 idle_step calls x t m =
     list_all-append (idle_at t m) calls (x ∷ []) ∙ ap (λ b. is_idle calls t m && b) (and-true (idle_at t m x))
 
--- no call is open, and the last end is before a moment
+-- No call is pending, and the last end is before a moment.
 abbrev is_over : Bool → ℕ → ℕ → Bool
 is_over busy end m = not busy && ltb end m
 
@@ -206,7 +200,7 @@ idle_other calls x t m other =
     let apart : idle_at t m x ≡ true = or_left _ _ (not_from_false _ (ne_eqb x.thread t (λ same. other (sym same)))) in
     idle_step calls x t m ∙ ap (λ b. is_idle calls t m && b) apart ∙ and-true (is_idle calls t m)
 
--- ---- what is kept of no calls
+-- ---- the invariant without calls
 
 none_at : (n m : ℕ) → 0 < m → is_last_end (replicate n 0) m ≡ false
 none_at zero m some = refl

@@ -1,4 +1,4 @@
--- A line of a report is read from its text, and from nothing else.
+-- A line of a report is read from its text, and from no other bytes.
 use Rattle.std.proofs.Common.{◌≡◌, ℕ, ◌<◌, ◌^◌, inl, inr, Bool, false, List, [], ◌∷◌, Option, Some, None, refl, ap, arith, codes}
 use Rattle.std.specs.Fmt.{decimal}
 use Rattle.std.specs.List.{AllByRecursion}
@@ -9,7 +9,7 @@ use Rattle.lset_words.specs.declared.history.CallRecord.{CallRecord}
 use Rattle.lset_words.specs.declared.history.Placed.{Placed}
 use Rattle.lset_words.specs.Words.{key_of}
 use Rattle.lset_text.specs.declared.words.CallWord.{CallWord}
-use Rattle.lset_text.specs.declared.words.CallWord.TheVariants.{Add, Remove, Contains, Ceiling}
+use Rattle.lset_text.specs.declared.words.CallWord.TheVariants.{Add}
 use Rattle.lset_text.specs.declared.words.Version.{Version}
 use Rattle.lset_text.specs.declared.words.Version.TheVariants.{One, Two}
 use Rattle.lset_text.specs.Parts.{line_of}
@@ -43,7 +43,7 @@ pieces_of told.End = codes "end" ∷ []
 abbrev pub line_text : Line → List ℕ
 line_text l = line_of (pieces_of l)
 
--- the numbers of a line are in range, and its words are those of a version
+-- The numbers of a line are in range, and the version has words for it.
 abbrev pub IsLine : Version → Line → Type 0
 IsLine v (told.Opening k) = (k < 2 ^ 32) × (v ≡ Two)
 IsLine v (told.Call n x) =
@@ -52,7 +52,7 @@ IsLine v (told.Place p) = IsPlace v p
 IsLine v (told.Key k) = k < 2 ^ 32
 IsLine v told.End = Unit {0}
 
--- no line of a later section
+-- The report has no line of a later section.
 abbrev pub Reaches : Section → ReportValue → Type 0
 Reaches section.Opening r = (r.history.calls ≡ []) × (r.order ≡ []) × (r.keys ≡ [])
 Reaches section.Calls r = (r.order ≡ []) × (r.keys ≡ [])
@@ -60,16 +60,16 @@ Reaches section.Order r = r.keys ≡ []
 Reaches section.Keys r = Unit {0}
 Reaches section.Done r = Unit {0}
 
--- ---- what is read stands there
+-- ---- the bytes are the text of the line that is read
 
--- a line that may come behind the lines of a report
+-- A line that can follow the lines of a report
 abbrev pub IsNext : Version → ReportValue → Line → Type 0
 IsNext v r l = IsLine v l × Reaches (section_after l) r
 
 abbrev Known : Version → ReportValue → LineKind Line → Type 0
 Known v r = Knows v pieces_of (IsNext v r)
 
--- a call that was told, whatever its end
+-- A call's line, with any end
 abbrev call_with : CallWord → ℕ → ℕ → ℕ → ℕ → Option (ℕ × Reply) → Line
 call_with w n t k b o = told.Call n (record { thread = t; call = with_key w (record { 0 = k }); begun = b; ended = o })
 
@@ -80,7 +80,7 @@ called : (v : Version) (w : CallWord) (n t k b : ℕ) (o : Option (ℕ × Reply)
 called v Add n t k b o nl tl kl bs bl some ends has = (refl, (nl, tl, bs, some, (bl, kl, ends, has)))
 called v w n t k b o nl tl kl bs bl some ends has = (refl, (nl, tl, bs, some, (bl, kl, ends, has)))
 
--- whatever pieces tell its end
+-- A call's line whose end has any form
 call_known : (v : Version) (r : ReportValue) (f : Form) (end : Told f → Option (ℕ × Reply)) → Reaches section.Calls r → ArePieces f
     → ((e : Told f) → AllFit v f e → (spell f e ≡ end_pieces (end e)) × IfSome (end e) (λ (x : ℕ × Reply). 0 < x.0) × IsEnd v (end e))
     → Known v r (call_form f, λ t. call_told t.1 (end t.1.1.1.1.1.1))
@@ -128,7 +128,7 @@ kinds_known v section.Order r reached = order_known v r reached
 kinds_known v section.Keys r reached = keys_known v r
 kinds_known v section.Done r reached = tt
 
--- ---- what stands there is read
+-- ---- the text of a line is read
 
 abbrev pub IsTold : Version → List (LineKind Line) → Line → Type 0
 IsTold v ks l = IsMade v pieces_of ks l
@@ -174,7 +174,7 @@ end_told_so v = inr (refl, inl ((tt, tt), refl, (tt, tt)))
 abbrev pub reached : List CallRecord → List Placed → List ℕ → Section
 reached cs ps ks = later ks (later ps (later cs section.Opening section.Calls) section.Order) section.Keys
 
--- a line has no form of these
+-- A line has none of these forms.
 abbrev Has : Version → LineKind Line → Line → Bool
 Has v k l = have_form v k.0 (pieces_of l)
 

@@ -1,11 +1,11 @@
--- Reading the lines of a report one after the other, as a loop does.
+-- The loop that reads the lines of a report.
 use Rattle.std.proofs.Common.{◌≡◌, ℕ, ◌+◌, ◌<◌, ◌≤◌, ◌⊎◌, inl, inr, true, ltb, eqb, List, [], ◌∷◌, ◌++◌, length, get_or, Result}
 use Rattle.std.proofs.Common.{Ok, Err, refl, sym, ap, subst, ◌∙◌, ◌≢◌, arith}
 use Rattle.std.proofs.lemmas.Bool.{ltb-true, lt-ltb, eqb-true, eq-eqb, and_parts}
 use Rattle.std.proofs.lemmas.List.{get_or-append-add}
 use Rattle.lset_words.specs.declared.TheConstants.{MOST_OPENING}
 use Rattle.lset_text.specs.declared.words.Version.{Version}
-use Rattle.lset_text.specs.declared.words.Version.TheVariants.{One, Two}
+use Rattle.lset_text.specs.declared.words.Version.TheVariants.{One}
 use Rattle.lset_text.specs.declared.headers.Header.{Header}
 use Rattle.lset_text.specs.declared.causes.Cause.{Cause}
 use Rattle.lset_text.specs.declared.causes.Cause.TheVariants as wrong
@@ -34,9 +34,9 @@ use Rattle.lset_report.specs.ReportReading.{kinds, may_follow, most_keys, is_nex
 use Rattle.lset_report.specs.ReportReading.{grammar, text, no_lines, nothing_told, version_told, reading, RunsOut}
 use Rattle.lset_report.specs.ReportReader.{so_far, state, IsFull}
 
--- ---- the judgement of a line
+-- ---- the checks of a line
 
--- a good line: there is room for it, and an opening key increases, and a call follows
+-- A good line: there is room for it, an opening key is above the last one, and a call can follow the calls.
 abbrev pub IsGood : ReportValue → Line → Type 0
 IsGood r (Opening k) = (length r.history.opening.keys < MOST_OPENING) × (is_above r.history.opening.keys k ≡ true)
 IsGood r (Call number x) =
@@ -46,7 +46,7 @@ IsGood r (Place p) = length r.order < MOST_PLACES
 IsGood r (Key k) = length r.keys < most_keys r.version
 IsGood r End = Unit {0}
 
--- a line judged good is itself, and is good: by its kind, from the one test or two that it passed
+-- A line that passes its checks is returned unchanged, and is good.
 pub judged_ok : (r : ReportValue) (l k : Line) → judged r l ≡ Ok k → (l ≡ k) × IsGood r l
 judged_ok r (Opening n) k e =
     let keys = r.history.opening.keys in
@@ -71,7 +71,7 @@ judged_good r (Place p) h = rw (lt-ltb (length r.order) MOST_PLACES h) refl
 judged_good r (Key k) h = rw (lt-ltb (length r.keys) (most_keys r.version) h) refl
 judged_good r End h = refl
 
--- the line that was read, and judged good
+-- The line that was read is good.
 pub line_read : (s : Section) (r : ReportValue) (x : List ℕ) (l : Line) → line_after s r x ≡ Ok l
     → (line_in r.version wrong.Line (kinds r.version s) x ≡ Ok l) × IsGood r l
 line_read s r x l e =
@@ -79,19 +79,19 @@ line_read s r x l e =
     let good = judged_ok r told.0 l told.2 in
     subst (λ (k : Line). (line_in r.version wrong.Line (kinds r.version s) x ≡ Ok k) × IsGood r k) good.0 (told.1, good.1)
 
--- ---- where memory ran out
+-- ---- the lines at which memory can run out
 
--- the line `end` tells the end
+-- The line `end` is read as the end.
 end_is : (v : Version) (s : Section) (l : Line) → line_in v wrong.Line (kinds v s) last_line ≡ Ok l → End ≡ l
 end_is One section.Opening l e = ok_is End l e
 end_is v section.Done l e = absurd cc
 end_is v s l e = ok_is End l e
 
--- what a loop over the lines of a text gives in the end
+-- The result of the loop over the lines of a text
 abbrev pub AllOf : List ℕ → SoFar → Result SoFar LineFault
 AllOf rest s = lines_from grammar first_line s (cut_at 10 rest)
 
--- a line with a fault, or for which memory ran out
+-- The loop stops at a line with an error, or for which memory ran out.
 pub stops_at : (all : List ℕ) (start s : SoFar) (line : ℕ) (rest x after : List ℕ) (e : LineFault)
     → cut_at 10 rest ≡ x ∷ cut_at 10 after → ((cause : Cause) × (step s x ≡ Err cause) × (e ≡ fault line cause))
     ⊎ ((l : Line) × (line_after s.section s.report x ≡ Ok l) × (l ≢ End) × (e ≡ fault line wrong.Memory))
@@ -114,7 +114,7 @@ stops_at all start s line rest x after e parts (inr full) stands =
 
 -- ---- texts with their headers
 
--- the report of a state
+-- The report of a state
 abbrev pub report_told : SoFar → Result ReportValue LineFault
 report_told s = Ok s.report
 
@@ -125,7 +125,7 @@ module _ (bytes : List ℕ) (v : Version) (version_is : v ≡ version_told (cut_
   in_version : reading bytes ≡ told_by (text_from (text v) (cut_at 10 bytes))
   in_version = ap (λ (u : Version). told_by (text_from (text u) (cut_at 10 bytes))) (sym version_is)
 
-  -- a text whose header has a fault
+  -- A text whose header has an error
   pub header_fault : (e : LineFault) → header_of (title v) (cut_at 10 bytes) ≡ Err e → reading bytes ≡ Err e
   header_fault e is = in_version ∙ ap told_by (text_refused (text v) (cut_at 10 bytes) e is)
 
@@ -133,7 +133,7 @@ module _ (bytes : List ℕ) (v : Version) (version_is : v ≡ version_told (cut_
   still_good line (Ok s) good = tt
   still_good line (Err e) good = good
 
-  -- where memory ran out
+  -- A text for which memory ran out
   runs_out : (index : ℕ) → last_of_header ≤ 1 + index
       → IsGoodLine 1 (cut_at 10 bytes) (text_from (text v) (cut_at 10 bytes)) (1 + index)
       → get_or (cut_at 10 bytes) index [] ≢ last_line → RunsOut 1 (cut_at 10 bytes) (reading bytes) (fault (1 + index) wrong.Memory)
@@ -157,7 +157,7 @@ module _ (bytes : List ℕ) (v : Version) (version_is : v ≡ version_told (cut_
         runs_out 3 (omega arith) (header_good (text v) bytes rest h head)
         (λ is_end. (let same = sym here ∙ is_end in cc))
 
-    -- the lines after a header that was read
+    -- The lines after a header that was read
     pub report_is : (s : Reader) → s.section ≡ section.Opening → so_far s ≡ no_lines v h
         → reading bytes ≡ told_by (AllOf rest (state s))
     report_is s section_is so_far_is =

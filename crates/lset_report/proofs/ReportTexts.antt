@@ -1,4 +1,4 @@
--- The two laws: what is read is the text of the report, and the text of a report is read.
+-- Two laws: the bytes that are read are the text of the result, and the text of each report is read.
 use Rattle.std.proofs.Common.{◌≡◌, ℕ, ◌+◌, ◌<◌, ◌≤◌, ◌^◌, inl, inr, false, cond, List, [], ◌∷◌, ◌++◌, map, length, Option, Some}
 use Rattle.std.proofs.Common.{None, Result, Ok, Err, refl, sym, ap, subst, ◌∙◌, arith, append_assoc, length-append}
 use Rattle.std.specs.Prelude.{IfOk, MatchResult}
@@ -9,7 +9,8 @@ use Rattle.std.proofs.lemmas.List.{append-nil, map_push}
 use Rattle.lset_words.specs.declared.Reply.{Reply}
 use Rattle.lset_words.specs.declared.history.CallRecord.{CallRecord}
 use Rattle.lset_words.specs.declared.history.Placed.{Placed}
-use Rattle.lset_words.specs.History.{MayFollow, ContinuesHistory, IsHistory}
+use Rattle.lset_words.specs.History.{IsHistory}
+use Rattle.lset_history.proofs.CallByCall.{empty_history, may_follow_at}
 use Rattle.lset_words.specs.Words.{Opens}
 use Rattle.lset_words.proofs.Bounds.{opens_empty}
 use Rattle.lset_history.proofs.Lists.{all_imply}
@@ -78,7 +79,7 @@ to_end r = to_keys r ++ map key_line r.keys
 abbrev lines_at : SoFar → List (List ℕ)
 lines_at s = cond (is_done s.section) (to_end s.report ++ last_line ∷ []) (to_end s.report)
 
--- where nothing stands behind the lines of a section, one more stands behind them
+-- If no line follows the lines of a section, a further line of the section is the last line.
 one_opening : (f : List (List ℕ)) (os ks : List ℕ) (cs : List CallRecord) (ps : List Placed) (k : ℕ) → cs ≡ [] → ps ≡ [] → ks ≡ []
     → f ++ opening_lines (os ++ k ∷ []) ++ call_lines 0 cs ++ map place_line ps ++ map key_line ks
     ≡ f ++ opening_lines os ++ call_lines 0 cs ++ map place_line ps ++ map key_line ks ++ opening_line k ∷ []
@@ -89,7 +90,7 @@ one_call : (f : List (List ℕ)) (cs : List CallRecord) (ps : List Placed) (ks :
     ≡ f ++ call_lines 0 cs ++ map place_line ps ++ map key_line ks ++ call_line (0 + length cs) x ∷ []
 one_call f cs ps ks x p n = rw (p, n, calls_pushed 0 cs x) (simp (append-nil, append_assoc))
 
--- ONE MORE LINE stands after those so far
+-- A FURTHER LINE is appended to the lines so far.
 more_lines : (r : ReportValue) (l : Line) → Reaches (section_after l) r → IsGood r l
     → lines_at (record { section = section_after l; report = with_line r l }) ≡ to_end r ++ line_text l ∷ []
 more_lines r (told.Opening k) next good =
@@ -154,7 +155,7 @@ may_come v s x l is = refl
 abbrev IsSoFar : SoFar → Type 0
 IsSoFar s = IsReport s.report × Reaches s.section s.report
 
--- a line that is taken stands after those above
+-- A line that is accepted is appended to the lines above.
 one_line : (s t : SoFar) (x : List ℕ) → IsSoFar s → step s x ≡ Ok t
     → IsSoFar t × (lines_at t ≡ lines_at s ++ x ∷ []) × Lacks 10 x
 one_line s t x holds is =
@@ -179,7 +180,7 @@ empty_report : (v : Version) (h : Header) → IsHeader h → IsReport (no_lines 
 empty_report v h is = record {
   opens = opens_empty h.threads h.quota is;
   opening = has_none v;
-  history = tt;
+  history = empty_history h.threads;
   calls = tt;
   places = tt;
   keys = tt;
@@ -192,7 +193,7 @@ starts : (v : Version) (h : Header) → IsHeader h
     → IsSoFar (nothing_told v h) × (lines_at (nothing_told v h) ≡ header_lines (title v) h)
 starts v h is = ((empty_report v h is, (refl, refl, refl)), refl)
 
--- WHAT IS READ is the text of a report
+-- THE BYTES THAT ARE READ are the text of the result.
 pub is_found : (bytes : List ℕ) (r : ReportValue) → reading bytes ≡ Ok r → IsReport r × (bytes ≡ report_text r)
 is_found bytes r is =
     let v = version_told (cut_at 10 bytes) in
@@ -210,7 +211,7 @@ none_reached section.Calls v h = (refl, refl)
 none_reached section.Order v h = refl
 none_reached s v h = tt
 
--- a good line of a kind that may come
+-- A good line of a kind that is allowed next
 step_again : (s : SoFar) (l : Line) → IsTold s.report.version (kinds s.report.version s.section) l → IsGood s.report l
     → step s (line_text l) ≡ Ok (with_told s l)
 step_again s l is good =
@@ -219,14 +220,7 @@ step_again s l is good =
     let known = kinds_known v s.section r (none_reached s.section v (header_in s.report)) in
     rw (line_made v wrong.Line pieces_of (IsNext v r) (kinds v s.section) l known is, judged_good s.report l good) refl
 
--- ---- the lines of each section lead on
-
-follows : (threads : ℕ) (earlier front more : List CallRecord) (x : CallRecord)
-    → ContinuesHistory threads earlier (front ++ x ∷ more) → MayFollow threads (earlier ++ front) x
-follows threads earlier [] more x history =
-    subst (λ (ys : List CallRecord). MayFollow threads ys x) (sym (append-nil earlier)) history.0
-follows threads earlier (y ∷ ys) more x history = rw (← append_assoc earlier (y ∷ []) ys) (follows threads
-    (earlier ++ y ∷ []) ys more x history.1)
+-- ---- the lines of each section
 
 abbrev at : Version → Header → List ℕ → List CallRecord → List Placed → List ℕ → SoFar
 at v h os cs ps ks = record {
@@ -255,9 +249,9 @@ calls_lead v h os cs few long history are =
     (λ front more x is.
     let low : length front < MOST_CALLS = omega (arith, shorter front more cs x is, long) in
     let call = middle (IsCall v) front more cs x is are in
-    let may = follows h.threads [] front more x (subst (IsHistory h.threads) (sym is) history) in
+    let may = may_follow_at h.threads front more x (subst (IsHistory h.threads) (sym is) history) in
     let line : IsLine v (told.Call (length front) x) =
-    (omega (arith, low), omega (arith, may.of_a_thread, few), may.counted, IfSome_then x.ended may.ends_later (λ e after. omega (arith, after)), call) in
+    (omega (arith, low), omega (arith, may.call.of_a_thread, few), may.call.counted, IfSome_then x.ended may.call.ends_later (λ e after. omega (arith, after)), call) in
     step_again (at v h os front [] []) (told.Call (length front) x) (call_comes v front (told.Call (length front) x) refl
     (call_told_so v (length front) x.thread x.begun x.call x.ended line))
     (low, refl, may_again h.threads front x may)
@@ -284,7 +278,7 @@ keys_lead v h os cs ps ks few are =
 
 -- ---- the whole
 
--- the lines after the header
+-- The lines after the header
 abbrev body : ReportValue → List (List ℕ)
 body r = opening_lines r.history.opening.keys
     ++ (call_lines 0 r.history.calls ++ (map place_line r.order ++ (map key_line r.keys ++ last_line ∷ [])))
@@ -318,7 +312,7 @@ title_lacks : (v : Version) → Lacks 10 (title v)
 title_lacks One = Lacks-from_test 10 (title One) refl
 title_lacks Two = Lacks-from_test 10 (title Two) refl
 
--- THE TEXT OF A REPORT is read
+-- THE TEXT OF A REPORT is read.
 pub reads_text : (r : ReportValue) → IsReport r → reading (report_text r) ≡ Ok r
 reads_text r is =
     let v = r.version in
@@ -348,7 +342,7 @@ only_in bytes (Ok s) gives q is text = ok_is (view s) q (sym gives ∙ ap readin
 only_in bytes (Err e) (inl bad) q is text = absurd (let read : reading bytes ≡ Ok q = ap reading text ∙ reads_text q is in cc)
 only_in bytes (Err e) (inr out) q is text = out.cause
 
--- ---- as what a writer asks
+-- ---- the precondition of a writer
 
 end_words : (v : Version) (o : Option (ℕ × Reply)) → IsEnd v o → HasEnd v o
 end_words v None h = tt
@@ -362,11 +356,11 @@ words_in One calls order are places = (
 )
 words_in Two calls order are places = tt
 
--- a report that has a text has the words of its version, so what was read can be written
+-- A report that has a text has the words of its version, so a report that was read can be written.
 pub has_words : (r : ReportValue) → IsReport r → HasWordsOfVersion r
 has_words r is = record { opening = is.opening; words = words_in r.version r.history.calls r.order is.calls is.places }
 
--- ---- as what a writer writes
+-- ---- the text that a writer writes
 
 pub texts_of : (a b c d e : List (List ℕ)) (z : List ℕ)
     → text_of (a ++ b ++ c ++ d ++ e ++ z ∷ []) ≡ text_of a ++ text_of b ++ text_of c ++ text_of d ++ text_of e ++ ended z

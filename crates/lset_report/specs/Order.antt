@@ -1,9 +1,9 @@
--- Places of an order by the points of their calls: moment after moment, and at one moment the change first.
-use Rattle.std.specs.Prelude.{◌≡◌, ℕ, zero, suc, ◌+◌, ◌*◌, ◌≤◌, ◌==◌, Bool, true, false, not, List, ◌++◌, map, filter, All}
+-- The places of an order, sorted by the points of their calls.
+use Rattle.std.specs.Prelude.{◌≡◌, ℕ, ◌+◌, ◌*◌, ◌<◌, ◌==◌, ◌⊎◌, if◌then◌else◌, List, map, filter}
 use Rattle.std.specs.List.Sorted.{IsNonDecreasingBy, IsPermutation}
 use Rattle.lset_words.specs.declared.history.Placed.{Placed}
 use Rattle.lset_words.specs.declared.history.Point.{Point}
-use Rattle.lset_words.specs.Placement.{Standing, makes_change, placed_of}
+use Rattle.lset_history.specs.Placement.{Standing, makes_change, placed_of}
 use Rattle.lset_report.specs.declared.order.Pointed.{Pointed}
 
 abbrev pub placed_in : List Pointed → List Placed
@@ -12,32 +12,23 @@ placed_in xs = map (λ (x : Pointed). x.placed) xs
 abbrev pub points_in : List Pointed → List Point
 points_in xs = map (λ (x : Pointed). x.point) xs
 
--- those of one moment: the change first, then the others as they stand
-abbrev pub at_moment : ℕ → List Pointed → List Pointed
-at_moment m xs = filter (λ x. x.point.moment == m) xs
-
-abbrev pub block : ℕ → List Pointed → List Pointed
-block m xs = filter (λ x. x.point.change) (at_moment m xs) ++ filter (λ x. not x.point.change) (at_moment m xs)
-
--- moment after moment, up to the last
-abbrev pub by_points : ℕ → List Pointed → List Pointed
-by_points zero xs = block 0 xs
-by_points (suc m) xs = by_points m xs ++ block (suc m) xs
-
--- their ranks in that order
-abbrev pub rank_at : ℕ → Bool → ℕ
-rank_at moment true = 2 * moment
-rank_at moment false = 2 * moment + 1
-
+-- The rank of a place: by moment, and at one moment the change first.
 abbrev pub rank_of : Pointed → ℕ
-rank_of x = rank_at x.point.moment x.point.change
+rank_of x = if x.point.change then 2 * x.point.moment else 2 * x.point.moment + 1
 
--- the places in that order
+-- ys are the places of xs, sorted by rank. Places of one rank keep their order.
 pub record AreByPoints (xs ys : List Pointed) : Type 0 where
   pub moved : IsPermutation xs ys
-  pub increase : IsNonDecreasingBy (λ (x : Pointed). x.point.moment) ys
-  pub blocks : (last : ℕ) → All (λ (x : Pointed). x.point.moment ≤ last) xs → ys ≡ by_points last xs
+  pub increase : IsNonDecreasingBy rank_of ys
+  pub stable : (x : Pointed) → filter (λ y. rank_of y == rank_of x) ys ≡ filter (λ y. rank_of y == rank_of x) xs
 
--- the place of a call that stands
+-- By rank, and at one rank by the number of the call: the order of [Placement].
+abbrev pub HasSmallerNumber : Pointed → Pointed → Type 0
+HasSmallerNumber x y = x.placed.call < y.placed.call
+
+abbrev pub IsPlacedBefore : Pointed → Pointed → Type 0
+IsPlacedBefore x y = (rank_of x < rank_of y) ⊎ ((rank_of x ≡ rank_of y) × HasSmallerNumber x y)
+
+-- The place of a call that has a point
 abbrev pub pointed_of : Standing → Pointed
 pointed_of s = record { point = record { moment = s.moment; change = makes_change s }; placed = placed_of s }

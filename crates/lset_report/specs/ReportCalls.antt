@@ -1,4 +1,4 @@
--- What a reader of reports keeps of the calls, to tell which call may follow them.
+-- The invariant of CallsSoFar: its fields decide which call can follow.
 use Rattle.std.specs.Prelude.{◌≡◌, ℕ, ◌<◌, ◌&&◌, ◌==◌, nat_lt, not, Bool, true, false, List, length, Option, Some, None, slice_index_or}
 use Rattle.std.specs.List.{list_any}
 use Rattle.lset_words.specs.declared.Reply.{Reply}
@@ -9,7 +9,7 @@ use Rattle.lset_report.specs.ReportReading.{begins_later, is_taken, is_idle}
 abbrev pub threads_of : CallsSoFar → ℕ
 threads_of s = s.history.opening.threads
 
--- 0 stands for no end
+-- The moment of an end; 0 if there is no end
 abbrev pub end_moment : Option (ℕ × Reply) → ℕ
 end_moment None = 0
 end_moment (Some end) = end.0
@@ -18,11 +18,11 @@ abbrev pub is_open : Option (ℕ × Reply) → Bool
 is_open None = true
 is_open (Some end) = false
 
--- a moment, counted from 1, at which the last call of a thread ended
+-- Whether a moment, counted from 1, is the end of some thread's last call
 abbrev pub is_last_end : List ℕ → ℕ → Bool
 is_last_end ends moment = list_any (λ end. end == moment) ends
 
--- a call ends after its begin, where no last call of a thread did
+-- Whether a call ends after its begin, at a moment that is not the end of a thread's last call
 abbrev pub ends_apart : List ℕ → ℕ → Option (ℕ × Reply) → Bool
 ends_apart ends begun None = true
 ends_apart ends begun (Some end) = nat_lt begun end.0 && not (is_last_end ends end.0)
@@ -30,13 +30,13 @@ ends_apart ends begun (Some end) = nat_lt begun end.0 && not (is_last_end ends e
 abbrev pub ends_well_by : List ℕ → CallRecord → Bool
 ends_well_by ends x = ends_apart ends x.begun x.ended
 
--- WHAT IS KEPT of a history of calls:
+-- THE INVARIANT of CallsSoFar:
 pub record Tracks (s : CallsSoFar) : Type 0 where
-  -- the last beginning,
+  -- last_begun is the begin of the last call,
   pub begins : (m : ℕ) → begins_later s.history.calls m ≡ nat_lt s.last_begun m
-  -- each moment past it, which is taken only by the last end of a thread,
+  -- a moment after it is taken only by the end of a thread's last call,
   pub taken : (m : ℕ) → s.last_begun < m → is_taken s.history.calls m ≡ is_last_end s.last_ends.items m
-  -- and of each thread the last end, and whether a call is open
+  -- and for each thread: the end of its last call, and whether it is pending.
   pub ends : length s.last_ends.items ≡ threads_of s
   pub each : length s.busy.items ≡ threads_of s
   pub idle : (t m : ℕ) → t < threads_of s → 0 < m

@@ -1,6 +1,5 @@
-//! Reports of runs and their one text, both ways: the keys with which a set opens, a history of calls, an order of them,
-//! and the keys that are left.
-//! Nothing here knows how a list is run.
+//! Reports of runs: reading and writing their text. A report has the opening keys, a history of calls, an order of the calls,
+//! and the final keys. Nothing in this crate runs a list.
 #![tactic(auto)]
 
 mod order;

@@ -12,7 +12,7 @@ pub struct Pointed {
 }
 
 impl Pointed {
-    /// The lesser the earlier.
+    /// Returns the rank of the place: a smaller rank comes earlier.
     fn rank(&self) -> u64
         ensures { result ≡ rank_of self.now }
     {
@@ -21,8 +21,8 @@ impl Pointed {
     }
 }
 
-/// Sorts places by their points: by moment, and at one moment the change first, then the others as they stood. Allocates; if
-/// that fails, returns `AllocError`, and nothing is said of their order.
+/// Sorts places by their points: by moment, and at one moment the change first. The sort is stable: the other places of one
+/// moment keep their order. Allocates; if that fails, returns `AllocError`, and the places are in no known order.
 pub fn sort_by_points(places: &mut Vec<Pointed>) -> Result<(), AllocError>
     ensures { OnOk result (AreByPoints places.old.items places.new.items) }
 {
@@ -41,7 +41,7 @@ pub fn order_of(alloc: Global, places: &[Pointed]) -> Result<Vec<Placed>, AllocE
     Ok(order)
 }
 
-/// Returns the points of these places. Allocates; `AllocError` if that fails.
+/// Returns the linearization points of these places. Allocates; `AllocError` if that fails.
 pub fn points_of(alloc: Global, places: &[Pointed]) -> Result<Vec<Point>, AllocError>
     ensures { IfOk result (λ v. v.items ≡ points_in places.now) }
 {

@@ -38,7 +38,7 @@ const LAST_OF_HEADER: u64 = 4;
 /// The first line after the header.
 const FIRST_LINE: u64 = LAST_OF_HEADER + 1;
 
-/// What was read of a report up to some line.
+/// The part of a report that was read so far.
 #[derive(Drop)]
 pub(crate) struct Reader {
     pub version: Version,
@@ -50,7 +50,7 @@ pub(crate) struct Reader {
     pub keys: Vec<u32>,
 }
 
-/// The most keys of a report of a version.
+/// Returns the maximum number of keys of a report of a version.
 fn most_keys(version: Version) -> usize
     ensures { result ≡ most_keys version }
 {
@@ -78,7 +78,7 @@ impl Reader {
         })
     }
 
-    /// Whether a call has the next number and goes on with the history of those that were read.
+    /// Returns whether a call has the next number and can follow the calls that were read.
     fn is_next(&self, number: u32, made: CallRecord) -> bool
         requires { Holds self.now }
         ensures { result ≡ is_next (so_far self.now) number made }
@@ -86,8 +86,8 @@ impl Reader {
         number as usize == self.calls.history.calls().len() && self.calls.may_follow(made)
     }
 
-    /// The line, if there is room for it after those that were read, and an opening key is above the one before, or a call
-    /// goes on with their history.
+    /// Returns the line if it can follow the lines that were read: there is room for it, an opening key is above the last one,
+    /// a call can follow the calls. Else returns the cause.
     fn judged(&self, line: Line) -> Result<Line, Cause>
         requires { Holds self.now }
         ensures { result ≡ judged (so_far self.now) line }
@@ -152,7 +152,7 @@ impl Reader {
         Ok(())
     }
 
-    /// The lines after the header.
+    /// Reads the lines after the header.
     fn read_lines(&mut self, text: &[u8]) -> Result<(), LineFault>
         requires { Holds self.old }
         ensures holds { OnOk result (Holds self.new) }
@@ -194,7 +194,7 @@ impl Reader {
     }
 }
 
-/// The version of a report's text, by its first line.
+/// Returns the version of a report's text, from its first line.
 fn version_told(bytes: &[u8]) -> Version
     ensures { result ≡ version_told (cut_at 10 bytes.now) }
 {
@@ -215,33 +215,33 @@ fn report(alloc: Global, bytes: &[u8]) -> Result<Report, ReportFault>
 
 /// Reads a report, of either version, from its bytes. Allocates.
 ///
-/// Line 1 decides the version. In version 2 lines of opening keys come before all calls, in strictly increasing order; in
-/// version 1 a line with `opening`, `ceiling`, `nothing` or `at-5` is refused as `Line`. Whether the order explains the
-/// history and leaves the keys is not looked at here, but by `check_order`. With n bytes it takes about `n log n` steps,
+/// Line 1 decides the version. In version 2 lines of opening keys come before all calls, in strictly increasing order. In
+/// version 1 a line with `opening`, `ceiling`, `nothing` or `at-5` is refused as `Line`. The function does not check that the
+/// order explains the history and leaves the keys: `check_order` does. With n bytes it takes about `n log n` steps,
 /// whatever the numbers are.
 ///
 /// # Errors
 ///
-/// The first line that is wrong, and the first check that it fails. `NotEnded` comes before all others, which come in
-/// the order of `Cause`. If a header line is due and no byte is left, it is the error of that line. `Memory`, in place
-/// of any other answer, if an allocation fails: its line is the last that was read, which is not `end` and has no other
-/// error, and neither has a line above it.
+/// The first wrong line, and the first check that it fails. `NotEnded` comes before all others; these come in the order of
+/// `Cause`. If the bytes end before a header line, the error is the one of that line. `Memory`, in place of any other
+/// result, if an allocation fails: its line is the last line that was read, which is not `end`. Neither this line nor a
+/// line above it has another error.
 #[tactic(auto, using(crate::proofs::ReportTexts::found_in, crate::proofs::ReportTexts::only_in))]
 pub fn read_report(alloc: Global, bytes: &[u8]) -> Result<Report, ReportFault>
-    // What is read is a report with a history, and the bytes are its text.
+    // The result is a report with a history, and the bytes are its text.
     ensures found { IfOk result (λ r. IsReport (view r) × (bytes.now ≡ report_text (view r))) }
-    // So it can be written again: its version has words for all of it.
+    // `write_report` can write the result: its version has words for all of it.
     ensures words { IfOk result (λ r. HasWordsOfVersion (view r)) }
-    // The text of such a report is read, unless memory runs out.
+    // The text of each such report is read, unless memory runs out.
     ensures only { (r : ReportValue) → IsReport r → bytes.now ≡ report_text r
         → MatchResult result (λ s. view s ≡ r) (λ e. e.cause ≡ Cause.Memory) }
-    // Which fault it is, and for which lines `Memory` may be answered.
+    // The error, and the lines for which `Memory` can be returned.
     ensures exact { Gives view result bytes.now }
 {
     report(alloc, bytes)
 }
 
-/// Lemma: a file is read as the one report whose text it is, and the text of every report is read.
+/// Lemma: `read_report` returns the only report whose text the bytes are, and it reads the text of every report.
 pub fn reports_read_back()
     ensures { ReportsReadBack }
 {}

@@ -84,8 +84,8 @@ fn put_end(out: &mut String) -> Result<(), AllocError>
 }
 
 /// Returns the text of a report in its version: the header, the opening keys, the calls by their numbers, the order, the
-/// keys. A report of version 1 must have no opening keys, no call `ceiling` and none of its replies, for which that version
-/// has no words; one that `read_report` read is such. Allocates; `AllocError` if that fails.
+/// keys. A report of version 1 must have no opening keys, no call `ceiling` and no reply of one: that version has no words
+/// for them. Each report from `read_report` meets this. Allocates; `AllocError` if that fails.
 pub fn write_report(alloc: Global, report: &Report) -> Result<Vec<u8>, AllocError>
     requires { HasWordsOfVersion (view report.now) }
     ensures { IfOk result (λ v. v.items ≡ report_text (view report.now)) }

@@ -1,4 +1,4 @@
--- The views of the table as the rule has them, when one of them changes or one more comes: what is so of each, and where each thread stands.
+-- The views of the table when one view changes or is added: which properties hold of each view, and which view has each thread.
 use Rattle.std.proofs.Common.{◌≡◌, ◌≢◌, ⊎_elim, ℕ, zero, suc, ◌<◌, true, false, List, [], ◌∷◌, ◌++◌, length, set, refl, sym, ap, ◌∙◌, subst}
 use Rattle.std.proofs.lemmas.Bool.{false≢true}
 use mathlib.Core.Option.{some, some-injective, some-ne-none}
@@ -15,7 +15,7 @@ use Rattle.lset_rule.specs.Runs.{StartsWith, end_of, IsRunOf}
 use Rattle.lset_rule.specs.Rule.{Holds, MatchesLog, StandsIn}
 use Rattle.lset_rule.specs.Views.{HasThread}
 
--- A LIST OF WHICH ONE ENTRY CHANGES, or one more comes: P of each entry and its index
+-- A property P of each entry of a list and its index, when one entry changes or is added.
 module _ {A : Type 0} (P : ℕ → A → Type 0) where
   abbrev pub Each : List A → Type 0
   Each l = (j : ℕ) (x : A) → get_elem? l j ≡ some x → P j x
@@ -42,11 +42,12 @@ module _ {A : Type 0} where
   set_twice (x ∷ xs) zero a b = refl
   set_twice (x ∷ xs) (suc i) a b = ap (λ l. x ∷ l) (set_twice xs i a b)
 
--- WHERE A THREAD STANDS, when another view changes, or its own one keeps it, or one more view comes
+-- The view that has a thread, when another view changes, when the view itself changes but keeps the thread, or when a view is
+-- added.
 pub stands_else : (views : List View) (id j t : ℕ) (w : View) → j ≢ id → StandsIn views j t → StandsIn (set views id w) j t
 stands_else views id j t w ne st = (st.0, set_else views id j w ne ∙ st.1, st.2, st.3)
 
--- the thread stands in the view that is found there
+-- The thread is in the view that has this index.
 pub is_in : (views : List View) (id j t : ℕ) (v : View) → get_elem? views id ≡ some v → j ≡ id → StandsIn views j t →
     (v.spent ≡ false) × HasThread v t
 is_in views id j t v at is st =
@@ -67,7 +68,7 @@ pub stands_last : (views : List View) (t : ℕ) (w : View) → w.spent ≡ false
     StandsIn (views ++ w ∷ []) (length views) t
 stands_last views t w alive has = (w, at_last views w (length views) refl, alive, has)
 
--- WHAT IS SO OF EACH VIEW
+-- The properties of each view.
 abbrev pub Fits : Table → Opening → List Event → (ℕ → ℕ) → ℕ → View → Type 0
 Fits m k log so j v = (v.spent ≡ false → MatchesLog m k log so j v) × StartsWith log v.seen
 
@@ -84,7 +85,7 @@ St = table.State (Unit {0}) View
 pub each_fits : (m : Table) (k : Opening) (s : St) (h : Holds m k s) → Each (Fits m k h.log h.seat_of) s.views
 each_fits m k s h j x is = (h.each j x is, h.known j x is)
 
--- THE RULE of these
+-- The rule, from these properties.
 abbrev pub holding : (m : Table) (k : Opening) (s : St) (log : List Event) → IsRunOf m k log → s.words ≡ (end_of m k log).words →
     (so : ℕ → ℕ) → Each (Fits m k log so) s.views → ((t : ℕ) → t < k.threads → StandsIn s.views (so t) t) → Holds m k s
 holding m k s log ran words so all placed = record {

@@ -1,5 +1,5 @@
--- ONE STEP OF A CALL BY ITS ROW, as the interpreter makes it: what it asks of the seat and of what its thread holds, and what it
--- has done.
+-- One step of a call by its row, as the interpreter makes it: its requirements on the seat and on the thread's state, and its
+-- outcome.
 use Rattle.std.specs.Prelude.{◌≡◌, ℕ}
 use Rattle.atomic_table.specs.Seated.{TableId}
 use Rattle.lset_words.specs.Words.{Opening}
@@ -11,7 +11,7 @@ use Rattle.lset_rule.specs.Views.{IsOpen, Stands}
 use Rattle.lset_rule.specs.Calls.{Goes}
 use Rattle.lset_rule.specs.Seats.{TableSeat, IsOf, IsSeat}
 
--- the seat is of this table and has a call under way, whose thread holds these registers, to which some run comes
+-- The seat is one of this table and has a pending call, and its thread has these registers at some moment of some run.
 pub record MayStep (m : Table) (z : TableId) (k : Opening) (l : Local) (s : TableSeat) : Type 0 where
   pub place : IsOf z k s
   pub under_way : IsOpen s.me.0
@@ -19,7 +19,7 @@ pub record MayStep (m : Table) (z : TableId) (k : Opening) (l : Local) (s : Tabl
   pub held : l ≡ s.me.0.local
   pub occurs : Occurs m l
 
--- the call made its next step: the same seat, and what the table makes of the registers and of the value seen
+-- The call has made its next step. The seat is the same, and f is the table's step for the registers and the value seen.
 pub record HasStepped (m : Table) (l : Local) (s : TableSeat) (f : Fed) (s' : TableSeat) : Type 0 where
   pub place : IsSeat s s'
   pub seen : ℕ

@@ -1,6 +1,5 @@
--- THE RUN OF A LIST OF EVENTS, computed from the opening state event by event: its last state, and of each thread what it holds
--- then (its registers), its call under way and its ended calls, with the numbers of their events. The first event has the
--- number 1.
+-- The run of a list of events, computed from the opening state event by event: its last state; and for each thread its registers,
+-- its pending call and its completed calls, with the numbers of their events. The first event has the number 1.
 use Rattle.std.specs.Prelude.{◌≡◌, ℕ, zero, suc, ◌+◌, ◌==◌, if◌then◌else◌, List, [], ◌∷◌, ◌++◌, length, Option, Some, None}
 use Rattle.lset_words.specs.declared.Reply.{Reply}
 use Rattle.lset_words.specs.declared.history.CallRecord.{CallRecord}
@@ -13,11 +12,11 @@ use Rattle.lset_rule.specs.declared.view.OwnCall.{OwnCall}
 use Rattle.lset_rule.specs.declared.view.PendingCall.{PendingCall}
 use Rattle.lset_words.specs.Words.{Opening}
 
--- the list begins with these events
+-- The events `seen` are a prefix of `log`.
 abbrev pub StartsWith : List Event → List Event → Type 0
 StartsWith log seen = (rest : List Event) × (log ≡ seen ++ rest)
 
--- a thread: its registers, its call under way and its ended calls
+-- A thread: its registers, its pending call and its completed calls.
 pub record Here : Type 0 where
   pub local : Local
   pub under : Option PendingCall
@@ -26,24 +25,24 @@ pub record Here : Type 0 where
 abbrev pub here : Local → Option PendingCall → List OwnCall → Here
 here l u d = record { local = l; under = u; done = d }
 
--- the call under way, once it has answered r at event n
+-- The completed call that a pending call becomes at event n, with reply r.
 abbrev pub own : PendingCall → Reply → ℕ → OwnCall
 own u r n = record { call = u.call; reply = r; begun = u.begun; ended = n }
 
--- the call under way after a step that answered, or did not
+-- The pending call after a step that ended it, or did not.
 abbrev pub under_after : Option Reply → Option PendingCall → Option PendingCall
 under_after (Some r) u = None
 under_after None None = None
 under_after None (Some u) = Some (record u { steps = u.steps + 1 })
 
--- the call that ends at event n, if one does
+-- The call that ends at event n, if one does.
 abbrev pub ending : Option Reply → Option PendingCall → ℕ → List OwnCall
 ending (Some r) (Some u) n = own u r n ∷ []
 ending (Some r) None n = []
 ending None u n = []
 
--- THE CALLS OF A THREAD in a log: the one under way, with the number of its Begin and the count of its steps, and the ended ones.
--- under_next and done_next: after event n, from what was before it
+-- The calls of a thread in a log: the pending call, with the number of its Begin and the number of its steps; and the completed
+-- calls. under_next and done_next compute them after event n from those before it.
 abbrev pub under_next : ℕ → Entry → ℕ → Option PendingCall → Option PendingCall
 under_next n (began u c) t before = if u == t then Some (record { call = c; begun = n; steps = 0 }) else before
 under_next n (stepped u change answer) t before = if u == t then under_after answer before else before
@@ -52,7 +51,7 @@ abbrev pub done_next : ℕ → Entry → ℕ → Option PendingCall → List Own
 done_next n (began u c) t open_now before = before
 done_next n (stepped u change answer) t open_now before = if u == t then before ++ ending answer open_now n else before
 
--- after the first k events
+-- The pending call after the first k events; and below, the completed calls.
 abbrev pub under_at : Log → ℕ → ℕ → Option PendingCall
 under_at log t zero = None
 under_at log t (suc k) = under_next (suc k) (log k) t (under_at log t k)
@@ -61,12 +60,12 @@ abbrev pub done_at : Log → ℕ → ℕ → List OwnCall
 done_at log t zero = []
 done_at log t (suc k) = done_next (suc k) (log k) t (under_at log t k) (done_at log t k)
 
--- a thread after the first k events of a run
+-- A thread after the first k events of a run.
 abbrev pub here_at : Table → Opening → (ℕ → Event) → ℕ → ℕ → Here
 here_at T op es t k = here (local_of (state_at T op es k) t) (under_at (log_of T op es) t k) (done_at (log_of T op es) t k)
 
--- THE SAME OF A LIST OF EVENTS, of a set with this many threads and slots: its log, its last state, each thread at its end, and
--- that it is a run (each event may come where it comes)
+-- The run of a list of events, of a set with this opening: its log, its last state, each thread at its end, and the property that
+-- it is a run (each event is enabled when it comes).
 abbrev pub log_by : Table → Opening → List Event → Log
 log_by T k es = log_of T k (event_at es)
 
@@ -79,6 +78,6 @@ at_end T k es t = here_at T k (event_at es) t (length es)
 abbrev pub IsRunOf : Table → Opening → List Event → Type 0
 IsRunOf T k es = Run T k (event_at es) (length es)
 
--- what the run of these events shows
+-- The history of the run of these events.
 abbrev pub history_of : Table → Opening → List Event → List CallRecord
 history_of T k es = history_at (log_by T k es) (length es)

@@ -1,4 +1,4 @@
--- SEATS of the table: what calls ask of one, and what they keep.
+-- Seats of the table: what calls require of a seat, and what they keep.
 use Rattle.std.specs.Prelude.{◌≡◌}
 use Rattle.atomic_table.specs.declared.shared.Seat.{Seat}
 use Rattle.atomic_table.specs.Seated.{TableId}
@@ -12,27 +12,27 @@ use Rattle.lset_rule.specs.OwnSlots.{slots_of}
 use Rattle.lset_rule.specs.Views.{IsIdle, Stands}
 use Rattle.lset_rule.specs.Calls.{Makes}
 
--- a seat, as contracts of calls see it
+-- A seat, as contracts of calls see it.
 abbrev pub TableSeat : Type 0
 TableSeat = Seat (Unit {0}) View
 
--- the seat is of the table z, which has the words of a set of this shape
+-- The seat is one of the table z, which has the words of a set with this opening.
 abbrev pub IsOf : TableId → Opening → TableSeat → Type 0
 IsOf z k s = (s.table_id ≡ z) × (s.me.0.shape ≡ k) × (z.words ≡ word_count (sizes k))
 
--- the same seat, at another view
+-- The same seat, with another view.
 abbrev pub IsSeat : TableSeat → TableSeat → Type 0
 IsSeat s s' = (s'.table_id ≡ s.table_id) × (s'.id ≡ s.id) × (s'.me.1 ≡ s.me.1)
 
--- A WHOLE CALL MAY BE MADE from the seat: it is of this table, its thread has no call under way and has these slots.
+-- A whole call can be made from the seat: it is one of this table, and its thread has no pending call and has these slots.
 pub record MayCall (m : Table) (z : TableId) (k : Opening) (own : OwnSlots) (s : TableSeat) : Type 0 where
   pub place : IsOf z k s
   pub idle : IsIdle s.me.0
   pub stands : Stands m s.me.0
   pub slots : own ≡ slots_of s.me.0.local
 
--- THE CALL c WAS MADE from the seat s, which is now s': the same seat, whose record grew by just this call with its reply. The
--- answer is the slots that the thread now has, and the reply.
+-- The call c was made from the seat s, which is now s': the same seat, whose record grew by exactly this call with its reply. The
+-- answer is the thread's slots after the call, and the reply.
 pub record HasCalled (m : Table) (c : Call) (s : TableSeat) (answer : OwnSlots × Reply) (s' : TableSeat) : Type 0 where
   pub place : IsSeat s s'
   pub slots : answer.0 ≡ slots_of s'.me.0.local

@@ -1,4 +1,4 @@
-//! Whole calls on the shared words, made step by step as the machine's table says.
+//! The interpreter: makes a whole call on the shared words, one row of the machine's table at a time.
 ghost use Rattle.std.specs.Prelude.{IfSome};
 ghost use Rattle.lset_words.specs.declared.Call.TheVariants.{Contains};
 ghost use Rattle.lset_rule.specs.Seats.{HasCalled, MayCall};
@@ -12,8 +12,8 @@ use lset_steps::{Machine, OpenReads};
 use lset_words::{Call, Key, Reply};
 use std::marker::Brand;
 
-/// What stands between two steps: the answer where there is one, and else the pause. (It is no function: after a call of one that
-/// may wait, as one that asks a pause, the compiler leads nowhere straight.)
+/// The code between two steps: returns the reply of a call that has ended, and pauses otherwise. This is a macro and not a
+/// function: after a call of a function that may block, as a pause may, the compiler does not lead straight to the next row.
 macro_rules! ends_or_pauses {
     ($last:expr, $pause:expr) => {
         if let Some(reply) = $last.fed.answer {
@@ -27,15 +27,15 @@ macro_rules! ends_or_pauses {
     };
 }
 
-/// Makes a whole call, step by step, in at most `N::MOST` rounds of four steps each; `None` where it has not answered then.
+/// Makes a whole call step by step, in at most `N::MOST` rounds of four steps each.
 ///
-/// `place` is the place of an idle seat of these words, and `slots` are those of its thread, as the last call left them.
-/// `pause` is asked after each step that does not answer: `failed` where the step has failed, and else `moved`, also after a lock
-/// that was waited for is taken. It is never asked `taken`.
+/// `place` is an idle seat of these words. `slots` are the slots of its thread, as its last call returned them. After each step
+/// that does not end the call, `pause.failed` is called if the step has failed, and `pause.moved` otherwise, also after a lock
+/// that was waited for is taken. `pause.taken` is never called.
 ///
-/// An answer is the slots as this call leaves them, and the reply: of a call of the machine, begun after all that the place
-/// had seen, by which the record of the place grew. After `None` the call is still under way, with the locks that it has, and the
-/// place makes no other.
+/// Returns the thread's slots after the call, and the reply. The call began after all events that the seat had seen, and the
+/// seat's record has grown by this call. Returns `None` if the call has not ended after these rounds. The call is then still
+/// pending and keeps its locks, and the seat can make no other call.
 pub fn interpret_within<M: Machine, P: Pause, N: Rounds>(
     table: &Words<M>,
     place: &mut TableSeat,
@@ -53,8 +53,8 @@ pub fn interpret_within<M: Machine, P: Pause, N: Rounds>(
         fed: M::feed(&begun, seen),
         failed: has_failed(action, seen),
     };
-    // Four steps in a round: within a round the compiler leads from the code of a row straight to that of the next one, and
-    // at its end to a search for the row.
+    // Four steps in a round: within a round the compiler leads from the code of a row straight to the code of the next row. At
+    // the end of a round it searches for the row.
     for round in 0..N::MOST {
         ends_or_pauses!(last, pause);
         let second = one_step::<M, 1>(table, place, &last.fed.local);
@@ -69,10 +69,10 @@ pub fn interpret_within<M: Machine, P: Pause, N: Rounds>(
     Some((OwnSlots::of(&last.fed.local), reply))
 }
 
-/// Makes a whole `contains` of `key`, step by step, that does not block and returns: for the lists whose walk meets each
-/// node at most once (`OpenReads`), which are those that mark nodes before they unlink them.
+/// Makes a whole `contains` of `key` step by step, without blocking. This is for the lists whose walk reaches each node at most
+/// once (`OpenReads`): the lists that mark nodes before they unlink them.
 ///
-/// `place` and `slots` are as those of [`interpret_within`], and the answer is as one of it.
+/// `place` and `slots` are those of [`interpret_within`]. Returns the thread's slots after the call, and the reply.
 pub fn interpret_read<M: OpenReads>(
     table: &Words<M>,
     place: &mut TableSeat,

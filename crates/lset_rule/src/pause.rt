@@ -1,34 +1,34 @@
-//! What a call does between two steps of its own.
+//! Pauses between two steps of a call.
 
 use crossbeam_utils::Backoff;
 use std::cell::Cell;
 
-/// What a call does between two steps of its own. No contract rests on it: it sees no word and no seat, and changes how
-/// long a call takes and nothing else.
+/// The code that a call runs between two of its steps. No contract depends on it: it cannot see the words or the seat, and
+/// changes only how long a call takes.
 ///
-/// It has two functions, and not one that is told which it is, since the kit reads a byte after each call of a function from
-/// which a yield can be reached: a pause that yields where a step failed alone costs nothing at the others.
+/// There is a function for each outcome, not one function with the outcome as an argument: the kit reads a byte after each call
+/// of a function that can reach a yield. A pause that yields only after a failed step costs nothing after the others.
 pub trait Pause {
-    /// Asked after a step that does not answer and has not failed. `thread` is the number of the caller's thread.
+    /// Called after a step that succeeded and did not end the call. `thread` is the number of the calling thread.
     fn moved(&self, thread: u32);
 
-    /// Asked after a step that has failed and does not answer: an exchange that found another value than it looked for, as
-    /// at a lock that is taken. `thread` is the number of the caller's thread.
+    /// Called after a step that failed and did not end the call: an exchange that found another value than it expected, such as a
+    /// lock that is taken. `thread` is the number of the calling thread.
     fn failed(&self, thread: u32);
 
-    /// Asked by the loops of the four lists with locks, in place of `moved`, after a lock that was waited for is taken at last; the
-    /// interpreter (`interpret_within`) asks `moved` then too. `thread` is the number of the caller's thread.
+    /// Called by the loops of the four lists with locks, in place of `moved`, after a lock that was waited for is taken. The
+    /// interpreter (`interpret_within`) calls `moved` then, too. `thread` is the number of the calling thread.
     fn taken(&self, thread: u32) {
         self.moved(thread)
     }
 }
 
-/// The most waits of `Backoff` after a failed step: with 16 of them a thread pauses 1,024 times, in which the holder of a lock
-/// makes many calls, and its line of the cache stays with it.
+/// The maximum number of waits of `Backoff` after a failed step. At 16 waits a thread pauses 1,024 times. In that time the holder
+/// of a lock makes many calls, and the lock's cache line stays with it.
 const MOST_WAITS: u32 = 16;
 
-/// Backs off after each failed exchange by `Backoff` of `crossbeam_utils`, twice as often each time up to a limit, and from then
-/// on yields the processor too; at the next lock it begins anew. One is made for each call.
+/// Backs off after each failed exchange by `Backoff` of `crossbeam_utils`: twice as long each time, up to a limit. Beyond the
+/// limit it also yields the processor. At the next lock it starts anew. Each call has its own `Spin`.
 #[derive(Drop)]
 pub struct Spin {
     backoff: Backoff,
@@ -36,7 +36,7 @@ pub struct Spin {
 }
 
 impl Spin {
-    /// A pause to which nothing has failed yet.
+    /// Returns a pause after which no step has failed yet.
     pub fn new() -> Spin {
         Spin {
             backoff: Backoff::new(),

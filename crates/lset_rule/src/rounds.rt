@@ -1,13 +1,13 @@
-//! How many rounds a loop of a call makes: at most a number, or as many as it takes.
+//! The number of rounds that a loop of a call makes: bounded, or effectively unbounded.
 ghost use Rattle.std.specs.Prelude.{◌≡◌, Some};
 
 use crate::slots::OwnSlots;
 use lset_words::Reply;
 use std::sync::Wait;
 
-/// A bound on the rounds of each loop of a call: one that has made them all gives up.
+/// A bound on the rounds of each loop of a call. A loop that has made all its rounds gives up.
 pub trait Rounds {
-    /// How many rounds a loop makes at most.
+    /// The maximum number of rounds of a loop.
     const MOST: u64;
 }
 
@@ -18,7 +18,7 @@ impl Rounds for Countless {
     const MOST: u64 = u64::MAX;
 }
 
-/// The answer of a call with [`Countless`] rounds, which are 2^64 - 1. If there is none, it waits for ever.
+/// Returns the answer of a call with [`Countless`] rounds, which are 2^64 - 1. Waits for ever if there is no answer.
 #[inline(always)]
 pub fn or_wait_forever<R: Wait>(rt: &R, answer: Option<(OwnSlots, Reply)>) -> (OwnSlots, Reply)
     ensures { answer ≡ Some result }

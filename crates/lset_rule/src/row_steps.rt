@@ -5,15 +5,15 @@ ghost use Rattle.lset_rule.specs.RowSteps.{HasStepped, MayStep};
 use crate::word_steps::{TableSeat, Words, step_on};
 use lset_steps::{Action, Fed, Local, Machine};
 
-/// What a step has told: what the thread holds after it, with the answer where it was the last of the call, and whether it
-/// was an exchange that was not made.
+/// The outcome of a step: the thread's state after it, with the reply if the step ended the call; and whether the step was an
+/// exchange that failed.
 #[derive(Clone, Copy)]
 pub(crate) struct Stepped {
     pub fed: Fed,
     pub failed: bool,
 }
 
-/// Whether a step that made `action`, at which `seen` was seen, was an exchange that was not made.
+/// Returns whether a step that made `action` and saw `seen` was an exchange that failed.
 #[inline(always)]
 pub(crate) fn has_failed(action: Action, seen: u64) -> bool {
     match action {
@@ -22,8 +22,8 @@ pub(crate) fn has_failed(action: Action, seen: u64) -> bool {
     }
 }
 
-/// Makes the next step of a call that stands at the row `PC`. The row is a number that the compiler knows, so that of the
-/// machine's `next` and `feed` this row alone is left: its access, and what follows from what it saw.
+/// Makes the next step of a call at row `PC`. `PC` is a constant for the compiler: it compiles only this row of the machine's
+/// `next` and `feed`, its access and the state after it.
 fn row_step<M: Machine, const PC: u8>(
     table: &Words<M>,
     place: &mut TableSeat,
@@ -42,9 +42,9 @@ fn row_step<M: Machine, const PC: u8>(
     }
 }
 
-/// Makes the next step of a call at a row that [`one_step`] does not name. `SITE` numbers the places at which it may be
-/// called, and has no other part: a function that one place alone calls is taken into it. Were it not, the registers would
-/// have to lie in memory for it, at every step of every row.
+/// Makes the next step of a call at a row without an arm in [`one_step`]. `SITE` numbers the places of the call and is not used
+/// otherwise: a function that is called from a single place is inlined there. If this function were inlined, the registers would
+/// have to be kept in memory at every step of every row.
 fn other_step<M: Machine, const SITE: u8>(
     table: &Words<M>,
     place: &mut TableSeat,
@@ -61,11 +61,11 @@ fn other_step<M: Machine, const SITE: u8>(
     }
 }
 
-/// Makes the next step of the call, by the code of its row.
+/// Makes the next step of a call, by the code of its row.
 ///
-/// `place` is the place of a seat of these words with a call under way, and `local` is what its thread holds. Each place
-/// that calls it has a number `SITE` of its own. It names each row of the five tables; a table with further rows is right
-/// without an arm for them here, and slower there.
+/// `place` is a seat of these words with a pending call, and `local` is the state of its thread. Each place that calls this
+/// function has its own number `SITE`. The arms cover each row of the five tables. A table with further rows works without an arm
+/// for them here, but their steps are slower.
 #[inline(always)]
 pub(crate) fn one_step<M: Machine, const SITE: u8>(
     table: &Words<M>,

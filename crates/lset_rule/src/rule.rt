@@ -1,4 +1,4 @@
-//! The rule of the table, and what each kind of move tells the one that makes it.
+//! The rule of the table, and the knowledge that a thread gains by each kind of move.
 ghost use Rattle.lset_words.specs.declared.Call.{Call};
 ghost use Rattle.lset_words.specs.declared.Call.TheVariants.{Contains};
 ghost use Rattle.lset_rule.specs.Rule.{Holds, opener, left_view, right_view, joined, nobody, learned, without_thread, informed};
@@ -9,8 +9,8 @@ use atomic_table::{Join, Play, Split, TableRule};
 use lset_steps::Machine;
 use std::marker::{Brand, PhantomData};
 
-/// THE RULE of a table whose words are those of the machine `M`: the events of all threads are a run of it, which ends
-/// with these words, and each view fits that run. The first seat has all threads.
+/// The rule of a table with the words of the machine `M`: the events of all threads are a run of `M` that ends with these words,
+/// and each view fits that run. The first seat has all threads.
 pub struct Follows<M> {
     machine: PhantomData<M>,
 }
@@ -21,7 +21,7 @@ impl<M: Machine> TableRule<(), View, Opened> for Follows<M> {
     ghost first = { opener };
 }
 
-/// Names the call that a first step begins. A caller gives `Brand`, and the call by proof.
+/// Names the call that a first step begins. A caller passes `Brand`, and proves which call it is.
 pub trait Asking {
     ghost call: { Call };
 }
@@ -30,66 +30,68 @@ impl Asking for Brand {
     ghost call = { Contains (record { 0 = 0 }) };
 }
 
-/// What a step tells that is not the first of its call.
-pub struct Onward<M> {
+/// The knowledge that a thread gains by a step other than the first of its call.
+pub struct Step<M> {
     machine: PhantomData<M>,
 }
 
-impl<M: Machine> Play<(), View> for Onward<M> {
+impl<M: Machine> Play<(), View> for Step<M> {
     ghost then = { onward M.table };
 }
 
-/// What the first step of a call tells, with which the call begins.
-pub struct Starting<M, J> {
+/// The knowledge that a thread gains by the first step of a call, which begins the call.
+pub struct FirstStep<M, J> {
     machine: PhantomData<M>,
     asking: PhantomData<J>,
 }
 
-impl<M: Machine, J: Asking> Play<(), View> for Starting<M, J> {
+impl<M: Machine, J: Asking> Play<(), View> for FirstStep<M, J> {
     ghost then = { starting M.table J.call };
 }
 
-/// How the view of a seat is cut when a further thread of it becomes a seat.
-pub struct Cutting;
+/// The views after a seat is split: one of its further threads becomes a seat of its own.
+pub struct SplitSeat;
 
-impl Split<View> for Cutting {
+impl Split<View> for SplitSeat {
     ghost left = { left_view };
 
     ghost right = { right_view };
 }
 
-/// How a seat takes another in, with its threads and its record.
-pub struct Taking;
+/// The view after a seat gathers another seat, with its threads and its record.
+pub struct JoinSeats;
 
-impl Join<View> for Taking {
+impl Join<View> for JoinSeats {
     ghost both = { joined };
 
     ghost spent = { nobody };
 }
 
-/// How a receipt is given: the seat keeps its view, and a view without a thread has seen as much. So is a receipt copied.
-pub struct Noting;
+/// The views after a seat gives a receipt: the seat keeps its view, and the receipt is a view without a thread that has seen the
+/// same events. A receipt is copied in this way, too.
+pub struct GiveReceipt;
 
-impl Split<View> for Noting {
+impl Split<View> for GiveReceipt {
     ghost left = { λ v. v };
 
     ghost right = { without_thread };
 }
 
-/// How a seat takes a receipt in: it has then seen what each of the two had seen.
-pub struct Heeding;
+/// The view after a seat takes a receipt: it has seen all that each of the two had seen.
+pub struct TakeReceipt;
 
-impl Join<View> for Heeding {
+impl Join<View> for TakeReceipt {
     ghost both = { informed };
 
     ghost spent = { nobody };
 }
 
-/// What the load that ends a gathering, or the taking of a receipt, tells: that the seat has seen what each of the two had seen.
-pub struct Learning<M> {
+/// The knowledge that a seat gains by the load after a gathering or after taking a receipt: it has seen all that each of the two
+/// had seen.
+pub struct Learn<M> {
     machine: PhantomData<M>,
 }
 
-impl<M: Machine> Play<(), View> for Learning<M> {
+impl<M: Machine> Play<(), View> for Learn<M> {
     ghost then = { learned M.table };
 }

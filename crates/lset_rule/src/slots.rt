@@ -1,4 +1,4 @@
-//! What a thread keeps between two calls.
+//! The slots of a thread: the state that it keeps between two calls.
 ghost use Rattle.std.specs.Prelude.{◌≡◌};
 ghost use Rattle.lset_steps.specs.Steps.{idle};
 ghost use Rattle.lset_rule.specs.OwnSlots.{slots_of, resting};
@@ -6,8 +6,8 @@ ghost use Rattle.lset_rule.specs.OwnSlots.{slots_of, resting};
 use lset_steps::Local;
 use lset_words::{Call, Key, Layout};
 
-/// What a thread keeps between two calls: its number, how many slots it has, and how many of them it has used. The rest of
-/// its registers has no part in its next call.
+/// The state that a thread keeps between two calls: its number, the number of its slots, and how many of them it has used. The
+/// next call does not depend on its other registers.
 #[derive(Clone, Copy)]
 pub struct OwnSlots {
     pub thread: u32,
@@ -16,7 +16,7 @@ pub struct OwnSlots {
 }
 
 impl OwnSlots {
-    /// Those of the thread number `thread` before its first call.
+    /// Returns the slots of thread `thread` before its first call.
     pub fn unused(layout: &Layout, thread: u32) -> OwnSlots
         ensures { result ≡ slots_of (idle layout.now.quota thread) }
     {
@@ -27,7 +27,7 @@ impl OwnSlots {
         }
     }
 
-    /// Those that the registers name.
+    /// Returns the slots that the registers state.
     pub(crate) fn of(local: &Local) -> OwnSlots
         ensures { result ≡ slots_of local.now }
     {
@@ -38,7 +38,7 @@ impl OwnSlots {
         }
     }
 
-    /// Registers that name them, and no call.
+    /// Returns registers with these slots and no call.
     pub(crate) fn resting(self) -> Local
         ensures { result ≡ resting self }
     {

@@ -1,4 +1,4 @@
-//! What a seat knows: plain data that contracts alone speak of. No value of these types is made when a program runs.
+//! The knowledge of a seat: plain data for contracts alone. A running program has no value of these types.
 ghost use Rattle.std.specs.Prelude.{◌≡◌};
 ghost use Rattle.lset_words.specs.Words.{Opening};
 
@@ -7,8 +7,8 @@ use lset_words::{Call, Reply};
 use std::collections::LinkedList;
 use std::marker::Model;
 
-/// How a set opens: for how many threads, with how many slots for each, and with which keys. It is the key of the table,
-/// fixed when the set is opened.
+/// The opening of a set: the number of threads, the slots of each thread, and the opening keys. It is the key of the table, fixed
+/// when the set is opened.
 #[derive(Drop)]
 pub struct Opened {
     threads: u32,
@@ -23,7 +23,7 @@ impl Model for Opened {
 }
 
 impl Opened {
-    /// A set for so many threads, with so many slots for each, that opens with these keys.
+    /// Returns the opening of a set with this many threads, this many slots for each, and these keys.
     pub fn new(threads: u32, quota: u32, keys: Vec<u32>) -> Opened
         ensures { result ≡ record { threads = threads; quota = quota; keys = keys.items } }
     {
@@ -35,61 +35,62 @@ impl Opened {
     }
 }
 
-/// A call that has ended.
+/// A completed call.
 pub struct OwnCall {
     pub call: Call,
     pub reply: Reply,
-    /// The number of its Begin among the events of all threads, of which the first is 1.
+    /// The number of its Begin among the events of all threads. The first event has the number 1.
     pub begun: u64,
-    /// The number of the step that answered.
+    /// The number of the step that ended it.
     pub ended: u64,
 }
 
-/// A call under way.
+/// A pending call.
 pub struct PendingCall {
     pub call: Call,
     /// The number of its Begin.
     pub begun: u64,
-    /// How many steps it has made.
+    /// The number of steps that it has made.
     pub steps: u64,
 }
 
-/// The record of a seat: its ended calls, and the records that it gathered, in the order in which they came.
+/// The record of a seat: its completed calls and the records that it gathered, in the order in which they came.
 pub enum Past {
-    /// The record of this thread, which has called nothing yet.
+    /// The record of this thread, which has made no call yet.
     Fresh(u32),
-    /// One call more of the record's own thread.
+    /// The record with one more call of its own thread.
     Called(&'static Past, OwnCall),
-    /// The record of another seat, which was gathered.
+    /// The record with the gathered record of another seat.
     Gathered(&'static Past, &'static Past),
 }
 
-/// A further thread of a seat, which is idle.
+/// An idle further thread of a seat.
 pub struct SpareThread {
     pub thread: u32,
     pub local: Local,
 }
 
-/// What a seat knows.
+/// The knowledge of a seat.
 pub struct View {
-    /// The seat was taken in by another one: the rule says nothing of it.
+    /// Whether the view has no threads: its seat was gathered, or it is a receipt. The rule then states only which events it has
+    /// seen.
     pub spent: bool,
-    /// How large its set is.
+    /// The opening of its set.
     pub shape: Opened,
     /// Its own thread, which makes its calls.
     pub thread: u32,
     /// The registers of its own thread.
     pub local: Local,
-    /// The call of its own thread that is under way.
+    /// The pending call of its own thread.
     pub under: Option<PendingCall>,
-    /// Its further threads: those that it gathered, or that are still to be split off.
+    /// Its further threads: the threads that it gathered, or that are still to be split off.
     pub others: LinkedList<SpareThread>,
     /// Its record.
     pub past: Past,
     /// The events that it has seen.
     pub seen: LinkedList<Event>,
-    /// After a joining, what it had seen itself.
+    /// After a gathering or a receipt, the events that this seat had seen before.
     pub ours: LinkedList<Event>,
-    /// After a joining, what the other had seen.
+    /// After a gathering or a receipt, the events that the other view had seen.
     pub theirs: LinkedList<Event>,
 }

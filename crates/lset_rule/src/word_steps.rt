@@ -1,5 +1,5 @@
-//! One step of a call on the shared words: the first step of a call or a further one. Each is the step of the row of the machine's
-//! table at which the seat stands, and no other can be made.
+//! One step of a call on the shared words: the first step of a call, or a further one. It must be the step of the current row of
+//! the seat's call.
 ghost use Rattle.std.specs.Prelude.{◌≡◌, ◌<◌, ℕ};
 ghost use Rattle.lset_words.specs.Words.{target, tail_word};
 ghost use Rattle.lset_steps.specs.declared.Action.TheVariants.{Store};
@@ -7,7 +7,7 @@ ghost use Rattle.lset_rule.specs.Views.{IsOpen, IsIdle, Stands};
 ghost use Rattle.lset_rule.specs.Calls.{Goes, Starts};
 ghost use Rattle.lset_rule.specs.Seats.{IsOf, IsSeat};
 
-use crate::rule::{Asking, Follows, Onward, Starting};
+use crate::rule::{Asking, FirstStep, Follows, Step};
 use crate::view::{Opened, View};
 use atomic_table::{Seat, Shared};
 use lset_steps::{Action, Machine};
@@ -19,11 +19,11 @@ pub type TableSeat = Seat<(), View>;
 /// The shared words of a set whose list is `M`: lock words, counts, and keys and links of the nodes.
 pub type Words<M> = Shared<(), View, Opened, Follows<M>>;
 
-/// Makes a step in a call that has begun.
+/// Makes a further step of a pending call.
 ///
-/// `place` is the place of a seat of these words with a call under way, and `action` is that of the row at which it stands. The
-/// answer is what the machine is to be fed: the value seen, which is the old one exactly if an exchange was made, or the value
-/// stored. From then on the place has seen all events up to this step.
+/// `place` is a seat of these words with a pending call, and `action` is the action of the call's current row. Returns the value
+/// to feed to the machine: the value that was seen, which for an exchange is the expected value exactly if the exchange was
+/// made, or the value that was stored. The seat has then seen all events up to this step.
 #[inline(always)]
 pub fn step_on<M: Machine>(table: &Words<M>, place: &mut TableSeat, action: Action) -> u64
     requires place { IsOf table.now.table_id table.now.key place.old }
@@ -34,21 +34,21 @@ pub fn step_on<M: Machine>(table: &Words<M>, place: &mut TableSeat, action: Acti
     ensures stored { (word value : ℕ) → action ≡ Store word value → result ≡ value }
 {
     match action {
-        Action::Load(word) => table.load::<Onward<M>>(place, word as usize),
+        Action::Load(word) => table.load::<Step<M>>(place, word as usize),
         Action::Store(word, value) => {
-            table.store::<Onward<M>>(place, word as usize, value);
+            table.store::<Step<M>>(place, word as usize, value);
             value
         }
         Action::Exchange(word, old, new) => {
-            table.compare_exchange::<Onward<M>>(place, word as usize, old, new)
+            table.compare_exchange::<Step<M>>(place, word as usize, old, new)
         }
     }
 }
 
-/// Makes the first step of a call, which begins with it, after all that the place had seen.
+/// Makes the first step of a call. The call begins with this step, after all events that the seat had seen.
 ///
-/// `place` is the place of an idle seat of these words, `call` the call, with a key below that of the tail, and `action` that of
-/// the call's first row. The answer is as that of [`step_on`].
+/// `place` is an idle seat of these words. `call` is the call, with a key below that of the tail, and `action` the action of its
+/// first row. Returns the value to feed to the machine, as [`step_on`] does.
 #[inline(always)]
 pub fn start_on<M: Machine, J: Asking>(
     table: &Words<M>,
@@ -65,13 +65,13 @@ pub fn start_on<M: Machine, J: Asking>(
     ensures starts { Starts M.table J.call place.old.me.0 result place.new.me.0 }
 {
     match action {
-        Action::Load(word) => table.load::<Starting<M, J>>(place, word as usize),
+        Action::Load(word) => table.load::<FirstStep<M, J>>(place, word as usize),
         Action::Store(word, value) => {
-            table.store::<Starting<M, J>>(place, word as usize, value);
+            table.store::<FirstStep<M, J>>(place, word as usize, value);
             value
         }
         Action::Exchange(word, old, new) => {
-            table.compare_exchange::<Starting<M, J>>(place, word as usize, old, new)
+            table.compare_exchange::<FirstStep<M, J>>(place, word as usize, old, new)
         }
     }
 }

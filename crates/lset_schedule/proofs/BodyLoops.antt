@@ -1,4 +1,5 @@
--- Reading what comes after a header line by line, as the loop does: which line an error is in, and that a failed allocation is none.
+-- The loop that reads the lines after a header: which line an error is at, and that a failed allocation is not an error of a
+-- line.
 use Rattle.std.proofs.Common.{arith, ◌≡◌, ℕ, ◌+◌, inl, inr, Bool, true, false, cond, ltb, List, [], ◌∷◌, length, Option, Some}
 use Rattle.std.proofs.Common.{None, Result, Err, refl, codes}
 use Rattle.std.specs.Prelude.{MatchOption}
@@ -19,14 +20,14 @@ use Rattle.lset_text.specs.declared.causes.Cause.{Cause}
 use Rattle.lset_text.specs.declared.causes.Cause.TheVariants.{Event, Number, Memory}
 use Rattle.lset_schedule.specs.ScheduleReading.{EventLines, BodyValue, Item, opens, event, kinds_after, with_item, with_line}
 
--- ---- a line that may be one of an opening key
+-- ---- a line that can be one of an opening key
 
 number_told : {L : Type 0} (o : Option ℕ) → (let word : Option (Unit {0}) = Some tt in
     made {Y = Item L} (λ t. opens t.1.0) (or_fail Number (both word (both o word)))) ≡ made opens (or_fail Number o)
 number_told None = refl
 number_told (Some n) = refl
 
--- where no line of an event stands, in a text of the second version
+-- In a text of version 2, before all lines of events.
 pub key_told : {L K : Type 0} (text : EventLines L) (ls : List L) (line : List ℕ) (now : K → List ℕ) (o : Option K) → ls ≡ []
     → MatchOption o (have_form Two opening_form (cut_at 32 line) ≡ false) (λ key. cut_at 32 line ≡ codes "opening" ∷ now key ∷ [])
     → MatchOption o (line_in Two Event (kinds_after text Two ls) line ≡ made event (line_in Two Event text.kinds line))
@@ -34,14 +35,14 @@ pub key_told : {L K : Type 0} (text : EventLines L) (ls : List L) (line : List �
 key_told text ls line now None none other = rw (none, other) (first_as event Two Event text.kinds (cut_at 32 line))
 key_told text ls line now (Some key) none is = rw (none, is) (number_told (number_in 0 max_number (now key)))
 
--- and where one may not come
+-- If an opening key cannot come there.
 pub not_due : {L : Type 0} (text : EventLines L) (v : Version) (ls : List L) (line : List ℕ) → (v ≡ Two → ls ≡ [] → ⊥)
     → line_in v Event (kinds_after text v ls) line ≡ made event (line_in v Event text.kinds line)
 not_due text One ls line not = first_as event One Event text.kinds (cut_at 32 line)
 not_due text Two [] line not = absurd (not refl refl)
 not_due text Two (l ∷ ls) line not = first_as event Two Event text.kinds (cut_at 32 line)
 
--- ---- no check fails by a failed allocation
+-- ---- no check fails because an allocation failed
 
 either_fails : {A : Type 0} (b : Bool) (r s : Result A Cause) → (r ≡ Err Memory → ⊥) → (s ≡ Err Memory → ⊥)
     → cond b r s ≡ Err Memory → ⊥

@@ -1,4 +1,4 @@
--- The two laws: what is read is the text of the schedule, and the text of a schedule is read.
+-- Proof of two laws: each text that is read is the text of its schedule, and the text of each schedule is read.
 use Rattle.std.proofs.Common.{◌≡◌, ℕ, ◌<◌, ◌^◌, inl, inr, List, [], ◌∷◌, ◌++◌, map, false, Result, Ok, Err, refl, ap, subst, ◌∙◌}
 use Rattle.std.proofs.Common.{sym, arith}
 use Rattle.std.specs.Prelude.{IfOk, MatchResult, ◌≢◌}
@@ -56,7 +56,7 @@ event_made v (Begin t c) is =
 event_made v (Go t n) is =
     inr (refl, inl ((tt, (t, (n, tt))), refl, (tt, ((omega arith, omega (arith, is.0)), ((is.1, is.2), tt)))))
 
--- it has three pieces or four
+-- A line of events has three fields or four, and not the form of an opening key.
 pub no_opening : (v : Version) (l : Line) → IsLine v l → have_form v opening_form (pieces_of l) ≡ false
 no_opening v (Begin t c) is = refl
 no_opening v (Go t n) is = refl
@@ -85,14 +85,14 @@ reads_text p is =
     let parts : List (List ℕ) = header_lines (title v) (header_in p) ++ rest in
     ap plan_of again.0 ∙ ap (λ w. plan_in w parts) (version_again schedules refl v (header_in p) rest) ∙ rw again.1 refl
 
--- ---- as a reader's clauses
+-- ---- in the form of a reader's contract
 
--- a cause that cannot be another one is a failed allocation
+-- A cause that cannot be another one is a failed allocation.
 is_memory : (c : Cause) → (c ≢ Memory → ⊥) → c ≡ Memory
 is_memory Memory h = refl
 is_memory c h = absurd (h (λ e. cc))
 
--- where a value is read, it is given, unless memory ran out
+-- If a value is read, it is returned, unless an allocation failed.
 pub gives_ok : {X Y : Type 0} (view : X → Y) (r : Result X LineFault) (y : Y) → Gives view r (Ok y)
     → MatchResult r (λ x. view x ≡ y) (λ e. e.cause ≡ Memory)
 gives_ok view (Ok x) y gives = sym (ok_is y (view x) gives)

@@ -1,4 +1,4 @@
--- What a generated schedule is, and what the generator refuses.
+-- The properties of a generated schedule, and the arguments that the generator refuses.
 use Rattle.std.specs.Prelude.{◌≡◌, ℕ, ◌<◌, ◌≤◌, ◌⊎◌, Bool, true, false, List, [], ◌∷◌, length, count_by, flat_map, replicate}
 use Rattle.std.specs.List.{AllByRecursion}
 use Rattle.lset_text.specs.Spellings.{HasCall}
@@ -14,7 +14,7 @@ use Rattle.lset_schedule.specs.declared.value.Line.TheVariants as line
 use Rattle.lset_schedule.specs.declared.fault.GenFault.{GenFault}
 use Rattle.lset_schedule.specs.declared.fault.GenFault.TheVariants.{Threads, Quota, Keys, Memory}
 
--- the events of a line, and of lines: steps are counted one by one
+-- The events of a line; and below, of lines. Steps are counted one by one.
 abbrev pub events_of_line : Line → List Event
 events_of_line (line.Begin t call) = event.Begin t call ∷ []
 events_of_line (line.Go t steps) = replicate steps (event.Go t)
@@ -26,7 +26,7 @@ abbrev pub is_begin : Line → Bool
 is_begin (line.Begin t call) = true
 is_begin (line.Go t steps) = false
 
--- one event of one of the threads; keys are below `keys`, and the calls are those of version 1
+-- One event of one of the threads. Its key is below `keys`, and its call is one of version 1.
 abbrev pub IsGeneratedLine : ℕ → ℕ → Line → Type 0
 IsGeneratedLine threads keys (line.Begin t call) = (t < threads) × ((key_of call).0 < keys) × HasCall One call
 IsGeneratedLine threads keys (line.Go t steps) = (t < threads) × (steps ≡ 1)
@@ -35,28 +35,28 @@ abbrev pub StartsWithBegin : List Line → Type 0
 StartsWithBegin [] = ⊥
 StartsWithBegin (l ∷ ls) = is_begin l ≡ true
 
--- thread t has no call open after these events
+-- Thread t has no pending call after these events.
 abbrev pub NoneOpenAfter : Table → ℕ → ℕ → List Event → ℕ → Type 0
 NoneOpenAfter T threads quota es t = (local_of (state_at T (empty threads quota) (event_at es) (length es)) t).pc ≡ 0
 
--- what a generated schedule of these sizes, with at most `calls` calls, has for lines
+-- The lines of a generated schedule of this size, with at most `calls` calls.
 pub record IsGenerated (T : Table) (threads quota calls keys : ℕ) (lines : List Line) : Type 0 where
-  -- every line is one event
+  -- Each line is one event.
   pub each : AllByRecursion (IsGeneratedLine threads keys) lines
-  -- every event is enabled in its run
+  -- Each event is enabled in its run.
   pub run : Run T (empty threads quota) (event_at (events_of_lines lines)) (length (events_of_lines lines))
   pub first : 0 < calls → StartsWithBegin lines
   pub few : count_by is_begin lines ≤ calls
-  -- with one thread all calls were begun and have ended, or the events are as many as a schedule may have
+  -- With one thread, all calls were begun and have ended, or there are as many events as a generated schedule can have.
   pub alone : threads ≡ 1
       → (length lines ≡ MOST_GENERATED)
       ⊎ ((count_by is_begin lines ≡ calls) × NoneOpenAfter T threads quota (events_of_lines lines) 0)
 
--- no check fails
+-- No check of the arguments fails.
 abbrev pub IsAccepted : ℕ → ℕ → ℕ → Type 0
 IsAccepted threads quota keys = IsWithin (record { threads = threads; quota = quota; opening = 0 }) × (0 < keys)
 
--- the first of the checks that fails, and Memory if none does
+-- The error is the first check that fails, or Memory if none fails.
 abbrev pub Refuses : ℕ → ℕ → ℕ → GenFault → Type 0
 Refuses threads quota keys Threads = (threads ≡ 0) ⊎ (MOST_THREADS < threads)
 Refuses threads quota keys Quota = (0 < threads) × (threads ≤ MOST_THREADS) × (MOST_QUOTA < quota)

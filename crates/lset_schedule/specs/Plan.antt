@@ -1,4 +1,4 @@
--- Schedules and their text: the one spelling of each schedule.
+-- Schedules and their text: each schedule has exactly one text.
 use Rattle.std.specs.Prelude.{ℕ, ◌+◌, ◌<◌, ◌≤◌, ◌^◌, List, [], ◌∷◌, ◌++◌, length, map, codes}
 use Rattle.std.specs.Fmt.{decimal}
 use Rattle.std.specs.List.{sum_by, AllByRecursion}
@@ -17,7 +17,7 @@ use Rattle.lset_schedule.specs.declared.value.Line.{Line}
 use Rattle.lset_schedule.specs.declared.value.Line.TheVariants.{Begin, Go}
 use Rattle.lset_schedule.specs.declared.value.Schedule.{Schedule}
 
--- a schedule, without the place of its lines in memory
+-- A schedule as a plain value.
 pub record Plan : Type 0 where
   pub version : Version
   pub kind : Kind
@@ -26,7 +26,7 @@ pub record Plan : Type 0 where
   pub opening : List ℕ
   pub lines : List Line
 
--- a version, what a header has, opening keys, and lines
+-- The schedule of a version, a header, opening keys and lines.
 abbrev pub planned : Version → Header → List ℕ → List Line → Plan
 planned v h keys lines = record {
   version = v;
@@ -43,7 +43,7 @@ view s = planned s.version (record { kind = s.kind; threads = s.threads; quota =
 abbrev pub header_in : Plan → Header
 header_in p = record { kind = p.kind; threads = p.threads; quota = p.quota }
 
--- how its set opens
+-- The opening of its set.
 abbrev pub opening_in : Plan → Opening
 opening_in p = record { threads = p.threads; quota = p.quota; keys = p.opening }
 
@@ -66,13 +66,13 @@ schedule_lines p = header_lines (title p.version) (header_in p) ++ (opening_line
 abbrev pub schedule_text : Plan → List ℕ
 schedule_text p = text_of (schedule_lines p)
 
--- the number of the line of the first event, counted from 1: the lines of the header and of the opening keys come before it
+-- The line number of the first event, counted from 1. The lines of the header and of the opening keys come before it.
 abbrev pub first_event_line : Plan → ℕ
 first_event_line p = first_line + length p.opening
 
 -- ---- its limits
 
--- how many events a line counts for
+-- The number of events that a line counts as.
 abbrev pub event_count : Line → ℕ
 event_count (Begin thread call) = 1
 event_count (Go thread steps) = steps
@@ -81,23 +81,23 @@ abbrev pub IsLine : Version → Line → Type 0
 IsLine version (Begin thread call) = (thread < 2 ^ 32) × ((key_of call).0 < 2 ^ 32) × HasCall version call
 IsLine version (Go thread steps) = (thread < 2 ^ 32) × (1 ≤ steps) × (steps ≤ MOST_STEPS)
 
--- what has a text that is read
+-- The schedule has a text that can be read.
 pub record IsSchedule (p : Plan) : Type 0 where
   pub opens : Opens (opening_in p)
   pub opening : HasOpening p.version p.opening
   pub lines : AllByRecursion (IsLine p.version) p.lines
   pub few : sum_by event_count p.lines ≤ MOST_EVENTS
 
--- ---- what its version has words for
+-- ---- the calls of its version
 
 abbrev pub HasCallOfLine : Version → Line → Type 0
 HasCallOfLine version (Begin thread call) = HasCall version call
 HasCallOfLine version (Go thread steps) = Unit {0}
 
--- what is begun has a word in the text of the plan's version
+-- Each call that the schedule begins has a name in the schedule's version.
 abbrev pub HasCallsOfVersion : Plan → Type 0
 HasCallsOfVersion p = AllByRecursion (HasCallOfLine p.version) p.lines
 
--- So all of it can be written in a text of its version. `IsSchedule` gives it (proofs/VersionLaws.antt).
+-- The schedule can be written as a text of its version. `IsSchedule` implies it (proofs/VersionLaws.antt).
 abbrev pub HasWordsOfVersion : Plan → Type 0
 HasWordsOfVersion p = HasOpening p.version p.opening × HasCallsOfVersion p

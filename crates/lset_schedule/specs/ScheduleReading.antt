@@ -1,4 +1,4 @@
--- The schedule of a text, or its first fault: line by line, and in each line in the order of the checks.
+-- The schedule of a text, or its first error: line by line, and in each line in the order of the checks.
 use Rattle.std.specs.Prelude.{◌≡◌, ◌≢◌, ℕ, ◌+◌, ◌<◌, ◌≤◌, nat_lt, List, [], ◌∷◌, ◌++◌, length, map, codes, Result, Ok, Err}
 use Rattle.std.specs.Prelude.{if◌then◌else◌, ◌⊎◌}
 use Rattle.std.specs.List.{sum_by}
@@ -25,14 +25,14 @@ use Rattle.lset_schedule.specs.declared.value.Line.TheVariants.{Begin, Go}
 use Rattle.lset_schedule.specs.declared.body.Body.{Body as TextBody}
 use Rattle.lset_schedule.specs.Plan.{Plan, planned, IsSchedule, title, schedule_text, event_count}
 
--- ---- WHAT COMES AFTER A HEADER: opening keys, and then lines of events
+-- ---- the lines after a header: opening keys, then lines of events
 
--- the kinds of lines of events that a text may have, and for how many events each of them counts
+-- The kinds of lines of events in a text, and the number of events that each line counts as.
 pub record EventLines (L : Type 0) : Type 0 where
   pub kinds : List (LineKind L)
   pub count : L → ℕ
 
--- what a file has
+-- The contents of a file.
 pub record BodyValue (L : Type 0) : Type 0 where
   pub header : Header
   pub keys : List ℕ
@@ -41,7 +41,7 @@ pub record BodyValue (L : Type 0) : Type 0 where
 abbrev pub no_lines : {L : Type 0} → Header → BodyValue L
 no_lines h = record { header = h; keys = []; lines = [] }
 
--- what one line has
+-- The contents of one line.
 pub data Item (L : Type 0) : Type 0 where
   opens : ℕ → Item L
   event : L → Item L
@@ -49,13 +49,14 @@ pub data Item (L : Type 0) : Type 0 where
 abbrev pub opening_kind : {L : Type 0} → LineKind (Item L)
 opening_kind = (opening_form, λ t. opens t.1.0)
 
--- THE KINDS THAT MAY COME: an opening key only in the second version, and if no line of an event is above
+-- The kinds of lines that can come next. An opening key can come only in version 2, before all lines of events.
 abbrev pub kinds_after : {L : Type 0} → EventLines L → Version → List L → List (LineKind (Item L))
 kinds_after text One ls = map (kind_as event) text.kinds
 kinds_after text Two [] = opening_kind ∷ map (kind_as event) text.kinds
 kinds_after text Two (l ∷ ls) = map (kind_as event) text.kinds
 
--- an opening key lies above the one before, and there is room for it, as for the events of a line
+-- The contents with one more line. An opening key must be above the one before it, and neither keys nor events can exceed their
+-- limit.
 abbrev pub with_item : {L : Type 0} → EventLines L → BodyValue L → Item L → Result (BodyValue L) Cause
 with_item text s (opens k) =
     if nat_lt (length s.keys) MOST_OPENING then (if is_above s.keys k then Ok (record s { keys = s.keys ++ k ∷ [] }) else Err Opening)
@@ -70,7 +71,7 @@ with_line text version s line = line_in version Event (kinds_after text version 
 abbrev pub grammar : {L : Type 0} → EventLines L → Version → Grammar (BodyValue L)
 grammar text version = record { step = with_line text version; ends = Ok }
 
--- THE TEXTS of a version with this title
+-- The grammar of the files of a version with this title.
 abbrev pub texts : {L : Type 0} → EventLines L → Version → List ℕ → TextGrammar (BodyValue L)
 texts text version title = record { title = title; start = no_lines; lines = grammar text version }
 
@@ -88,12 +89,12 @@ events = record { kinds = begin_kind ∷ go_kind ∷ []; count = event_count }
 abbrev pub schedules : Version → TextGrammar (BodyValue Line)
 schedules version = texts events version (title version)
 
--- the schedule of a text's parts, read as a text of this version
+-- The schedule of a text's parts, read as a text of this version.
 abbrev pub plan_in : Version → List (List ℕ) → Result Plan LineFault
 plan_in version parts = text_from (schedules version) parts >>= λ told. Ok (planned version told.header told.keys told.lines)
 
--- The first line alone decides the version: it is the second if that line is the title of the second, else the first.
--- A text that is that title without a newline is of the second, and its line is refused as it would be by either.
+-- The first line alone decides the version: version 2 if the line is the title of version 2, else version 1. A text that is this
+-- title without a newline has version 2; the line is refused as it would be in version 1.
 abbrev pub version_told : List (List ℕ) → Version
 version_told parts = version_in (title Two) parts
 
@@ -103,34 +104,35 @@ plan_of parts = plan_in (version_told parts) parts
 abbrev pub reading : List ℕ → Result Plan LineFault
 reading bytes = plan_of (cut_at 10 bytes)
 
--- what is read is the text of a schedule, and the text of each schedule is read
+-- Each text that is read is the text of its schedule, and the text of each schedule is read.
 abbrev pub SchedulesReadBack : Type 0
 SchedulesReadBack = (p : Plan) (bytes : List ℕ)
     → (IsSchedule p → reading (schedule_text p) ≡ Ok p)
     × (reading bytes ≡ Ok p → IsSchedule p × (bytes ≡ schedule_text p))
 
--- what a function returned, seen by `view`, is what reading gives, unless memory ran out
+-- The function returned the value of reading, mapped by `view`, unless an allocation failed.
 abbrev pub Gives : {X Y : Type 0} → (X → Y) → Result X LineFault → Result Y LineFault → Type 0
 Gives view (Ok x) read = read ≡ Ok (view x)
 Gives view (Err e) read = e.cause ≢ Memory → read ≡ Err e
 
--- a whole line after the header with no fault in it or above it, of a text that is read so
+-- A whole line after the header, without an error in it or above it, of a text with this result.
 abbrev pub IsGoodAfterHeader : {X : Type 0} → List ℕ → Result X LineFault → ℕ → Type 0
 IsGoodAfterHeader bytes read line = (last_of_header < line) × lines.IsGoodLine 1 (cut_at 10 bytes) read line
 
 abbrev pub IsGoodLine : List ℕ → ℕ → Type 0
 IsGoodLine bytes line = IsGoodAfterHeader bytes (reading bytes) line
 
--- ---- what a reader holds
+-- ---- the state of a reader
 
 abbrev pub told : {L : Type 0} → TextBody L → BodyValue L
 told t = record { header = t.header; keys = t.opening.items; lines = t.lines.items }
 
--- it knows how many events its lines count for
+-- The reader knows how many events its lines count as.
 abbrev pub Counts : {L : Type 0} → EventLines L → TextBody L → Type 0
 Counts text t = (t.total ≡ sum_by text.count t.lines.items) × (t.total ≤ MOST_EVENTS)
 
--- with this line it took what the grammar makes of it, or said what is wrong, or an allocation for a good line failed
+-- The reader made the change for this line that the grammar states, or returned the grammar's error, or an allocation for a good
+-- line failed.
 abbrev pub Takes : {L X : Type 0} → Result (BodyValue L) Cause → BodyValue L → Result X Cause → Type 0
 Takes next now (Ok x) = next ≡ Ok now
 Takes {L = L} next now (Err cause) = (next ≡ Err cause) ⊎ ((cause ≡ Memory) × (s : BodyValue L) × (next ≡ Ok s))

@@ -31,20 +31,20 @@ use std::alloc::Global;
 
 /// A line of events of a schedule or a draft.
 pub trait EventLine: Copy {
-    /// Its kinds, and for how many events a line of each counts.
+    /// The kinds of lines of events, and the number of events that a line counts as.
     ghost lines: { EventLines Self };
 
-    /// Reads a line of a file of this version, without its newline. `Event` if the line does not have the fields and names
-    /// of a line of events, `Number` if a number is none or outside its limits.
+    /// Reads a line of a file of this version, given without its newline. Fails with `Event` if the line does not have the fields
+    /// of a line of events, and with `Number` if a field that must be a number is not one or is out of range.
     fn read(version: Version, line: &[u8]) -> Result<Self, Cause>
         ensures { result ≡ line_in version Cause.Event lines.kinds line.now };
 
-    /// Returns how many events the line counts as.
+    /// Returns the number of events that the line counts as.
     fn count(self) -> u32
         ensures { result ≡ lines.count self };
 }
 
-/// What a schedule or draft has: its header, opening keys, and then lines of events.
+/// The contents of a schedule or draft: its header, its opening keys, and its lines of events.
 #[derive(Drop)]
 pub struct Body<L> {
     pub header: Header,
@@ -53,7 +53,7 @@ pub struct Body<L> {
     total: u32,
 }
 
-/// The piece of the key in a line that has the form of one of an opening key.
+/// Returns the field with the key, if a line has the form `opening K`.
 fn opening_piece(line: &[u8]) -> Option<&[u8]>
     ensures { MatchOption result (have_form Version.Two opening_form (cut_at 32 line.now) ≡ false)
         (λ key. cut_at 32 line.now ≡ codes "opening" ∷ key.now ∷ []) }
@@ -81,7 +81,7 @@ impl<L: EventLine> Body<L> {
         }
     }
 
-    /// The field of the key in a line, if the line may be one of an opening key and has its form.
+    /// Returns the field with the key, if the line has the form `opening K` and an opening key can come there.
     fn key_due<'a>(&self, version: Version, line: &'a [u8]) -> Option<&'a [u8]>
         ensures { MatchOption result
             (line_in version Cause.Event (kinds_after L.lines version self.now.lines.items) line.now
@@ -143,7 +143,7 @@ impl<L: EventLine> Body<L> {
     }
 }
 
-/// What a file of this version has in the lines after this header.
+/// Reads the lines after the header of a file of this version.
 fn read_body<L: EventLine>(
     alloc: Global,
     version: Version,
@@ -170,7 +170,7 @@ fn read_body<L: EventLine>(
     Ok(body)
 }
 
-/// Reads a file of this version with this title. Returns what it has, or its first error. Allocates.
+/// Reads a file of this version with this title. Returns its contents, or its first error. Allocates.
 #[tactic(auto, unfolding(lset_text::specs::Texts::text_from))]
 pub fn read_text<L: EventLine>(
     alloc: Global,

@@ -11,7 +11,7 @@ use rand_core::{Rng, SeedableRng};
 use rand_pcg::Pcg32;
 use std::alloc::{AllocError, Global};
 
-/// The call that two draws choose: `a` the kind of call, `b` its key, below `keys`.
+/// Returns the call that two draws choose: `a` its kind, `b` its key, below `keys`.
 #[tactic(auto, unfolding(crate::specs::Draws::chosen))]
 fn chosen(keys: u32, a: u32, b: u32) -> Call
     requires { 0 < keys }
@@ -27,7 +27,7 @@ fn chosen(keys: u32, a: u32, b: u32) -> Call
     }
 }
 
-/// The next call that a generator draws.
+/// Draws the next call from a generator.
 #[tactic(auto, unfolding(crate::specs::Draws::drawn_call))]
 pub(crate) fn draw_call<R: Rng>(keys: u32, rng: &mut R) -> Call
     requires { 0 < keys }
@@ -40,7 +40,7 @@ pub(crate) fn draw_call<R: Rng>(keys: u32, rng: &mut R) -> Call
     chosen(keys, a, b)
 }
 
-/// The next calls that a generator draws.
+/// Draws the next `calls` calls from a generator.
 fn draw_calls<R: Rng>(
     alloc: Global,
     calls: u32,
@@ -72,8 +72,8 @@ fn program(
     draw_calls(alloc, calls, keys, &mut rng)
 }
 
-/// Returns the layout of a set that opens empty, of which calls with keys below `keys` are drawn; or why there is none, as
-/// `generate` and `programs` do.
+/// Returns the layout of a set that opens empty, for calls with keys below `keys`. Fails with the error that `generate` and
+/// `programs` return for these arguments.
 pub(crate) fn layout_to_draw(threads: u32, quota: u32, keys: u32) -> Result<Layout, GenFault>
     ensures sizes { IfOk result (λ l. l ≡ record { threads = threads; quota = quota; opening = 0 }) }
     ensures accepted { IfOk result (λ _. IsAccepted threads quota keys) }
@@ -88,14 +88,14 @@ pub(crate) fn layout_to_draw(threads: u32, quota: u32, keys: u32) -> Result<Layo
     }
 }
 
-/// Draws a program of `calls` calls for each of `threads` threads, 1 to 64; the same arguments give the same programs. Each
-/// thread has a generator, seeded by the wrapping sum of `seed` and the thread. Each call draws two numbers from it, which
-/// choose the kind of the call and its key, below `keys`. Allocates.
+/// Draws a program of `calls` calls for each of `threads` threads, 1 to 64. The same arguments give the same programs. Each
+/// thread has its own generator, seeded by the wrapping sum of `seed` and the thread's number. Two draws choose each call: its
+/// kind, and its key below `keys`. Allocates.
 ///
 /// # Errors
 ///
-/// The first that applies: `Threads` if `threads` is outside its limits, `Keys` if `keys` is 0, `Memory` if an allocation
-/// fails. It never returns `Quota`.
+/// Returns the first error that applies: `Threads` if `threads` is out of range, `Keys` if `keys` is 0, `Memory` if an allocation
+/// fails. Never returns `Quota`.
 pub fn programs(
     alloc: Global,
     threads: u32,

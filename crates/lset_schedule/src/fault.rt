@@ -5,10 +5,10 @@ use lset_words::{MOST_QUOTA, MOST_THREADS};
 use std::alloc::{AllocError, AllocFailed};
 use thiserror::Error;
 
-/// Why `generate` or `programs` refuses its arguments: the first of these that applies.
+/// The error of `generate` or `programs`: the first of these that applies.
 #[derive(Clone, Copy, Debug, PartialEq, Eq, Error)]
 pub enum GenFault {
-    /// The threads are none, or more than 64.
+    /// There are no threads, or more than 64.
     #[error("threads outside 1 to {MOST_THREADS}")]
     Threads,
     /// The quota is above 16,384.
@@ -17,7 +17,7 @@ pub enum GenFault {
     /// There are no keys to choose from.
     #[error("no keys")]
     Keys,
-    /// There was no memory for it.
+    /// An allocation failed.
     #[error("out of memory")]
     Memory,
 }

@@ -16,7 +16,7 @@ use rand_core::{Rng, SeedableRng};
 use rand_pcg::Pcg32;
 use std::alloc::{AllocError, Global};
 
-/// The line of one event.
+/// Returns the line of one event.
 fn line_of(event: Event) -> Line
     ensures { result ≡ line_of_event event }
 {
@@ -26,7 +26,7 @@ fn line_of(event: Event) -> Line
     }
 }
 
-/// How many of `left` calls are left after an event.
+/// Returns how many of `left` calls remain after an event.
 fn left_by(left: u32, event: Event) -> u32
     ensures { result ≡ left_after left event }
 {
@@ -36,7 +36,7 @@ fn left_by(left: u32, event: Event) -> u32
     }
 }
 
-/// Whether one of the threads has an open call.
+/// Returns whether a thread has a pending call.
 fn has_open_call<M: Machine>(world: &World<M>, threads: u32) -> bool
     requires { world.now.sizes.threads ≡ threads }
     ensures { IsTrue result ↔ ((t : ℕ) × (t < threads) × HasOpenCall world.now.state t) }
@@ -49,7 +49,7 @@ fn has_open_call<M: Machine>(world: &World<M>, threads: u32) -> bool
     false
 }
 
-/// Whether no turn follows after so many events, with `left` calls left.
+/// Returns whether the turns have ended after this many events, with `left` calls remaining.
 fn is_over<M: Machine>(world: &World<M>, threads: u32, events: usize, left: u32) -> bool
     requires threads { world.now.sizes.threads ≡ threads }
     requires locals { length world.now.state.locals ≡ threads }
@@ -61,7 +61,7 @@ fn is_over<M: Machine>(world: &World<M>, threads: u32, events: usize, left: u32)
     left == 0 && !has_open_call(world, threads)
 }
 
-/// The event of a thread's turn, if `left` calls are left to begin.
+/// Returns the event of a thread's turn, if `left` calls remain to begin. `None` if the turn makes no event.
 fn next_event<M: Machine, R: Rng>(
     world: &World<M>,
     thread: u32,
@@ -92,7 +92,7 @@ fn make<M: Machine>(world: &mut World<M>, event: Event)
     let _told = world.step(event).unwrap();
 }
 
-/// The lines of at most 100,000 turns.
+/// Returns the lines of at most 100,000 turns.
 fn generated_lines<M: Machine, R: Rng>(
     alloc: Global,
     layout: Layout,
@@ -125,18 +125,18 @@ fn generated_lines<M: Machine, R: Rng>(
     Ok(lines)
 }
 
-/// Draws a random schedule of at most 10,000 events, one a line; the same arguments give the same schedule. It has the
-/// machine's kind and version 1, and `replay` refuses none of its events.
+/// Draws a random schedule of at most 10,000 events, one on each line. The same arguments give the same schedule. It has the
+/// machine's kind and version 1, and `replay` accepts each of its events.
 ///
-/// `threads` must be 1 to 64, `quota` 0 to 16,384, `keys` at least 1. All draws come from one generator, seeded by `seed`.
-/// In each of at most 100,000 turns a draw chooses a thread. If it has a pending call, it makes a step; else, while fewer
-/// than `calls` calls have begun, two draws choose the kind of its call and its key, below `keys`. The turns end when no
-/// call is pending and none remains. Allocates.
+/// `threads` must be 1 to 64, `quota` 0 to 16,384, and `keys` at least 1. All draws come from one generator, seeded by `seed`.
+/// There are at most 100,000 turns. In each turn a draw chooses a thread. If the thread has a pending call, it makes a step.
+/// Otherwise, if fewer than `calls` calls have begun, two draws choose the kind of its next call and its key, below `keys`. The
+/// turns end when no call is pending and none remains to begin. Allocates.
 ///
 /// # Errors
 ///
-/// The first that applies: `Threads` or `Quota` if that is outside its limits, `Keys` if `keys` is 0. `Memory` if an
-/// allocation fails.
+/// Returns the first error that applies: `Threads` or `Quota` if that argument is out of range, `Keys` if `keys` is 0, `Memory`
+/// if an allocation fails.
 pub fn generate<M: Machine>(
     alloc: Global,
     threads: u32,

@@ -1,5 +1,5 @@
-//! Schedules, which say which thread begins which call and which thread makes its next steps, and their text: read, written
-//! and drawn at random.
+//! Schedules, which state in turn which thread begins which call and which thread makes steps; and their text: reading, writing
+//! and drawing schedules at random.
 #![tactic(auto)]
 
 mod body;
@@ -19,13 +19,13 @@ pub use reading::{read_schedule, schedules_read_back};
 pub use value::{Line, Schedule};
 pub use writing::write_schedule;
 
-/// The first line of a schedule's text, in the first version: it has the calls `add`, `remove`, `contains`.
+/// The first line of a schedule of version 1, with the calls `add`, `remove` and `contains`.
 const TITLE_ONE: &str = "listset-schedule 1";
 
-/// The first line of a schedule's text, in the second version: it has the call `ceiling` too.
+/// The first line of a schedule of version 2, which has the call `ceiling`, too.
 const TITLE_TWO: &str = "listset-schedule 2";
 
-/// The first line after the header of a schedule, counted from 1.
+/// The number of the first line after the header of a schedule, counted from 1.
 pub const FIRST_LINE: u64 = 5;
 
 /// The maximum number of events of a schedule, with the steps of a `go` line counted one by one.

@@ -77,7 +77,7 @@ impl EventLine for Line {
     }
 }
 
-/// The version that line 1 states.
+/// Returns the version that line 1 states.
 fn told_version(bytes: &[u8]) -> Version
     ensures { result ≡ version_told (cut_at 10 bytes.now) }
 {
@@ -93,32 +93,32 @@ fn schedule(alloc: Global, bytes: &[u8]) -> Result<Schedule, ScheduleFault>
     Ok(Schedule::of_header(version, body.header, body.opening, body.lines))
 }
 
-/// Reads a schedule, of either version, from its bytes. Allocates.
+/// Reads a schedule of either version from its bytes. Allocates.
 ///
 /// Line 1 decides the version. A schedule of version 1 has no `ceiling` and no opening keys.
 ///
 /// As in `crates/first_program`:
 ///
-///     let schedule = read_schedule(alloc, text.as_bytes())?;
-///     Ok(replay(alloc, &schedule)?)
+///    let schedule = read_schedule(alloc, text.as_bytes())?;
+///    Ok(replay(alloc, &schedule)?)
 ///
 /// # Errors
 ///
-/// The first line that is wrong, and the first check that it fails. `NotEnded`, if the line has bytes and no newline, comes before
-/// all others; they come in the order of `Cause`. If a header line is due and no byte is left, it is the error
-/// of that line. Lines that only version 2 has are `Event` in version 1, as is an opening key below an event. `Number` if a
-/// thread or a key is no number up to 4294967295, or the steps are none from 1 to 10000. `TooMany` if there are more than
-/// 1,000,000 events or 1,048,576 opening keys. `Memory` if an allocation fails; the line then has no other error.
+/// Returns the first wrong line with its error. A line that has bytes and no newline has the cause `NotEnded`; otherwise the
+/// first cause in the order of `Cause` applies. A missing header line has the cause of that line. Lines that only version 2 has
+/// are `Event` in version 1, and so is an opening key below an event in either version. `Number` if a thread or a key is not a
+/// number up to 4294967295, or the steps are not from 1 to 10000. `TooMany` if there are more than 1,000,000 events or 1,048,576
+/// opening keys. `Memory` if an allocation fails; the line then has no other error.
 #[tactic(auto, using(crate::proofs::TextLaws::found_in, crate::proofs::TextLaws::only_in))]
 pub fn read_schedule(alloc: Global, bytes: &[u8]) -> Result<Schedule, ScheduleFault>
-    // What is read is a schedule, and the bytes are its text.
+    // The value that is returned is a schedule, and the bytes are its text.
     ensures found { IfOk result (λ s. IsSchedule (view s) × (bytes.now ≡ schedule_text (view s))) }
-    // The text of a schedule is read, unless memory runs out.
+    // The text of a schedule is read, unless an allocation fails.
     ensures only { (p : Plan) → IsSchedule p → bytes.now ≡ schedule_text p
         → MatchResult result (λ s. view s ≡ p) (λ e. e.cause ≡ Cause.Memory) }
-    // Which fault it is.
+    // Exactly which value or error is returned.
     ensures exact { Gives view result (reading bytes.now) }
-    // `Memory` is returned with a line after the header, if neither it nor a line above has another error.
+    // `Memory` is returned with a line after the header. Neither this line nor a line above it has another error.
     ensures memory { IfErr result (λ e. e.cause ≡ Cause.Memory → IsGoodLine bytes.now e.line) }
 {
     schedule(alloc, bytes)

@@ -5,7 +5,7 @@ use crate::{FIRST_LINE, TITLE_ONE, TITLE_TWO};
 use lset_text::{Header, Version};
 use lset_words::{Call, Kind};
 
-/// A line of a schedule. `Begin(thread, call)`: the thread begins the call. `Go(thread, steps)`: the thread makes that many
+/// A line of a schedule. `Begin(thread, call)`: the thread begins the call. `Go(thread, steps)`: the thread makes this many
 /// steps, 1 to 10,000. Any call is allowed here; `write_schedule` requires that the schedule's version has it.
 #[derive(Clone, Copy, Debug, PartialEq, Eq)]
 pub enum Line {
@@ -14,7 +14,7 @@ pub enum Line {
 }
 
 impl Line {
-    /// Returns how many events the line counts as: 1, or the steps of a `Go`.
+    /// Returns the number of events that the line counts as: 1, or the steps of a `Go`.
     pub fn event_count(self) -> u32
         ensures { result ≡ event_count self }
     {
@@ -25,7 +25,7 @@ impl Line {
     }
 }
 
-/// The first line of the text of a schedule of this version.
+/// Returns the first line of a schedule of this version.
 pub(crate) fn title(version: Version) -> &'static str
     ensures { result.now ≡ title version }
 {
@@ -35,10 +35,10 @@ pub(crate) fn title(version: Version) -> &'static str
     }
 }
 
-/// A schedule of at most 1,000,000 events: the version of its format, the kind of list, its threads, 1 to 64, the quota of
-/// each, 0 to 16,384, the keys with which its set opens, at most 1,048,576 and in strictly increasing order, and its lines.
-/// The thread of a line may be any `u32`. A schedule of version 1 that is to be written must have no opening keys and begin
-/// no `ceiling`, for which that version has no lines.
+/// A schedule of at most 1,000,000 events: the version of its format; the kind of list; the number of threads, 1 to 64; the quota
+/// of each thread, 0 to 16,384; the opening keys, at most 1,048,576 and in strictly increasing order; and its lines. The thread
+/// of a line can be any `u32`. To be written, a schedule of version 1 must have no opening keys and begin no `ceiling`: that
+/// version has no lines for them.
 #[derive(Debug, Drop)]
 pub struct Schedule {
     pub version: Version,
@@ -50,7 +50,7 @@ pub struct Schedule {
 }
 
 impl Schedule {
-    /// The schedule of this version with this header, these opening keys and these lines.
+    /// Returns the schedule of this version with this header, these opening keys and these lines.
     pub(crate) fn of_header(
         version: Version,
         header: Header,
@@ -69,8 +69,8 @@ impl Schedule {
         }
     }
 
-    /// Returns the number of the line of the first event in the schedule's text, counted from 1: the lines of the header and
-    /// of the opening keys come before it. If there are no events, it is the line that one would have.
+    /// Returns the line number of the first event in the schedule's text, counted from 1. The lines of the header and of the
+    /// opening keys come before it. Without events, returns the number that the line of a first event would have.
     pub fn first_event_line(&self) -> u64
         ensures { result ≡ first_event_line (view self.now) }
     {

@@ -1,4 +1,4 @@
--- Each move keeps the balance.
+-- Proof: each move keeps the balance.
 use Rattle.std.proofs.Common.{◌≡◌, ◌≢◌, ℕ, zero, suc, ◌+◌, ◌-◌, ◌<◌, ◌≤◌, List, [], ◌∷◌, ◌++◌, set, sym, refl, ap, ◌∙◌, subst}
 use Rattle.std.proofs.Common.{⊎_elim, arith}
 use Rattle.std.proofs.lemmas.List.{append-nil}
@@ -19,7 +19,7 @@ pub weigh-append : (h : ℕ → ℕ) (xs ys : List ℕ) → weigh h (xs ++ ys) �
 weigh-append h [] ys = omega arith
 weigh-append h (x ∷ xs) ys = omega (arith, weigh-append h xs ys)
 
--- the total after a change of one pass
+-- The total after one pass has changed.
 total_set : (f : Tally → ℕ) (views : List Tally) (port : ℕ) (v w : Tally) → get_elem? views port ≡ some v →
     total f (set views port w) + f v ≡ total f views + f w
 total_set f [] port v w at = absurd (some-ne-none v (sym at))
@@ -108,7 +108,7 @@ merges port v other u some_part items views b at two at' =
           b.2),
     )
 
--- where f is 0 of each pass with no part, and one pass has all parts, the total is f of that pass
+-- If f is 0 for each pass without parts, and one pass has all parts, the total is f of that pass.
 no_parts : (f : Tally → ℕ) (views : List Tally) → ((j : ℕ) (u : Tally) → get_elem? views j ≡ some u → u.parts ≡ 0 → f u ≡ 0) →
     total (λ u. u.parts) views ≡ 0 → total f views ≡ 0
 no_parts f [] h none = refl

@@ -1,4 +1,4 @@
--- What workers give back, added up.
+-- Laws of the sums over the results of the workers.
 use Rattle.std.proofs.Common.{◌≡◌, ◌≢◌, ℕ, zero, suc, ◌+◌, ◌-◌, ◌*◌, ◌<◌, ◌≤◌, eqb, List, [], ◌∷◌, ◌++◌, length, map, sum_by, Option, None}
 use Rattle.std.proofs.Common.{refl, sym, ap, ◌∙◌, subst, append_assoc, append-nil, arith, length-append, true, false, ⊎_elim}
 use Rattle.std.proofs.lemmas.Bool.{ne_eqb, eq-eqb}
@@ -20,7 +20,7 @@ use Rattle.lset_server.proofs.BalanceKept.{weigh-append}
 
 -- ---- one worker
 
--- one session more
+-- One more session.
 pub worked_more : (s s1 s2 : SeatValue) (v v' : Tally) (n m k number : ℕ) → HasWorked s s1 v n m
     → v' ≡ tally v.parts v.sent (v.received ++ number ∷ []) → s2.held ≡ s1.held
     → ((added : List CallMade) × (s2.past ≡ with_calls s1.past added) × (k ≡ length added)) → HasWorked s s2 v' (n + 1) (m + k)
@@ -40,7 +40,7 @@ length-numbers : (n : ℕ) → length (numbers_below n) ≡ n
 length-numbers zero = refl
 length-numbers (suc n) = omega (arith, length-append (numbers_below n) (n ∷ []), length-numbers n)
 
--- one part more was cut off
+-- One more part was split off.
 pub part_more : (v u u' : Tally) (n m : ℕ) → u ≡ tally (v.parts - n) v.sent v.received →
     u' ≡ tally (u.parts - 1) u.sent u.received → m ≡ n + 1
     → u' ≡ tally (v.parts - m) v.sent v.received
@@ -48,7 +48,7 @@ part_more v u u' n m e f more =
     let parts : (v.parts - n) - 1 ≡ v.parts - m = omega (arith, more) in
     f ∙ ap (λ (x : Tally). tally (x.parts - 1) x.sent x.received) e ∙ ap (λ p. tally p v.sent v.received) parts
 
--- ---- the workers start and come back
+-- ---- the workers start and are joined
 
 followed_more : (rs : List Record) (css : List (List CallMade)) (r : Record) (cs : List CallMade) → length css ≡ length rs
     → followed (rs ++ r ∷ []) (css ++ cs ∷ []) ≡ followed rs css ++ with_calls r cs ∷ []
@@ -136,7 +136,7 @@ bound_next' s d most n n' total h e small =
 pub as_many : {H T : Type 0} (seat_of : H → T) (hs : List H) (ss : List T) → map seat_of hs ≡ ss → length hs ≡ length ss
 as_many seat_of hs ss e = sym (length-map hs seat_of) ∙ ap (λ l. length l) e
 
--- the pass of the sender has all parts again, and has sent the numbers of all connections
+-- The sender's pass has all parts again, and has sent the numbers of all connections.
 pub whole_again : (n many : ℕ) (v u x y : Tally) (received : List ℕ) (k : ℕ) → v ≡ tally PARTS [] [] → n ≤ MOST_THREADS →
     u ≡ tally (v.parts - n) v.sent v.received
     → x ≡ tally u.parts (u.sent ++ numbers_below many) u.received → k ≡ n →
@@ -149,7 +149,7 @@ whole_again n many v u x y received k a few b c e f =
     f ∙ ap (λ (z : Tally). tally (z.parts + k) z.sent (z.received ++ received)) xv
     ∙ ap (λ p. tally p (numbers_below many) received) (omega (arith, few, e))
 
--- the weight of each number 1 is the length
+-- If each number weighs 1, the weight of a list is its length.
 weigh-one : (xs : List ℕ) → weigh (λ _. 1) xs ≡ length xs
 weigh-one [] = refl
 weigh-one (x ∷ xs) = omega (arith, weigh-one xs)
@@ -187,7 +187,7 @@ times-below (suc n) m lt =
     below : (n ≢ m) → m < n
     below other = omega (arith, lt, other)
 
--- as many were received as were sent, so none is left
+-- As many connections were received as were sent. Therefore each was received once, and none is left in the queue.
 pub received_once : (n : ℕ) (v : Tally) (received left : List ℕ) → v ≡ tally PARTS (numbers_below n) received →
     n ≡ length received
     → ((h : ℕ → ℕ) → weigh h v.sent ≡ weigh h v.received + weigh h left) → ReceivedOnce n v

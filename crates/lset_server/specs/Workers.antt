@@ -1,4 +1,4 @@
--- What the workers of a server give back.
+-- The results of the workers of a server.
 use Rattle.std.specs.Prelude.{◌≡◌, ℕ, ◌+◌, List, [], ◌++◌, length, sum_by, Option, None}
 use Rattle.lset_words.specs.Records.{Record, CallMade, with_calls}
 use Rattle.lset_live.specs.Seats.{SeatValue, gather_onto}
@@ -6,7 +6,7 @@ use Rattle.lset_server.specs.declared.channel.Tally.{Tally}
 use Rattle.lset_server.specs.Serving.{followed}
 use Rattle.lset_server.specs.Tallies.{tally}
 
--- A worker received so many connections by its pass, and made so many calls on its seat.
+-- A worker received this many connections with its pass, and made this many calls on its seat.
 pub record HasWorked (s s' : SeatValue) (v : Tally) (sessions calls : ℕ) : Type 0 where
   pub received : List ℕ
   pub view : v ≡ tally 1 [] received
@@ -16,7 +16,8 @@ pub record HasWorked (s s' : SeatValue) (v : Tally) (sessions calls : ℕ) : Typ
   pub count : calls ≡ length added
   pub held : s'.held ≡ s.held
 
--- The passes of so many workers are joined to the sender's, their seats are gathered, and what they did is added up.
+-- The passes of this many workers are joined to the sender's pass, their seats are gathered, and their sessions and calls are
+-- summed.
 pub record HaveWorked (starts : List Record) (end : Option Record) (v v' : Tally) (workers sessions calls : ℕ) : Type 0 where
   pub added : List (List CallMade)
   pub each : length added ≡ length starts

@@ -1,4 +1,4 @@
-//! The channel through which connections are passed to the workers, under a rule.
+//! The channel that passes connections to the workers, under a rule.
 ghost use Rattle.std.specs.Prelude.{◌≡◌, ◌<◌, ◌++◌, [], ℕ, List, MatchResult, ⊤, ◌-◌, ◌+◌};
 ghost use Rattle.crossbeam_channel.specs.Claims.{view, IsSeatAt};
 ghost use Rattle.crossbeam_channel.specs.Ends.{sends_on, receives_on};
@@ -11,33 +11,33 @@ use std::alloc::Global;
 use std::collections::LinkedList;
 use std::sync::Wait;
 
-/// The parts of the right to know the whole channel: one for each worker, of which there are no more than threads of a set,
-/// and one for the sender.
+/// The number of parts of the knowledge of the whole channel: one for each worker and one for the sender. There are at most as
+/// many workers as threads of a set.
 pub(crate) const PARTS: u64 = MOST_THREADS as u64 + 1;
 
-/// A connection, under the number at which it was accepted, counted from 0.
+/// A connection and its number, counted from 0 in the order of acceptance.
 #[derive(Drop)]
 pub(crate) struct Connection<S> {
     pub number: u64,
     pub stream: S,
 }
 
-/// What goes through the channel: a connection, or the word that no more come.
+/// A message in the channel: a connection, or that no more connections come.
 #[derive(Drop)]
 pub(crate) enum Message<S> {
     Connection(Connection<S>),
     Close,
 }
 
-/// What contracts see of a pass: the numbers of the connections that were sent and received by it, and how many parts of
-/// the right to know the whole it has. No value of it is made.
+/// The part of a pass that contracts see: the numbers of the connections that were sent and received with it, and how many parts
+/// of the knowledge of the whole channel it has. A running program has no value of this type.
 pub(crate) struct Tally {
     pub parts: u64,
     pub sent: LinkedList<u64>,
     pub received: LinkedList<u64>,
 }
 
-/// The rule of the channel: what was sent was received or stands in the queue.
+/// The rule of the channel: each connection that was sent was received or is in the queue.
 pub(crate) struct NothingLost;
 
 impl<S> Protocol<Message<S>, Tally> for NothingLost {
@@ -50,7 +50,7 @@ impl<S> Protocol<Message<S>, Tally> for NothingLost {
     ghost first = { tally PARTS [] [] };
 }
 
-/// A part is cut off a pass, or a pass is joined to another.
+/// Splits a part off a pass, or joins a pass to another.
 pub(crate) struct Parting;
 
 impl Split<Tally> for Parting {
@@ -71,7 +71,7 @@ impl Join<Tally> for Parting {
     ghost spent = { tally 0 [] [] };
 }
 
-/// A message is sent.
+/// Sends a message.
 pub(crate) struct Sending;
 
 impl<S> Outcome<Message<S>, Tally> for Sending {
@@ -82,7 +82,7 @@ impl<S> Lesson<Message<S>, Tally> for Sending {
     ghost fact = { λ v items. ⊤ };
 }
 
-/// A message is received.
+/// Receives a message.
 pub(crate) struct Receiving;
 
 impl<S> Outcome<Message<S>, Tally> for Receiving {
@@ -93,7 +93,7 @@ impl<S> Lesson<Message<S>, Tally> for Receiving {
     ghost fact = { λ v items. ⊤ };
 }
 
-/// What the pass with all parts knows of the queue.
+/// The knowledge of the queue that the pass with all parts has.
 pub(crate) struct Balanced;
 
 impl<S> Lesson<Message<S>, Tally> for Balanced {
@@ -107,10 +107,10 @@ pub(crate) type Sender<S> = RuledSender<Message<S>, Tally, NothingLost>;
 
 pub(crate) type Receiver<S> = RuledReceiver<Message<S>, Tally, NothingLost>;
 
-/// A token of no bytes that lets its holder send, or receive.
+/// A token of no bytes. Its holder can send or receive.
 pub(crate) type Token<S> = Pass<Message<S>, Tally>;
 
-/// Sends a message, and waits while the channel is full.
+/// Sends a message. Blocks while the channel is full.
 pub fn send<S: Drop, R: Wait>(
     rt: &R,
     to: &Sender<S>,
@@ -127,7 +127,7 @@ pub fn send<S: Drop, R: Wait>(
     to.send_as::<Sending, R>(rt, pass, message)
 }
 
-/// Waits for a message.
+/// Receives a message. Blocks until there is one.
 pub fn receive<S: Drop, R: Wait>(
     rt: &R,
     from: &Receiver<S>,
@@ -143,7 +143,7 @@ pub fn receive<S: Drop, R: Wait>(
     from.recv_as::<Receiving, R>(rt, pass)
 }
 
-/// A pass of its own for a receiver.
+/// Splits off a pass for a receiver.
 pub(crate) fn cut_part<S: Drop>(to: &Sender<S>, pass: &mut Token<S>) -> Token<S>
     requires channel { IsSeatAt (sends_on to.now) pass.old }
     requires parts { 1 < (view pass.old).parts }
@@ -154,7 +154,7 @@ pub(crate) fn cut_part<S: Drop>(to: &Sender<S>, pass: &mut Token<S>) -> Token<S>
     to.another::<Parting>(pass)
 }
 
-/// Takes a receiver's pass back.
+/// Joins a receiver's pass to this one.
 pub(crate) fn take_back<S: Drop>(to: &Sender<S>, pass: &mut Token<S>, other: Token<S>)
     requires channel { IsSeatAt (sends_on to.now) pass.old × IsSeatAt (sends_on to.now) other }
     requires part { 0 < (view pass.old).parts }
@@ -165,7 +165,7 @@ pub(crate) fn take_back<S: Drop>(to: &Sender<S>, pass: &mut Token<S>, other: Tok
     to.absorb::<Parting>(pass, other)
 }
 
-/// With all parts back: what was sent is what was received and what is left in the queue.
+/// Lemma: with all parts, the messages that were sent are those that were received and those in the queue.
 pub(crate) fn balance<S: Drop>(to: &Sender<S>, pass: &mut Token<S>)
     requires channel { IsSeatAt (sends_on to.now) pass.old }
     requires all { (view pass.old).parts ≡ PARTS }

@@ -1,6 +1,6 @@
-//! The end of a connection. The system resets a connection that is closed while bytes of its client are unread, and what the
-//! client has not got yet is lost. So where a session ends before its client's bytes do, the server says that it writes no
-//! more and reads on for a while.
+//! The end of a connection. If a connection is closed while bytes of its client are unread, the system resets it, and answers
+//! that the client has not received yet are lost. So if a session ends before its client's bytes do, the server first closes its
+//! own sending side and reads on for a while.
 ghost use Rattle.std.specs.Prelude.{◌≡◌, false};
 
 use lset_session::{Device, EndReason, Source};
@@ -9,13 +9,13 @@ use std::io::Read;
 use std::net::{Shutdown, TcpStream};
 use std::time::{Clock, Duration, Instant};
 
-/// The most bytes that are read and dropped after the last answer. (This project's own limit.)
+/// The maximum number of bytes that are read and dropped after the last answer.
 const MOST_DROPPED: usize = 1_048_576;
 
-/// The most seconds for which they are read. (This project's own limit.)
+/// The maximum time of reading and dropping bytes, in seconds.
 const MOST_SECONDS: u64 = 1;
 
-/// A connection that can be read until its time is over; from then on reads fail.
+/// A connection that can be read for a limited time. Reads fail after that time.
 #[derive(Drop)]
 struct Closing<'a, R> {
     rt: &'a R,
@@ -27,14 +27,14 @@ impl<R: Clock> Read for Closing<'_, R> {
     fn read(&mut self, buffer: &mut [u8]) -> io::Result<usize> {
         let spent = self.start.elapsed(self.rt)?;
         let left = Duration::from_secs(MOST_SECONDS).saturating_sub(spent);
-        // Where no time is left this is the error: a read may not be told to wait for no time.
+        // If no time is left, this returns an error: a read timeout of 0 is not allowed.
         self.stream.set_read_timeout(Some(left))?;
         let mut stream = self.stream;
         stream.read(buffer)
     }
 }
 
-/// Reads what is left and drops it, up to its end, to a read that fails or to `MOST_DROPPED` bytes.
+/// Reads and drops bytes until the input ends, a read fails, or `MOST_DROPPED` bytes are read.
 fn drop_rest<I: Source>(reader: &mut I)
     requires { I.has_failed reader.old ≡ false }
 {
@@ -52,10 +52,9 @@ fn drop_rest<I: Source>(reader: &mut I)
     }
 }
 
-/// Takes leave of a client whose session has ended so, before its connection is let go. Where the session has ended before
-/// the client's bytes did, it tells the client that no more answers come, and then reads on to the end of the client's bytes,
-/// for a second and 1,048,576 bytes at most, so that the system has time to hand on the answers. Where the system refuses,
-/// the connection is let go at once.
+/// Ends the exchange with a client whose session has ended for the reason `why`, before its connection is closed. If the session
+/// has ended before the client's bytes did, closes the sending side, and then reads on to the end of the client's bytes, for at
+/// most one second and 1,048,576 bytes. The system then has time to deliver the answers. Returns at once if the system refuses.
 pub(crate) fn take_leave<R: Clock>(rt: &R, stream: &TcpStream, why: EndReason) {
     match why {
         EndReason::Quit | EndReason::Long | EndReason::Limit => {}

@@ -1,4 +1,4 @@
-//! Serving the connections of a listener.
+//! Serves the connections of a listener.
 ghost use Rattle.std.specs.Prelude.{◌≡◌, ◌≢◌, ◌<◌, ◌≤◌, ◌↔◌, ◌++◌, [], All, None, Some, length, map, sum_by};
 ghost use Rattle.std.specs.Prelude.{IfErr, IfOk, IfSome, IsOk, OnOk};
 ghost use Rattle.std.specs.Option.{option_map};
@@ -23,22 +23,22 @@ use std::time::Clock;
 use std::{fmt, thread};
 use thiserror::Error;
 
-/// Why connections were not served.
+/// The cause of a `ServeFault`.
 #[derive(Clone, Copy, Debug, PartialEq, Eq, Error)]
 pub enum ServeCause {
-    /// The seats do not hold all seats of the set.
+    /// The seats do not hold all seats of the set. No connection was accepted.
     #[error("the seats do not hold all seats of the set")]
     Seats,
-    /// The system did not accept a connection.
+    /// The system failed to accept a connection.
     #[error("a connection was not accepted")]
     Accept,
-    /// The system refused a thread.
+    /// The system refused to start a thread.
     #[error("a thread was refused")]
     Spawn,
-    /// The channel gave a connection back.
+    /// The channel returned a connection.
     #[error("the channel gave a connection back")]
     Send,
-    /// Memory was refused.
+    /// An allocation failed.
     #[error("out of memory")]
     Memory,
     /// The workers received fewer connections than were accepted.
@@ -46,7 +46,7 @@ pub enum ServeCause {
     Left,
 }
 
-/// What was served: how many sessions were held and how many calls were made in them, and the keys that are left, in increasing order.
+/// The result of serving: the number of sessions, the number of calls made in them, and the final keys in increasing order.
 #[derive(Drop)]
 pub struct Served {
     pub sessions: u64,
@@ -55,8 +55,8 @@ pub struct Served {
     pass: Token<TcpStream>,
 }
 
-/// Why connections were not served. The set and the seats come back where the seats do not hold all seats of the set, as
-/// no connection was accepted then.
+/// The error of `serve`. After the cause `Seats` no connection was accepted, and `back` contains the set and the seats. After the
+/// other causes `back` is `None`.
 #[derive(Drop, Error)]
 #[error("{cause}")]
 pub struct ServeFault<M: Running> {
@@ -72,7 +72,7 @@ impl<M: Running> fmt::Debug for ServeFault<M> {
     }
 }
 
-/// Accepts so many connections and sends them on, numbered from 0.
+/// Accepts `sessions` connections and sends them to the workers, numbered from 0.
 fn accept_all<R: Wait>(
     rt: &R,
     listener: &TcpListener,
@@ -100,7 +100,7 @@ fn accept_all<R: Wait>(
     Ok(())
 }
 
-/// Tells so many workers that no more connections come.
+/// Tells each of the workers that no more connections come.
 fn close_all<R: Wait>(
     rt: &R,
     to: &Sender<TcpStream>,
@@ -119,7 +119,7 @@ fn close_all<R: Wait>(
     Ok(())
 }
 
-/// Accepts so many connections, sends them on, and tells so many workers that no more come.
+/// Accepts `sessions` connections, sends them to the workers, and tells each worker that no more come.
 fn send_all<R: Wait>(
     rt: &R,
     listener: &TcpListener,
@@ -137,7 +137,7 @@ fn send_all<R: Wait>(
     close_all(rt, to, pass, workers)
 }
 
-/// Starts the workers, accepts the connections and joins the workers. Gives the pass with all parts, and the gathered seat.
+/// Starts the workers, accepts the connections and joins the workers. Returns the pass with all parts, and the gathered seat.
 fn serve_in<'s, E, R: Threads + Wait + Clock + Sync, M: Running + Send + Sync>(
     alloc: Global,
     scope: &Scope<'s, E>,
@@ -173,7 +173,7 @@ fn serve_in<'s, E, R: Threads + Wait + Clock + Sync, M: Running + Send + Sync>(
     Ok((pass, gathered))
 }
 
-/// Makes the channel and serves through it. After a fault the channel is dropped, and the workers end.
+/// Creates the channel and serves through it. After an error the channel is dropped, and the workers end.
 fn serve_all<R: Threads + Wait + Clock + Sync, M: Running + Send + Sync>(
     rt: &R,
     alloc: Global,
@@ -215,20 +215,23 @@ fn serve_all<R: Threads + Wait + Clock + Sync, M: Running + Send + Sync>(
 
 /// Serves a set to `sessions` connections, with one worker for each of `seats`.
 ///
-/// `seats` are those of `set`. Connections are numbered from 0 and pass through a channel with as many places as there are
-/// seats. Each worker runs `buffered_session` on its seat, with one connection after another; a session that ends with a fault does
-/// not end the server. Then the seats are gathered and the set is closed. It waits for connections and workers, and each
-/// worker for its client.
+/// `seats` must be seats of `set`. Connections are numbered from 0, and go through a channel with as many places as there are
+/// seats. Each worker runs `buffered_session` on its seat, for one connection after another. A session that ends with a fault
+/// does not end the server. At the end the seats are gathered and the set is closed. Blocks until all connections have come and
+/// all workers have ended; each worker waits for its client.
 ///
-/// The cause of a `ServeFault`:
+/// # Errors
 ///
-/// - `Seats`: exactly if the seats do not hold all seats of the set. Nothing was accepted, and set and seats come back.
-/// - `Accept`, `Spawn`: the system refuses a connection or a thread.
-/// - `Send`: the channel returns a connection.
+/// Returns a `ServeFault` with one of these causes:
+///
+/// - `Seats`: exactly if the seats do not hold all seats of the set. No connection was accepted, and the set and the seats are
+///   returned.
+/// - `Accept`, `Spawn`: the system refused a connection or a thread.
+/// - `Send`: the channel returned a connection.
 /// - `Left`: the workers received fewer connections than were accepted.
-/// - `Memory`: it was refused.
+/// - `Memory`: an allocation failed.
 ///
-/// After each but the first the workers that were started end, and the set is dropped.
+/// After each cause but `Seats` the started workers end, and the set is dropped.
 pub fn serve<R: Threads + Wait + Clock + Sync, M: Running + Send + Sync>(
     rt: &R,
     alloc: Global,
@@ -240,7 +243,7 @@ pub fn serve<R: Threads + Wait + Clock + Sync, M: Running + Send + Sync>(
     requires { All (λ s. s.set ≡ set) seats.items }
     // [Received once]: each connection was received once.
     ensures received { IfOk result (λ s. (s.sessions ≡ sessions) × ReceivedOnce sessions (tally_of s)) }
-    // [Served]: one legal order of the seats' earlier calls and so many further ones leaves the keys.
+    // [Served]: one legal order of the seats' earlier calls and of `calls` further calls leaves the final keys.
     ensures served { IfOk result (λ s. IsServed set.shape (map (λ t. t.past) seats.items) s.calls s.keys.items) }
     ensures all { IsOk result → sum_by (λ s. s.held) seats.items ≡ set.shape.threads }
     ensures refused { IfErr result (λ f. f.cause ≡ ServeCause.Seats ↔ (sum_by (λ s. s.held) seats.items ≢ set.shape.threads)) }

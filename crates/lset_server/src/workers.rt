@@ -24,7 +24,7 @@ use std::sync::Wait;
 use std::thread::{Promise, PromisedHandle, Scope, Threads};
 use std::time::Clock;
 
-/// What a worker returns: its pass, its seat, and how many sessions it held and calls it made.
+/// The result of a worker: its pass, its seat, and the numbers of its sessions and calls.
 #[derive(Drop)]
 pub(crate) struct WorkerResult<M: Running> {
     pub pass: Token<TcpStream>,
@@ -33,7 +33,7 @@ pub(crate) struct WorkerResult<M: Running> {
     pub calls: u64,
 }
 
-/// What a worker owes: the channel, the set and the seat that it was started with, and the most sessions that it may hold.
+/// The promise of a worker: the channel, the set and the seat with which it was started, and its maximum number of sessions.
 #[derive(Drop)]
 pub(crate) struct WorkerPromise<M: Running> {
     pub from: Snapshot<Receiver<TcpStream>>,
@@ -48,10 +48,10 @@ impl<M: Running> Promise<WorkerResult<M>> for WorkerPromise<M> {
         × (b.sessions ≤ p.most) × (b.calls ≤ MOST_LINES * p.most) };
 }
 
-/// A worker that was started.
+/// A started worker.
 pub(crate) type Worker<M> = PromisedHandle<WorkerResult<M>, WorkerPromise<M>>;
 
-/// Waits for the next connection. `None` where no more come.
+/// Waits for the next connection. Returns `None` if no more connections come.
 fn next<R: Wait>(
     rt: &R,
     from: &Receiver<TcpStream>,
@@ -69,8 +69,8 @@ fn next<R: Wait>(
     }
 }
 
-/// Holds a session with a client on the seat and takes leave of it. Gives the number of its calls. A session that ends with a
-/// fault ends no more than itself.
+/// Holds a session with a client on the seat and ends the exchange with the client. Returns the number of calls made. A fault
+/// ends only this session.
 fn hold<R: Wait + Clock, M: Running>(
     rt: &R,
     stream: &TcpStream,
@@ -82,14 +82,14 @@ fn hold<R: Wait + Clock, M: Running>(
     ensures calls { (added : List CallMade) × (seat.new.past ≡ with_calls seat.old.past added) × (result ≡ length added) }
     ensures few { result ≤ MOST_LINES }
 {
-    // Where the option is refused, answers may come later, and nothing else changes.
+    // If the system refuses the option, answers can arrive later; nothing else changes.
     let _ = stream.set_nodelay(true);
     let ended = buffered_session(rt, Device::new(stream), Device::new(stream), set, seat);
     take_leave(rt, stream, ended.why);
     ended.calls
 }
 
-/// Serves connections on the seat, until no more come or `most` were received.
+/// Serves connections on the seat until no more come or `most` were received.
 fn work<R: Wait + Clock, M: Running>(
     rt: &R,
     from: &Receiver<TcpStream>,
@@ -122,7 +122,7 @@ fn work<R: Wait + Clock, M: Running>(
     }
 }
 
-/// What the workers did together, and the seat into which theirs were gathered.
+/// The numbers of sessions and calls of all workers together, and the seat into which their seats were gathered.
 #[derive(Drop)]
 pub(crate) struct Gathered<M: Running> {
     pub seat: Option<Seat<M>>,
@@ -130,8 +130,8 @@ pub(crate) struct Gathered<M: Running> {
     pub calls: u64,
 }
 
-/// A pool of workers: the set on whose seats they work, both ends of the channel by which connections come to them, and how
-/// many come.
+/// A pool of workers: the set on whose seats they work, both ends of the channel that passes connections to them, and the number
+/// of connections.
 #[derive(Drop)]
 pub(crate) struct Pool<'s, R, M: Running> {
     pub rt: &'s R,
@@ -142,7 +142,7 @@ pub(crate) struct Pool<'s, R, M: Running> {
 }
 
 impl<'s, R: Threads + Wait + Clock + Sync, M: Running + Send + Sync> Pool<'s, R, M> {
-    /// Starts a worker on the seat. `None` where the system refuses the thread.
+    /// Starts a worker on the seat. Returns `None` if the system refuses the thread.
     fn start<E>(
         &self,
         scope: &Scope<'s, E>,
@@ -170,8 +170,8 @@ impl<'s, R: Threads + Wait + Clock + Sync, M: Running + Send + Sync> Pool<'s, R,
             .ok()
     }
 
-    /// Starts a worker on each seat, with a part of the sender's pass. All memory for the handles is taken before the first
-    /// one is started.
+    /// Starts a worker on each seat, with a part of the sender's pass. Memory for all handles is allocated before the first
+    /// worker is started.
     pub fn start_all<E>(
         &self,
         alloc: Global,
@@ -204,7 +204,7 @@ impl<'s, R: Threads + Wait + Clock + Sync, M: Running + Send + Sync> Pool<'s, R,
         Ok(workers)
     }
 
-    /// Waits for the workers, takes their passes back and gathers their seats.
+    /// Joins the workers and their passes, and gathers their seats.
     pub fn join_all(&self, pass: &mut Token<TcpStream>, workers: Vec<Worker<M>>) -> Gathered<M>
         requires pass { IsSeatAt (sends_on self.now.to) pass.old × (0 < (view pass.old).parts) }
         requires owed { All (λ h. (receives_on h.promise.from.value ≡ sends_on self.now.to)

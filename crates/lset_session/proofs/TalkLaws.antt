@@ -1,4 +1,4 @@
--- How a session goes on from line to line.
+-- Laws of a session that continues line by line.
 use Rattle.std.proofs.Common.{◌≡◌, ◌≢◌, ℕ, ◌+◌, ◌-◌, ◌<◌, ◌≤◌, Bool, true, false, eqb, List, [], ◌∷◌, ◌++◌, length, Option, Some, None}
 use Rattle.std.proofs.Common.{if◌then◌else◌, refl, sym, ap, ◌∙◌, subst, append_assoc, append-nil, arith, length-append, length-take, take}
 use Rattle.std.proofs.Common.{drop, get_or, take-append-drop, add-one}
@@ -26,9 +26,9 @@ use Rattle.lset_session.specs.Sessions.{Wrote, text_end, IsSession}
 use Rattle.lset_session.specs.SessionSoFar.{WroteSoFar, IsLast, Told, Heard, IsTalk, pending_of, counted, ending}
 use Rattle.lset_session.specs.declared.sessions.Talk.{Talk}
 
--- ---- the parts of a text that goes on
+-- ---- the parts of a text that continues
 
--- bytes without a newline stand before the first part
+-- Bytes without a newline are at the beginning of the first part.
 cut_more : (q x : List ℕ) (xs : List (List ℕ)) (more : List ℕ) → cut_at 10 more ≡ x ∷ xs → Lacks 10 q
     → cut_at 10 (q ++ more) ≡ (q ++ x) ∷ xs
 cut_more [] x xs more e lacks = e
@@ -63,7 +63,7 @@ turns_line left p more lacks short = by_parts (cut_at 10 more) refl (some_part 1
         let few = le-ltb LONGEST_LINE (length p) short in
         rw (first, e, few) refl
 
--- a rest without a newline asks for nothing
+-- Bytes after the last newline make no request.
 pub turns_rest : (left : ℕ) (p : List ℕ) → Lacks 10 p → length p ≤ LONGEST_LINE → turns_at left (cut_at 10 (p ++ [])) ≡ []
 turns_rest left p lacks short =
     let few = le-ltb LONGEST_LINE (length p) short in
@@ -101,9 +101,9 @@ counted_is (made c) q h = absurd cc
 counted_is e (request.Call d) h = absurd cc
 counted_is e q h = refl
 
--- ---- what was heard
+-- ---- the bytes that were processed
 
--- the last line of a session was written, or its write has failed
+-- The last line of a session was written, or its write has failed.
 told_last : (left left' : ℕ) (bytes p' : List ℕ) (talk : List Exchange) (why : EndReason) (whole : Bool) → IsLast why
     → ((more : List ℕ) → turns_at left (cut_at 10 (bytes ++ more)) ≡ turns_in talk ++ []) → end_of (turns_in talk) ≡ why
     → Told left bytes (ending whole why) left' p' talk
@@ -136,7 +136,7 @@ heard_long left left' q p' r w w' n whole lacks many wrote = record {
   count = omega arith;
 }
 
--- a line that ended, with what was said
+-- A complete line, with its answer.
 module _ (t : Talk) (talk : IsTalk t) (left' : ℕ) (p' : List ℕ) (r r' : Record) (w w' : Option (List ℕ)) (n' : ℕ)
     (e : Exchange) (q : Request) (asked : q ≡ request_of (pending_of t)) (is : turn_of e ≡ line q)
     (recorded : r' ≡ with_calls r (call_of e)) (count : n' ≡ t.calls + counted q) where
@@ -211,7 +211,7 @@ module _ (t : Talk) (talk : IsTalk t) (left' : ℕ) (p' : List ℕ) (r r' : Reco
     count = one_count;
   }
 
--- ---- one after the other
+-- ---- one line after another
 
 end_append : (ts us : List Turn) → end_of ts ≡ why.End → end_of (ts ++ us) ≡ end_of us
 end_append [] us h = refl
@@ -279,7 +279,7 @@ heard_then l l' l'' p p' p'' cs o r r' r'' w w' w'' n n' n'' h k = record {
 
 -- ---- the bytes of one read
 
--- one byte more
+-- One more byte.
 pub heard_byte : (l l' l'' : ℕ) (p p' p'' xs : List ℕ) (i : ℕ) (o : Option EndReason) (r r' r'' : Record) (w w' w'' : Option (List ℕ))
     (n n' n'' : ℕ)
     → i < length xs → Heard l (p ++ take i xs) None l' p' r r' w w' n n' →
@@ -292,7 +292,7 @@ heard_byte l l' l'' p p' p'' xs i o r r' r'' w w' w'' n n' n'' lt h k =
     subst (λ t. Heard l t o l'' p'' r r'' w w'' n n'') regrouped
     (heard_then l l' l'' (p ++ take i xs) p' p'' (get_or xs i 0 ∷ []) o r r' r'' w w' w'' n n' n'' h k)
 
--- the bytes after the end are not heard
+-- Bytes after the end are not processed.
 pub heard_rest : (l l' : ℕ) (p p' xs : List ℕ) (i : ℕ) (end : EndReason) (r r' : Record) (w w' : Option (List ℕ)) (n n' : ℕ)
     → Heard l (p ++ take i xs) (Some end) l' p' r r' w w' n n' → Heard l (p ++ xs) (Some end) l' p' r r' w w' n n'
 heard_rest l l' p p' xs i end r r' w w' n n' h = record {
@@ -314,7 +314,7 @@ heard_rest l l' p p' xs i end r r' w w' n n' h = record {
 
 -- ---- the end
 
--- no whole line is left, and no line has ended the session
+-- No complete line is left, and no line has ended the session.
 pub spoken_rest : (end : EndReason) (bytes : List ℕ) (t : Talk) (r r' : Record) (s s' w w' : Option (List ℕ)) → IsTalk t
     → ((talk : List Exchange) → Appends w w' (answers_in talk) → Wrote end w w' talk) → why.End ≡ text_end end
     → (end ≡ why.End → IsAtEnd s') → Consumes s s' bytes →

@@ -1,4 +1,4 @@
--- A text that is written front by front.
+-- Laws of a text that is written prefix by prefix.
 use Rattle.std.proofs.Common.{◌≡◌, ℕ, ◌-◌, ◌<◌, List, [], ◌∷◌, ◌++◌, length, take, drop, sym, ap, ◌∙◌, append_assoc}
 use Rattle.std.proofs.Common.{take-append-drop, arith, Option}
 use Rattle.std.proofs.lemmas.List.{take_rest}
@@ -11,7 +11,7 @@ moves_front all done rest n e =
     e ∙ ap (λ l. done ++ l) (sym (take-append-drop n rest)) ∙ sym (append_assoc done (take n rest) (drop n rest))
     ∙ ap (λ l. (done ++ take n rest) ++ l) (sym (take_rest rest n))
 
--- where some bytes are left, what was written is a proper front
+-- If some bytes remain, the written ones are a proper prefix.
 pub cut_short : (old new : Option (List ℕ)) (all done rest : List ℕ) → all ≡ done ++ rest → 0 < length rest → Appends old new done
     → CutShort old new all
 cut_short old new all done [] e some a = absurd (omega arith)

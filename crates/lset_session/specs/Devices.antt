@@ -1,20 +1,20 @@
--- What a write leaves of a text that it does not take whole.
+-- The effect of writing a text that may be written in part.
 use Rattle.std.specs.Prelude.{◌≡◌, ℕ, Bool, MatchBool, List, ◌∷◌, ◌++◌, Option}
 use Rattle.std.specs.Io.KnownBytes.{Appends}
 use Rattle.lset_session.specs.declared.devices.Device.{Device}
 
--- the reader or writer of a device
+-- The reader or writer of a device.
 abbrev pub inner_of : {T : Type 0} → Device T → T
 inner_of d = d.inner
 
--- whether a device has failed
+-- Whether a device has failed.
 abbrev pub is_failed : {T : Type 0} → Device T → Bool
 is_failed d = d.failed
 
--- a proper front of the text was written
+-- A proper prefix of the text was written.
 abbrev pub CutShort : Option (List ℕ) → Option (List ℕ) → List ℕ → Type 0
 CutShort old new text = (front : List ℕ) × (b : ℕ) × (cut : List ℕ) × (text ≡ front ++ b ∷ cut) × Appends old new front
 
--- the text was written whole, or a proper front of it
+-- The whole text was written, or a proper prefix of it.
 abbrev pub Writes : Bool → Option (List ℕ) → Option (List ℕ) → List ℕ → Type 0
 Writes whole old new text = MatchBool whole (Appends old new text) (CutShort old new text)

@@ -1,4 +1,4 @@
--- [Session]: what a session did that has ended.
+-- [Session]: the effect of a session that has ended.
 use Rattle.std.specs.Prelude.{◌≡◌, ◌≢◌, ℕ, List, [], ◌∷◌, ◌++◌, length, Option}
 use Rattle.std.specs.Io.KnownBytes.{Appends, Consumes, IsAtEnd}
 use Rattle.lset_words.specs.Records.{Record, with_calls}
@@ -6,35 +6,34 @@ use Rattle.lset_session.specs.declared.sessions.EndReason.{EndReason}
 use Rattle.lset_session.specs.declared.sessions.EndReason.TheVariants as why
 use Rattle.lset_session.specs.SessionText.{Turn, turns_of, end_of, Exchange, turns_in, answers_in, calls_in, answer_of}
 
--- the answers were written up to the last one, and of the last one a proper front
+-- All answers but the last were written, and of the last one a proper prefix.
 abbrev pub CutAnswers : Option (List ℕ) → Option (List ℕ) → List Exchange → Type 0
 CutAnswers w w' talk =
     (said : List Exchange) × (last : Exchange) × (front : List ℕ) × (b : ℕ) × (cut : List ℕ)
     × (talk ≡ said ++ last ∷ []) × (answer_of last ≡ front ++ b ∷ cut) × Appends w w' (answers_in said ++ front)
 
--- what was written of the answers, if the session has ended so
+-- The bytes that were written, if the session has ended for this reason.
 abbrev pub Wrote : EndReason → Option (List ℕ) → Option (List ℕ) → List Exchange → Type 0
 Wrote why.WriteFault w w' talk = CutAnswers w w' talk
 Wrote end w w' talk = Appends w w' (answers_in talk)
 
--- how the text that was read ends, if the session has ended so: a reader that has failed has ended no text
+-- The end of the text that was read, if the session has ended for this reason. After a failed read no line has ended the text.
 abbrev pub text_end : EndReason → EndReason
 text_end why.ReadFault = why.End
 text_end end = end
 
--- A SESSION that has ended so and made so many calls: the bytes that were left to read before and after it (s, s'), the record
--- of its
--- seat (r, r'), and the bytes that were written (w, w').
+-- A session that has ended for the reason `end` after this number of calls: s and s' are the remaining input before and after it,
+-- r and r' the records of its seat, and w and w' the bytes written.
 pub record IsSession (end : EndReason) (calls : ℕ) (s s' : Option (List ℕ)) (r r' : Record) (w w' : Option (List ℕ)) : Type 0 where
-  -- the bytes that were read, and what was asked and answered
+  -- The bytes that were read, and the turns with their answers.
   pub bytes : List ℕ
   pub talk : List Exchange
   pub read : Consumes s s' bytes
-  -- what was asked are the turns of these bytes: all of them, unless a write has failed
+  -- The turns are those of these bytes: all of them, unless a write has failed.
   pub turns : (later : List Turn) × (turns_of bytes ≡ turns_in talk ++ later) × (end ≢ why.WriteFault → later ≡ [])
   pub recorded : r' ≡ with_calls r (calls_in talk)
   pub count : calls ≡ length (calls_in talk)
   pub wrote : Wrote end w w' talk
-  -- the text of these bytes ends so, unless a write has failed
+  -- The text of these bytes ends for this reason, unless a write has failed.
   pub ends : end ≢ why.WriteFault → end_of (turns_of bytes) ≡ text_end end
   pub drained : end ≡ why.End → IsAtEnd s'

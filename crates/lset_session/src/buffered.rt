@@ -1,7 +1,7 @@
-//! Sessions whose answers are held back. A session hands each answer to its writer before it makes the next call. Here the
-//! answers wait in a buffer of 4,096 bytes, and leave together: before the session reads again, when the buffer is full, and
-//! as the session ends. So a client that sends many lines at once costs a few writes, and what it was answered has left
-//! before its next line is waited for.
+//! Sessions that buffer their answers. A plain session writes each answer before it makes the next call. Here the answers wait in
+//! a buffer of 4,096 bytes, and are written together: before the session reads again, when the buffer is full, and at the end of
+//! the session. A client that sends many lines at once causes only a few writes, and its answers are written before the session
+//! waits for its next line.
 ghost use Rattle.std.specs.Prelude.{◌≡◌, ◌≢◌, ◌<◌, ◌≤◌, IfSome, IsTrue, None, false, length, Option, List, ℕ};
 ghost use Rattle.lset_session.specs.Sessions.{IsSession};
 ghost use Rattle.lset_session.specs.declared.TheConstants.{MOST_LINES};
@@ -13,10 +13,10 @@ use lset_words::SetCalls;
 use std::cell::RefCell;
 use std::sync::Wait;
 
-/// The maximum number of bytes of answers that wait.
+/// The size of the buffer in bytes.
 const ROOM: usize = 4096;
 
-/// Answers that have not left yet, and the writer by which they leave, until a write has failed.
+/// Answers that are not written yet, and their writer, with whether a write has failed.
 #[derive(Drop)]
 struct Buffer<O: Sink> {
     bytes: [u8; ROOM],
@@ -28,7 +28,7 @@ struct Buffer<O: Sink> {
 }
 
 impl<O: Sink> Buffer<O> {
-    /// No answers, and a writer that has not failed.
+    /// Returns an empty buffer for a writer that has not failed.
     fn new(writer: O) -> Buffer<O>
         requires { O.has_failed writer ≡ false }
     {
@@ -40,7 +40,7 @@ impl<O: Sink> Buffer<O> {
         }
     }
 
-    /// Writes the answers, and returns whether all were written. After a write that fails, it makes no other.
+    /// Writes the buffered answers, and returns whether all were written. Makes no further write after one that fails.
     fn flush(&mut self) -> bool
         ensures { IsTrue result → self.new.len ≡ 0 }
     {
@@ -53,7 +53,7 @@ impl<O: Sink> Buffer<O> {
         whole
     }
 
-    /// Holds a front of the text, as long as there is room, and gives its length.
+    /// Buffers a prefix of the text, as much as there is space for, and returns its length.
     fn put(&mut self, text: &[u8]) -> usize
         ensures bound { result ≤ length text.now }
         ensures some { self.old.len ≢ ROOM → 0 < length text.now → 0 < result }
@@ -65,8 +65,8 @@ impl<O: Sink> Buffer<O> {
         count
     }
 
-    /// Holds a front of the text and gives its length. Where there is no room the answers leave first; `None` where that
-    /// fails.
+    /// Buffers a prefix of the text and returns its length. If the buffer is full, writes its answers first; returns `None` if
+    /// that fails.
     fn write(&mut self, text: &[u8]) -> Option<usize>
         ensures { IfSome result (λ n. (n ≤ length text.now) × (0 < length text.now → 0 < n)) }
     {
@@ -85,7 +85,7 @@ fn flush<O: Sink>(buffer: &RefCell<Buffer<O>>) -> bool {
     }
 }
 
-/// What a session reads from: the answers leave before each read.
+/// The reader of a buffered session: the buffered answers are written before each read.
 #[derive(Drop)]
 struct Flushing<'a, I, O: Sink> {
     reader: I,
@@ -109,7 +109,8 @@ impl<I: Source, O: Sink> Source for Flushing<'_, I, O> {
     }
 }
 
-/// What a session answers on: the answers wait. No contract knows what a cell holds, so nothing is said of what was written.
+/// The writer of a buffered session: the answers go into the buffer. No contract knows the contents of a cell, so no contract
+/// states what was written.
 #[derive(Drop)]
 struct Buffered<'a, O: Sink> {
     buffer: &'a RefCell<Buffer<O>>,
@@ -132,12 +133,13 @@ impl<O: Sink> Sink for Buffered<'_, O> {
     }
 }
 
-/// Serves one client as `session` does, and buffers its answers: up to 4,096 bytes of them, which it writes before each read of
-/// `reader`, when the buffer is full, and as the session ends. Neither device may have failed; `seat` must be a seat of `set`.
+/// Serves one client as `session` does, and buffers up to 4,096 bytes of answers. It writes them before each read of `reader`,
+/// when the buffer is full, and at the end of the session. `reader` and `writer` must not have failed; `seat` must be a seat of
+/// `set`.
 ///
-/// If a write fails, the session ends with `WriteFault`, and no write follows. What was written is then a prefix of the
-/// answers; calls whose answers were not written stay made, and are counted. May block as its set, its reader and its writer
-/// do. Does not allocate.
+/// If a write fails, the session ends with `WriteFault`, and no write follows. The written bytes are then a prefix of the
+/// answers. Calls whose answers were not written stay made, and are counted. Can block, as its set, its reader and its writer
+/// can. Does not allocate.
 pub fn buffered_session<R: Wait, I: Source + Drop, O: Sink + Drop, S: SetCalls>(
     rt: &R,
     reader: I,
@@ -147,7 +149,7 @@ pub fn buffered_session<R: Wait, I: Source + Drop, O: Sink + Drop, S: SetCalls>(
 ) -> Ended
     requires seat { S.is_of set.now seat.old }
     requires works { (I.has_failed reader ≡ false) × (O.has_failed writer ≡ false) }
-    // [Session] of what was read and of the calls that were made, and nothing of what was written.
+    // [Session] holds of the bytes that were read and the calls that were made. Nothing is stated of the bytes that were written.
     ensures session { (end : Ending) × (left : Option (List ℕ)) × (result.why ≢ EndReason.WriteFault → result.why ≡ end)
         × IsSession end result.calls (I.remaining reader) left (S.record_of seat.old) (S.record_of seat.new) None None }
     ensures few { result.calls ≤ MOST_LINES }

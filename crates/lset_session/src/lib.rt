@@ -1,5 +1,4 @@
-//! Sessions: requests in lines and their answers, over any reader and writer and on any set whose calls are made from
-//! seats.
+//! Sessions: requests in lines and their answers, over any reader and writer, and on any set whose calls are made from seats.
 #![tactic(auto)]
 
 mod buffered;

@@ -1,11 +1,11 @@
-//! What a line of a session asks for.
+//! Reading the requests in the lines of a session.
 ghost use Rattle.std.specs.Prelude.{◌≡◌};
 ghost use Rattle.lset_session.specs.SessionText.{request_of};
 
 use lset_text::{cut, number};
 use lset_words::{Call, Key};
 
-/// What a line of a session asks for.
+/// The request in a line of a session.
 #[derive(Clone, Copy, Debug, PartialEq, Eq)]
 pub enum Request {
     /// `ADD k`, `REMOVE k`, `CONTAINS k` or `CEILING k`.
@@ -16,8 +16,8 @@ pub enum Request {
     Bad,
 }
 
-/// Reads a line of a session, without its newline: `ADD`, `REMOVE`, `CONTAINS` or `CEILING`, one space and a key from 0 to
-/// 4,294,967,295 in decimal without leading zeros; or `QUIT`. Any other line is `Bad`.
+/// Reads the request in a line, given without its newline: `ADD`, `REMOVE`, `CONTAINS` or `CEILING`, one space, and a key from 0
+/// to 4,294,967,295 in decimal without leading zeros; or `QUIT`. Any other line is `Bad`.
 #[tactic(auto, unfolding(crate::specs::SessionText::request_of))]
 pub fn read_request(line: &[u8]) -> Request
     ensures { result ≡ request_of line.now }

@@ -1,4 +1,4 @@
-//! Sessions: the lines of a reader are answered on a writer.
+//! Sessions: reads lines from a reader and writes their answers to a writer.
 ghost use Rattle.std.specs.Prelude.{◌≡◌, ◌≤◌, ◌↔◌, ◌∷◌, [], Bool, true, false, IsTrue, if◌then◌else◌, length, None};
 ghost use Rattle.lset_words.specs.Records.{with_calls};
 ghost use Rattle.lset_session.specs.Devices.{Writes};
@@ -15,32 +15,31 @@ use itoa::Buffer;
 use lset_words::{Reply, SetCalls};
 use std::sync::Wait;
 
-/// Why a session has ended.
+/// The reason for the end of a session.
 #[derive(Clone, Copy, Debug, PartialEq, Eq)]
 pub enum EndReason {
-    /// A line was `QUIT`; it was answered `BYE`.
+    /// A line was `QUIT`; the answer was `BYE`.
     Quit,
-    /// No byte is left to read. A rest without a newline was dropped.
+    /// The input has ended. Bytes after the last newline were dropped.
     End,
-    /// A line has more than 64 bytes; it was answered `LONG`.
+    /// A line has more than 64 bytes; the answer was `LONG`.
     Long,
     /// 1,000,000 lines were answered, and `LIMIT` was written.
     Limit,
     /// A read has failed.
     ReadFault,
-    /// A write has failed. Of the last answer a proper front was written.
+    /// A write has failed. Only a part of the last answer was written: a prefix without its last byte, or nothing.
     WriteFault,
 }
 
-/// The end of a session: why it ended, and how many calls it made.
+/// The end of a session: its reason, and the number of calls made.
 #[derive(Clone, Copy, Debug, PartialEq, Eq)]
 pub struct Ended {
     pub why: EndReason,
     pub calls: u64,
 }
 
-/// A session under way: the line that has not ended yet, how many more lines may be answered, and the
-/// calls that were made.
+/// The state of a session: the bytes of the current line, how many more lines can be answered, and the number of calls made.
 #[derive(Drop)]
 struct Talk {
     line: [u8; LONGEST_LINE],
@@ -49,7 +48,7 @@ struct Talk {
     calls: u64,
 }
 
-/// The line that answers a call; the longest is `AT 4294967295`.
+/// Returns the line that answers a call. The longest one is `AT 4294967295`.
 fn reply_line(reply: Reply) -> ArrayString<14>
     ensures { result.bytes ≡ ended (reply_word reply) }
 {
@@ -68,7 +67,7 @@ fn reply_line(reply: Reply) -> ArrayString<14>
     line
 }
 
-/// Answers a request, and returns whether the answer was written whole.
+/// Answers a request, and returns whether the whole answer was written.
 fn answer<R: Wait, W: Sink, S: SetCalls>(
     rt: &R,
     writer: &mut W,
@@ -94,7 +93,7 @@ fn answer<R: Wait, W: Sink, S: SetCalls>(
     }
 }
 
-/// Writes the line after which a session ends so, and returns how it has ended.
+/// Writes the last line of a session, and returns the reason for its end: `why`, or `WriteFault` if the write fails.
 fn last_line<W: Sink>(writer: &mut W, text: &[u8], why: EndReason) -> EndReason
     requires works { W.has_failed writer.old ≡ false }
     ensures { (whole : Bool) × (result ≡ (if whole then why else EndReason.WriteFault))
@@ -118,7 +117,7 @@ fn count_of(request: Request) -> u64
     }
 }
 
-/// Answers the line that has ended. `None` if the session continues.
+/// Answers the current line, which is complete. Returns `None` if the session continues.
 fn line_in<R: Wait, W: Sink, S: SetCalls>(
     rt: &R,
     writer: &mut W,
@@ -151,7 +150,7 @@ fn line_in<R: Wait, W: Sink, S: SetCalls>(
     None
 }
 
-/// Takes one byte. `None` if the session continues.
+/// Processes one byte. Returns `None` if the session continues.
 fn byte_in<R: Wait, W: Sink, S: SetCalls>(
     rt: &R,
     writer: &mut W,
@@ -180,7 +179,7 @@ fn byte_in<R: Wait, W: Sink, S: SetCalls>(
     None
 }
 
-/// Takes the bytes of one read. `None` if the session continues.
+/// Processes the bytes of one read. Returns `None` if the session continues.
 fn bytes_in<R: Wait, W: Sink, S: SetCalls>(
     rt: &R,
     writer: &mut W,
@@ -206,21 +205,21 @@ fn bytes_in<R: Wait, W: Sink, S: SetCalls>(
     None
 }
 
-/// Reads a client's lines from `reader`, makes their calls from `seat`, which must be a seat of `set`, and writes an answer for
-/// each line to `writer`. Neither device may have failed.
+/// Serves one client: reads lines from `reader`, makes their calls from `seat`, which must be a seat of `set`, and writes an
+/// answer for each line to `writer`. `reader` and `writer` must not have failed.
 ///
-/// Each line ends with a newline. `ADD k`, `REMOVE k`, `CONTAINS k` and `CEILING k` are answered by `TRUE`, `FALSE`, `FULL`,
-/// `AT x` (the key x) or `NONE` (no key), `QUIT` by `BYE`, and any other line by `BAD`. Each answer is written whole before
-/// the next call is made.
+/// Each line ends with a newline. A line `ADD k`, `REMOVE k`, `CONTAINS k` or `CEILING k` is answered by `TRUE`, `FALSE`, `FULL`,
+/// `AT x` (the key x) or `NONE` (no key). `QUIT` is answered by `BYE`, and any other line by `BAD`. Each answer is written as a
+/// whole before the next call is made.
 ///
 /// The session ends with:
 /// - `Quit`: a line was `QUIT`;
-/// - `End`: no byte is left; a rest without a newline is dropped;
-/// - `Long`: a line has more than 64 bytes; it is answered by `LONG`;
+/// - `End`: the input has ended; bytes after the last newline were dropped;
+/// - `Long`: a line has more than 64 bytes; the answer is `LONG`;
 /// - `Limit`: 1,000,000 lines were answered, the last was not `QUIT`, and `LIMIT` was written;
 /// - `ReadFault`, `WriteFault`: a read or a write failed. Calls that were made stay made, and are counted.
 ///
-/// May block as its set, its reader and its writer do. Does not allocate.
+/// Can block, as its set, its reader and its writer can. Does not allocate.
 pub fn session<R: Wait, I: Source, O: Sink, S: SetCalls>(
     rt: &R,
     reader: &mut I,
@@ -230,10 +229,10 @@ pub fn session<R: Wait, I: Source, O: Sink, S: SetCalls>(
 ) -> Ended
     requires seat { S.is_of set.now seat.old }
     requires works { (I.has_failed reader.old ≡ false) × (O.has_failed writer.old ≡ false) }
-    // [Session]: the calls that were made, and what was written, are those of the text that was read.
+    // [Session]: the calls that were made and the bytes that were written are those of the text that was read.
     ensures session { IsSession result.why result.calls (I.remaining reader.old) (I.remaining reader.new)
         (S.record_of seat.old) (S.record_of seat.new) (O.written writer.old) (O.written writer.new) }
-    // The faults are those of the devices.
+    // The session ends with a fault exactly if the device has failed.
     ensures read_fault { IsTrue (I.has_failed reader.new) ↔ (result.why ≡ EndReason.ReadFault) }
     ensures write_fault { IsTrue (O.has_failed writer.new) ↔ (result.why ≡ EndReason.WriteFault) }
     ensures few { result.calls ≤ MOST_LINES }

@@ -1,11 +1,11 @@
--- What inserting a node between a node of the chain and its next does to order, chain and content.
+-- The effect of inserting a node after a node of the chain: on the order, the chain and the content.
 use Rattle.std.proofs.Common.{◌≡◌, ◌≢◌, ℕ, ◌+◌, ◌*◌, ◌/◌, ◌%◌, ◌<◌, ◌≤◌, ◌⊎◌, inl, inr, List, [], ◌∷◌, sym, refl, ap, subst, ◌∙◌, arith}
 use Rattle.lset_steps.specs.Chain.{View, Segment, InChain, InContent, IsOrdered}
 use Rattle.lset_steps.proofs.Moves.{Inserts, KeepsNodes}
 use Rattle.lset_steps.proofs.Segments.{sides, gap}
 use Rattle.lset_steps.proofs.QuietMove.{in_chain_published, chain_before, chain_on, segment_after, apart, apart'}
 
--- the plain facts of an insertion
+-- The basic facts of an insertion.
 pub record Facts (v w : View) (pred own curr k : ℕ) : Type 0 where
   pub curr_is : v.link pred / 2 ≡ curr
   pub own_is : w.link pred / 2 ≡ own
@@ -100,7 +100,7 @@ insert-ordered v w ord pred own k q = record {
         let e : w.key (w.link i / 2) ≡ w.key (v.link i / 2) = ap (λ x. w.key (x / 2)) (q.links i o d) in
         let c : v.key i < v.key (v.link i / 2) = ord.increases i o n in omega arith
 
--- pred stays in the chain
+-- pred is still in the chain.
 pub insert_pred : (v w : View) → IsOrdered v → (pred own k : ℕ) → Inserts v w pred own k → InChain w pred
 insert_pred v w ord pred own k q =
     chain_before v w ord pred pred (λ a m l. ap (λ x. x / 2) (q.links a m (apart v a pred l))) (omega arith) q.in_chain
@@ -109,7 +109,7 @@ pub insert_own : (v w : View) → IsOrdered v → (pred own k : ℕ) → Inserts
 insert_own v w ord pred own k q =
     chain_on w pred own own [] (insert_pred v w ord pred own k q) q.no_tail ((facts v w ord pred own k q).own_is) refl
 
--- each node of the chain stays
+-- Each node of the chain is still in the chain.
 pub insert_keeps : (v w : View) → IsOrdered v → (pred own k : ℕ) → Inserts v w pred own k → (b : ℕ) → InChain v b → InChain w b
 insert_keeps v w ord pred own k q b ib = elim (sides v ord pred b q.in_chain ib) [
   | inl le ↦ chain_before v w ord pred b (λ a m l. ap (λ x. x / 2) (q.links a m (apart v a pred l))) le ib
@@ -123,7 +123,7 @@ insert_keeps v w ord pred own k q b ib = elim (sides v ord pred b q.in_chain ib)
     after : (a : ℕ) → v.published a → v.key (v.link pred / 2) ≤ v.key a → w.link a / 2 ≡ v.link a / 2
     after a m l = ap (λ x. x / 2) (q.links a m (apart' v pred a (omega arith)))
 
--- and nothing but own is new
+-- Only the inserted node is new in the chain.
 pub insert_back : (v w : View) → IsOrdered v → (pred own k : ℕ) → Inserts v w pred own k → (b : ℕ) → InChain w b
     → InChain v b ⊎ (b ≡ own)
 insert_back v w ord pred own k q b ib =
@@ -178,7 +178,7 @@ insert-goes v w ord pred own k q = record {
     cases : (i : ℕ) → (i ≡ pred) ⊎ (i ≢ pred)
     cases i = grind arith
 
--- CONTENT
+-- ---- the content
 
 pub insert_absent : (v w : View) → IsOrdered v → (pred own k : ℕ) → Inserts v w pred own k → InContent v k → ⊥
 insert_absent v w ord pred own k q c =
@@ -192,7 +192,7 @@ insert_has v w ord pred own k q =
     let e : w.link own ≡ 2 * (v.link pred / 2) = q.own_link in
     (own, insert_own v w ord pred own k q, q.user, q.own_key, omega arith)
 
--- the mark of each published node stays
+-- Each published node keeps its mark.
 pub insert_mark : (v w : View) → IsOrdered v → (pred own k : ℕ) → Inserts v w pred own k → (b : ℕ) → v.published b
     → w.link b % 2 ≡ v.link b % 2
 insert_mark v w ord pred own k q b m = elim (cases b) [

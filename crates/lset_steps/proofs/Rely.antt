@@ -1,4 +1,4 @@
--- What the step of one thread leaves to another, where links are written under locks.
+-- The rely condition of lists that write links under locks: the parts that a step of one thread leaves unchanged for another.
 use Rattle.std.specs.Prelude.{◌≡◌, ◌≢◌, ℕ, ◌+◌, ◌*◌, ◌<◌, ◌⊎◌, Bool, Option, List, slice_index, slice_set, refl}
 use Rattle.std.proofs.Common.{arith, inl, inr, sym, ◌∙◌, ap}
 use Rattle.lset_words.proofs.Numbers.{same_or_not}
@@ -18,8 +18,8 @@ use Rattle.lset_steps.proofs.Memory.{at_lock, at_own_key, at_own_link}
 use Rattle.lset_steps.proofs.AfterWrite.{set_other, key_after_link, link_after_link, lock_after_link, list_lock_after_link, link_after_key}
 use Rattle.lset_steps.proofs.AfterWrite.{key_after_key, lock_after_key, list_lock_after_key, key_after_lock, link_after_lock}
 
--- What a step of another thread, from v to w, leaves to thread u (q is the quota): nodes keep their keys, and u's count, the
--- locks that u has, the links and the places in the chain of the nodes under them, and u's next slot stay.
+-- A step of another thread, from v to w, leaves unchanged for thread u with quota q: the keys of nodes; u's count, its locks and
+-- its next slot; and the links and places in the chain of the nodes that u has locked.
 pub record Rely (v w : View) (q u : ℕ) : Type 0 where
   pub goes : KeepsNodes v w
   pub used : w.used u ≡ v.used u
@@ -30,7 +30,8 @@ pub record Rely (v w : View) (q u : ℕ) : Type 0 where
   pub own_key : v.used u < q → w.key (slot_node q u (v.used u)) ≡ v.key (slot_node q u (v.used u))
   pub own_link : v.used u < q → w.link (slot_node q u (v.used u)) ≡ v.link (slot_node q u (v.used u))
 
--- links of published nodes are written by the holder of their lock; a node goes out of the chain by the holder of its own
+-- The link of a published node is written only by the thread that holds its lock, and a node leaves the chain only by a step of
+-- the thread that holds the node's own lock.
 abbrev pub Guarded : (marks : Bool) (sz : Sizes) (t : ℕ) (ws : List ℕ) (used : ℕ → ℕ) (a : Action) (ws' : List ℕ)
     (used' : ℕ → ℕ) (ch : Option (Key × Bool))
     → WordStep marks sz t ws used a ws' used' ch → Type 0
@@ -86,12 +87,12 @@ module _ (marks : Bool) (sz : Sizes) (ws : List ℕ) (used : ℕ → ℕ) (m : M
     own_link = λ r. link_after_link ws p x (own_of sz.quota u used) (λ e. no_own marks sz ws used m u p k r pm (sym e));
   }
 
-  -- A node that t has locked is none that u has locked.
+  -- A node that t has locked is not one that u has locked.
   alien : (c a : ℕ) → node_lock ws c ≡ t + 1 → node_lock ws a ≡ u + 1 → a ≢ c
   alien c a x y e = d (let f : node_lock ws a ≡ node_lock ws c = ap (node_lock ws) e in omega arith)
 
-  -- A guarded step of t leaves all that to u: by cases, with at_word for a lock word and at_link for a published node's link.
-  -- What it writes or unlinks there is under a lock of t, so under none of u's (alien).
+  -- A guarded step of t leaves all this unchanged for u. By cases: at_word for a lock word, at_link for the link of a published
+  -- node. The node that t writes or unlinks is locked by t, and therefore not by u (alien).
   pub rely_of : (a : Action) (ws' : List ℕ) (used' : ℕ → ℕ) (ch : Option (Key × Bool))
       (c : WordStep marks sz t ws used a ws' used' ch)
       → Guarded marks sz t ws used a ws' used' ch c

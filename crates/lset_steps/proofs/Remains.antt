@@ -1,4 +1,4 @@
--- What the step of one thread leaves to every other, with locks or without.
+-- The rely condition of every list, with locks or without: the parts that a step of one thread leaves unchanged for all others.
 use Rattle.std.specs.Prelude.{◌≡◌, ◌≢◌, ℕ, ◌+◌, ◌*◌, ◌%◌, ◌<◌, Bool, Option, List, refl}
 use Rattle.std.proofs.Common.{arith, inl, sym}
 use Rattle.lset_words.specs.Words.{slot_node, Sizes}
@@ -12,8 +12,8 @@ use Rattle.lset_steps.proofs.Memory.{WordStep, Memory, reads, fails, takes, give
 use Rattle.lset_steps.proofs.Memory.{drops, own_of, row_once, no_own, moved, goes_on, others_counted}
 use Rattle.lset_steps.proofs.AfterWrite.{key_after_link, link_after_link, link_after_key, key_after_key, key_after_lock, link_after_lock}
 
--- What a step of another thread, from v to w, leaves to thread u (q is the quota), whoever has locks: keys and marked links of
--- nodes, u's count and u's next slot stay.
+-- A step of another thread, from v to w, leaves unchanged for thread u with quota q, whoever holds locks: keys and marked links
+-- of nodes, u's count, and u's next slot.
 pub record Remains (v w : View) (q u : ℕ) : Type 0 where
   pub goes : KeepsNodes v w
   pub marked : (a : ℕ) → v.published a → v.link a % 2 ≡ 1 → w.link a ≡ v.link a
@@ -21,7 +21,7 @@ pub record Remains (v w : View) (q u : ℕ) : Type 0 where
   pub own_key : v.used u < q → w.key (slot_node q u (v.used u)) ≡ v.key (slot_node q u (v.used u))
   pub own_link : v.used u < q → w.link (slot_node q u (v.used u)) ≡ v.link (slot_node q u (v.used u))
 
--- a moment in which nothing happens
+-- Nothing changes if no step is made.
 pub remains_same : (v : View) (q u : ℕ) → Remains v v q u
 remains_same v q u = record {
   goes = record { keys = λ i p. refl; grows = λ i p. p; kept = λ i p. inl refl; back = λ i p c. c };

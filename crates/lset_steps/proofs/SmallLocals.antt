@@ -1,4 +1,4 @@
--- The numbers of a thread in a run are small, in every lawful machine.
+-- Proof: the numbers in a thread's state are small in every run of a lawful machine.
 use Rattle.std.specs.Prelude.{◌≡◌, ℕ, ◌+◌, ◌*◌, ◌<◌, ◌≤◌}
 use Rattle.std.proofs.Common.{arith, subst}
 use Rattle.lset_words.specs.declared.TheConstants.{MOST_THREADS, MOST_QUOTA, MOST_NODES}

@@ -1,4 +1,5 @@
--- A list whose threads share the words by a protocol keeps its laws: what it has to say of each row, and that this is enough.
+-- Proof: a list whose threads share the words by a protocol satisfies the law of a machine. This file states the obligations for
+-- each row, and proves that they suffice.
 use Rattle.std.specs.Prelude.{◌≡◌, ◌≢◌, ℕ, suc, ◌+◌, ◌<◌, ◌≤◌, Bool, true, false, Option, Some, None, List, ◌||◌, if◌then◌else◌}
 use Rattle.std.specs.Prelude.{◌==◌, slice_set, refl}
 use Rattle.std.proofs.Common.{arith, inl, inr, sym, ◌∙◌, ap, subst}
@@ -22,12 +23,12 @@ use Rattle.lset_steps.proofs.Discipline.{Outline, Before, Discipline, StepOf, He
 use Rattle.lset_steps.proofs.Replies.{fed, fitted_on, or_false}
 use Rattle.lset_steps.proofs.Held.{LockedStep, rely_same, reads_word, locks_free, finds_locked}
 
--- a call that has made no change is due a reply that fits at a moment of it,
+-- A call without a change can give a reply that is correct at a moment of the call.
 pub due_of : (done : Bool) (q : ℕ) (vs : ℕ → View) (first now t : ℕ) (call : Call) (r : Reply) → done ≡ false
     → FitsSometime q (contents_of vs) (counts_of vs) first now t call r → Due done q vs first now t call r
 due_of done q vs first now t call r unchanged fits = rw unchanged fits
 
--- as at that of its decision,
+-- A call without a change can give a reply that is correct now, at its decision.
 pub due_now : (done : Bool) (q : ℕ) (vs : ℕ → View) (first now t : ℕ) (v : View) (call : Call) (r : Reply)
     → done ≡ false → first ≤ now → vs now ≡ v → FitsIn q v t call r → Due done q vs first (suc now) t call r
 due_now done q vs first now t v call r unchanged from present fits = due_of done q vs first (suc now) t call r unchanged (record {
@@ -37,13 +38,14 @@ due_now done q vs first now t v call r unchanged from present fits = due_of done
   fits = subst (λ w. FitsIn q w t call r) (sym present) fits;
 })
 
--- and stays due it
+-- A reply that is correct stays correct at later moments.
 pub due_on : (done : Bool) (q : ℕ) (vs : ℕ → View) (first now t : ℕ) (call : Call) (r : Reply) → Due done q vs first now t call r
     → Due done q vs first (suc now) t call r
 due_on true q vs first now t call r d = d
 due_on false q vs first now t call r d = fitted_on q vs first now (suc now) t call r (omega arith) d
 
--- what a call that is about to give its locks back is due: none, and then it begins again, or its reply
+-- The outcome of a call that is about to release its locks: a reply that is correct, or no reply, and then the call starts again
+-- without a change.
 abbrev pub Outcome : Bool → ℕ → (ℕ → View) → ℕ → ℕ → ℕ → Call → Option Reply → Type 0
 Outcome done q vs first now t call None = done ≡ false
 Outcome done q vs first now t call (Some reply) = Due done q vs first now t call reply
@@ -53,7 +55,8 @@ pub outcome_on : (done : Bool) (q : ℕ) (vs : ℕ → View) (first now t : ℕ)
 outcome_on done q vs first now t call None o = o
 outcome_on done q vs first now t call (Some reply) o = due_on done q vs first now t call reply o
 
--- HOW THREADS SHARE THE WORDS: which steps a thread may make, loads among them, and what such a step leaves to another thread
+-- A protocol of sharing the words: the steps that a thread can make, all loads included, and the parts that such a step leaves
+-- unchanged for another thread.
 pub record Protocol (marks : Bool) : Type 1 where
   pub step : (sz : Sizes) (t : ℕ) (ws : List ℕ) (used : ℕ → ℕ) → Action → List ℕ → (ℕ → ℕ) → Option (Key × Bool) → Type 0
   pub rely : View → View → ℕ → ℕ → Type 0
@@ -68,7 +71,7 @@ pub record Protocol (marks : Bool) : Type 1 where
       → step sz t ws used a ws' used' change → rely (view sz ws used) (view sz ws' used') sz.quota u
   pub still : (v : View) (q u : ℕ) → rely v v q u
 
--- links are written under node locks,
+-- The protocol of lists that write links only under node locks.
 abbrev pub node_locks : (marks : Bool) → Protocol marks
 node_locks marks = record {
   step = LockedStep marks;
@@ -79,7 +82,8 @@ node_locks marks = record {
   still = rely_same;
 }
 
--- or by whoever finds there what it expects
+-- The protocol of lists without locks: a thread writes a link of the chain only if the link has the value that the thread
+-- expects.
 abbrev pub no_locks : (marks : Bool) → Protocol marks
 no_locks marks = record {
   step = WordStep marks;
@@ -90,17 +94,17 @@ no_locks marks = record {
   still = remains_same;
 }
 
--- what the outline says of a thread stays so through the steps of the others
+-- The outline of a thread still holds after a step of another thread.
 abbrev pub Stands : {marks : Bool} → Protocol marks → Outline → Type 1
 Stands P At = (q t : ℕ) (vs : ℕ → View) (first now : ℕ) (v w : View) (done : Bool) (l : Local) → vs now ≡ v → P.rely v w q t
     → At q t vs first now v done l → At q t vs first (suc now) w done l
 
--- what a thread keeps at a step within its call
+-- The parts of its state that a thread keeps at a step that does not end its call.
 abbrev pub Onward : Sizes → ℕ → Local → Local → Type 0
 Onward sz t l l' = Registers sz t l' × (l'.call ≡ l.call) × (l'.used ≡ l.used) × (l'.pc ≢ 0)
 
--- ONE ROW, for thread t with l: it goes on, or changes the content, or answers, or does both at once. Each of these says what
--- the table has there, what the step does to the words, what the thread holds after it, and what is then known.
+-- One row, made by thread t in state l: it passes on, changes the content, replies, or changes the content and replies in one
+-- step. Each case states the table's row, the step's effect on the words, the thread's state after it, and the outline there.
 pub data Turn (T : Table) (P : Protocol T.marks) (At : Outline) (sz : Sizes) (t : ℕ) (vs : ℕ → View) (first now : ℕ) (ws : List ℕ)
     (used : ℕ → ℕ) (done : Bool) (l : Local) : Type 0 where
   passes : (a : Action) (ws' : List ℕ) (l' : Local)
@@ -123,7 +127,7 @@ pub data Turn (T : Table) (P : Protocol T.marks) (At : Outline) (sz : Sizes) (t 
       → Registers sz t l' → l'.call ≡ l.call → l'.used ≡ used' t → l'.pc ≡ 0
       → At sz.quota t vs first (suc now) (view sz ws' used') true l' → Turn T P At sz t vs first now ws used done l
 
--- a protocol lets a thread try the lock of a node
+-- The protocol allows a thread to attempt to take the lock of a node.
 abbrev pub Locks : {marks : Bool} → Protocol marks → Type 0
 Locks P = (sz : Sizes) (t : ℕ) (ws : List ℕ) (used : ℕ → ℕ) (a : ℕ) → a < node_count sz
     → (node_lock ws a ≡ 0 → P.step sz t ws used (Exchange (lock_index a) 0 (t + 1)) (slice_set ws (lock_index a) (t + 1)) used None)
@@ -132,7 +136,7 @@ Locks P = (sz : Sizes) (t : ℕ) (ws : List ℕ) (used : ℕ → ℕ) (a : ℕ) 
 pub locks_nodes : (marks : Bool) → Locks (node_locks marks)
 locks_nodes marks sz t ws used a inn = (λ free. locks_free a inn free, λ taken. finds_locked a inn taken)
 
--- the row that tries the lock of node a
+-- A row that attempts to take the lock of node a.
 pub tries : {T : Table} {P : Protocol T.marks} {At : Outline} {sz : Sizes} {t : ℕ} {vs : ℕ → View} {first now : ℕ} {ws : List ℕ}
     {used : ℕ → ℕ} {done : Bool} {l : Local}
     → Locks P → (a : ℕ) (on same : Local) → a < node_count sz → T.next l ≡ Exchange (lock_index a) 0 (t + 1)
@@ -149,8 +153,8 @@ tries {P = P} {sz = sz} {t = t} {ws = ws} {used = used} locks a on same inn acts
       ((locks sz t ws used a inn).1 other) again stays
 ]
 
--- WHAT A LIST HAS TO SHOW: its outline holds at the begins, each row is a step of its protocol and keeps the outline for its own
--- thread, and the outline stands through what the others do
+-- The obligations of a list: its outline holds when a call begins; each row is a step of its protocol and keeps the outline of
+-- its own thread; and steps of other threads keep the outline.
 pub record Follows (T : Table) (P : Protocol T.marks) (At : Outline) : Type 1 where
   pub idle_at : (op : Opening) → Opens op → (t : ℕ) (vs : ℕ → View)
       → At op.quota t vs 0 0 (view_of (sizes op) (opening op)) false (idle op.quota t)
@@ -164,8 +168,8 @@ pub record Follows (T : Table) (P : Protocol T.marks) (At : Outline) : Type 1 wh
       → Here T.marks sz vs now ws used → Thread At sz t vs first now ws used done l → t < sz.threads → l.pc ≢ 0
       → Turn T P At sz t vs first now ws used done l
 
--- AN INVARIANT OVER ALL THREADS: an outline may say of the shared words what each step of the protocol keeps. The rows are then
--- shown with `At` alone, where the invariant is known, and the list follows its protocol with `Keeping`.
+-- An invariant over all threads: an outline can include a property of the shared words that each step of the protocol keeps. The
+-- rows are then proved with `At` alone, given the invariant, and the list follows its protocol with `Keeping`.
 abbrev pub Keeping : (View → Type 0) → Outline → Outline
 Keeping Always At q t vs first now v done l = At q t vs first now v done l × Always v
 

@@ -1,5 +1,5 @@
--- What a walk without locks knows of the two nodes that it has come to: not that they are in the chain, but that they are
--- published, and that the key of the call is between theirs.
+-- The knowledge of a walk without locks about the two nodes that it has reached: they are published, and the key of the call is
+-- between their keys. They need not be in the chain.
 use Rattle.std.specs.Prelude.{◌≡◌, ◌≢◌, ℕ, ◌+◌, ◌*◌, ◌/◌, ◌<◌, ◌≤◌, Bool, true, None, List, slice_set}
 use Rattle.std.proofs.Common.{arith, ◌∙◌, ap}
 use Rattle.lset_words.specs.Words.{lock_index, tail_word, node_count, Sizes}
@@ -9,13 +9,13 @@ use Rattle.lset_steps.proofs.Moves.{KeepsNodes}
 use Rattle.lset_steps.proofs.Memory.{Memory, inner, inside, next_published, goes_on}
 use Rattle.lset_steps.proofs.Held.{Behind, locks_free}
 
--- pred is below the key, and curr may come next
+-- pred has a key below the call's, and both nodes are published.
 pub record Spot (v : View) (key pred curr : ℕ) : Type 0 where
   pub pred_published : v.published pred
   pub below : v.key pred < key
   pub curr_published : v.published curr
 
--- and curr has the key word that was read, which is not below
+-- curr has the key word that was read, which is not below the call's.
 pub record Found (v : View) (key pred curr ckey : ℕ) : Type 0 where
   pub spot : Spot v key pred curr
   pub is : v.key curr ≡ ckey
@@ -29,7 +29,7 @@ found_apart {v} {key} {pred} {curr} {ckey} f e =
     let above : key ≤ ckey = f.above in
     omega arith
 
--- through any step
+-- Both are kept by every step.
 module _ {v w : View} (g : KeepsNodes v w) where
   pub same_key_kept : (a : ℕ) {x : ℕ} → v.published a → v.key a ≡ x → w.key a ≡ x
   same_key_kept a p e = g.keys a p ∙ e
@@ -49,12 +49,12 @@ module _ {v w : View} (g : KeepsNodes v w) where
   }
 
 module _ {marks : Bool} {sz : Sizes} {ws : List ℕ} {used : ℕ → ℕ} (m : Memory marks sz ws used) where
-  -- the load of the link of a node below the key,
+  -- Loading the link of a node with a key below the call's finds such a pair of nodes.
   pub spot_behind : {key : ℕ} (a : ℕ) → (view sz ws used).published a → node_key ws a < key
       → Spot (view sz ws used) key a (node_link ws a / 2)
   spot_behind a p below = record { pred_published = p; below = below; curr_published = next_published marks sz ws used m a p }
 
-  -- of the head first
+  -- Loading the link of the head finds such a pair of nodes.
   pub spot_behind_head : {key : ℕ} → 0 < key → Spot (view sz ws used) key 0 (node_link ws 0 / 2)
   spot_behind_head low = let head : node_key ws 0 ≡ 0 = m.head_key in spot_behind 0 m.ordered.head_published (omega arith)
 
@@ -66,14 +66,14 @@ module _ {marks : Bool} {sz : Sizes} {ws : List ℕ} {used : ℕ → ℕ} (m : M
       let top : node_key ws a ≤ node_key ws 1 = m.ordered.top a p in let tail : node_key ws 1 ≡ tail_word = m.tail_key in
       omega arith
 
-  -- what the own try of a lock leaves
+  -- An attempt of the thread to take a lock keeps the nodes.
   pub keeps_locked : {t : ℕ} → t < sz.threads → (a : ℕ) → a < node_count sz → node_lock ws a ≡ 0
       → KeepsNodes (view sz ws used) (view sz (slice_set ws (lock_index a) (t + 1)) used)
   keeps_locked {t} tn a inn free =
       goes_on marks sz ws used m t tn (Exchange (lock_index a) 0 (t + 1)) (slice_set ws (lock_index a) (t + 1)) used None
       (locks_free a inn free).0
 
--- in a list that marks: the load of the link of pred under its lock. A link without a mark says that pred is in the chain.
+-- In a list that marks nodes: loading the link of pred while its lock is held. If the link is not marked, pred is in the chain.
 pub behind_of_load : {sz : Sizes} {ws : List ℕ} {used : ℕ → ℕ} (m : Memory true sz ws used) {t key pred curr : ℕ} → key < tail_word
     → Spot (view sz ws used) key pred curr → node_lock ws pred ≡ t + 1 → node_link ws pred ≡ 2 * curr
     → Behind (view sz ws used) t key pred curr

@@ -1,4 +1,4 @@
--- The chain of a list and its content, as the words and the threads' counts give them (Herlihy and Shavit).
+-- The chain of a list and its content, computed from the words and the threads' counts (Herlihy and Shavit).
 use Rattle.std.specs.Prelude.{◌≡◌, ◌≢◌, ℕ, ◌+◌, ◌/◌, ◌%◌, ◌<◌, ◌≤◌, ◌⊎◌, Bool, true, false, List, [], ◌∷◌, Option, slice_index}
 use Rattle.lset_words.specs.Words.{key_index, link_index, lock_index, slot_node, opening_node, Sizes}
 use Rattle.lset_words.specs.declared.Key.{Key}
@@ -15,8 +15,8 @@ node_link ws a = slice_index ws (link_index a)
 abbrev pub node_lock : List ℕ → ℕ → ℕ
 node_lock ws a = slice_index ws (lock_index a)
 
--- What is read of a world: keys, link words and lock words of the nodes, the list's lock, each thread's count, the published
--- nodes.
+-- The view of a world: keys, link words and lock words of the nodes, the list's lock, each thread's count of successful adds, and
+-- which nodes are published.
 pub record View : Type 1 where
   pub key : ℕ → ℕ
   pub link : ℕ → ℕ
@@ -25,7 +25,7 @@ pub record View : Type 1 where
   pub used : ℕ → ℕ
   pub published : ℕ → Type 0
 
--- Published: head, tail, slot j of a thread t with j below its count, and the nodes of the opening keys.
+-- The published nodes: head, tail, slot j of each thread whose count is above j, and the nodes of the opening keys.
 abbrev pub Published : Sizes → (ℕ → ℕ) → ℕ → Type 0
 Published sz used i = (i < 2) ⊎ ((t : ℕ) × (j : ℕ) × (t < sz.threads) × (j < used t) × (i ≡ slot_node sz.quota t j))
     ⊎ ((j : ℕ) × (j < sz.opening) × (i ≡ opening_node sz j))
@@ -40,24 +40,24 @@ view sz ws used = record {
   published = Published sz used;
 }
 
--- `ns` are the nodes met by `next(link)` from i up to, and without, j.
+-- ns are the nodes reached by links from i on, before j.
 abbrev pub Segment : View → ℕ → List ℕ → ℕ → Type 0
 Segment v i [] j = i ≡ j
 Segment v i (a ∷ ns) j = (a ≡ i) × (i ≢ 1) × Segment v (v.link i / 2) ns j
 
--- b is met from the head.
+-- Node b is reachable from the head.
 abbrev pub InChain : View → ℕ → Type 0
 InChain v b = (ns : List ℕ) × Segment v 0 ns b
 
--- The chain is ns, and then the tail.
+-- The chain consists of ns and the tail.
 abbrev pub IsChain : View → List ℕ → Type 0
 IsChain v ns = Segment v 0 ns 1
 
--- k is the key of an unmarked user node of the chain.
+-- k is the key of an unmarked node of the chain other than head and tail.
 abbrev pub InContent : View → ℕ → Type 0
 InContent v k = (b : ℕ) × InChain v b × (1 < b) × (v.key b ≡ k + 1) × (v.link b % 2 ≡ 0)
 
--- Each published node but the tail leads to a published node with a greater key.
+-- The link of each published node but the tail leads to a published node with a greater key.
 pub record IsOrdered (v : View) : Type 0 where
   pub head_published : v.published 0
   pub tail_published : v.published 1
@@ -65,12 +65,12 @@ pub record IsOrdered (v : View) : Type 0 where
   pub next_published : (i : ℕ) → v.published i → i ≢ 1 → v.published (v.link i / 2)
   pub increases : (i : ℕ) → v.published i → i ≢ 1 → v.key i < v.key (v.link i / 2)
 
--- Lists that mark: each unmarked published node is in the chain. The others have no marks.
+-- In a list that marks nodes, each unmarked published node is in the chain. In any other list no published node is marked.
 abbrev pub UnmarkedInChain : Bool → View → Type 0
 UnmarkedInChain true v = (b : ℕ) → v.published b → v.link b % 2 ≡ 0 → InChain v b
 UnmarkedInChain false v = (b : ℕ) → v.published b → v.link b % 2 ≡ 0
 
--- [Content] of a world, and of the worlds at the moments of a run
+-- [Content] of a world, and its change by an event; and below, the contents at the moments of a run.
 abbrev pub Changed : Option (Key × Bool) → View → View → Type 0
 Changed change v w = Changes change (InContent v) (InContent w)
 
@@ -83,15 +83,15 @@ counts_of vs moment thread = (vs moment).used thread
 abbrev pub FitsIn : ℕ → View → ℕ → Call → Reply → Type 0
 FitsIn quota v thread call reply = Fits quota (InContent v) (v.used thread) call reply
 
--- [Unlinked stays]: node i, published in v, in a later world w. Its key stays; if it is unlinked it is frozen and never in the
--- chain again; in a list that marks, a marked node is frozen.
+-- [Unlinked stays]: node i is published in v, and w is a later world. The key of i is the same. If i was unlinked, its link is
+-- the same and i is not in the chain. In a list that marks nodes, a marked node has the same link.
 pub record UnlinkedStays (marks : Bool) (v w : View) (i : ℕ) : Type 0 where
   pub published : w.published i
   pub key : w.key i ≡ v.key i
   pub unlinked : (InChain v i → ⊥) → (w.link i ≡ v.link i) × (InChain w i → ⊥)
   pub marked : marks ≡ true → v.link i % 2 ≡ 1 → w.link i ≡ v.link i
 
--- [Seen]: at some moment from `first` to `now` of a run node b was in the chain with the link word l.
+-- [Seen]: at some moment from `first` to `now` of a run, node b was in the chain with the link word l.
 pub record Seen (vs : ℕ → View) (first now b l : ℕ) : Type 0 where
   pub at : ℕ
   pub from : first ≤ at

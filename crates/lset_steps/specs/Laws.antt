@@ -1,4 +1,4 @@
--- What holds of every run of a machine: the law that each list carries.
+-- The law that every list proves of its machine, for every run.
 use Rattle.std.specs.Prelude.{◌≡◌, ◌≢◌, ℕ, suc, ◌+◌, ◌<◌, ◌≤◌, ◌⊎◌, ◌%◌, Bool, false, List, Option, Some, None, slice_index, length}
 use Rattle.lset_words.specs.Words.{lock_index, word_count, node_count, tail_word, target, Sizes, Opening, sizes}
 use Rattle.lset_words.specs.declared.Key.{Key}
@@ -14,7 +14,7 @@ use Rattle.lset_steps.specs.declared.Event.TheVariants.{Go}
 use Rattle.lset_steps.specs.Steps.{Table, State, state_at, Run, local_of, seen_next, log_of, idle}
 use Rattle.lset_steps.specs.Chain.{View, view, IsOrdered, InChain, UnmarkedInChain, Changed, UnlinkedStays, Seen, contents_of, counts_of}
 
--- the view of a state, and of each moment of a run
+-- The view of a state; and below, of each moment of a run.
 abbrev pub used_in : State → ℕ → ℕ
 used_in s t = (local_of s t).used
 
@@ -32,7 +32,7 @@ word_named (Exchange w old new) = w
 abbrev pub IsLockWord : ℕ → Type 0
 IsLockWord x = (x ≡ 0) ⊎ ((i : ℕ) × (x ≡ lock_index i))
 
--- what thread t holds: its own numbers, and registers in range
+-- The state of thread t: its own number and quota, and registers in range.
 pub record Registers (sz : Sizes) (t : ℕ) (l : Local) : Type 0 where
   pub thread : l.thread ≡ t
   pub quota : l.quota ≡ sz.quota
@@ -45,7 +45,7 @@ pub record Registers (sz : Sizes) (t : ℕ) (l : Local) : Type 0 where
   pub pkey : l.pkey ≤ tail_word
   pub ckey : l.ckey ≤ tail_word
 
--- every state
+-- The properties of every state of a run.
 pub record StateLaws (marks : Bool) (sz : Sizes) (s : State) : Type 0 where
   pub words : length s.words ≡ word_count sz
   pub locals : length s.locals ≡ sz.threads
@@ -57,35 +57,35 @@ pub record StateLaws (marks : Bool) (sz : Sizes) (s : State) : Type 0 where
   pub marked : UnmarkedInChain marks (view_of sz s)
   pub unmarked : marks ≡ false → (i : ℕ) → i < node_count sz → (view_of sz s).link i % 2 ≡ 0
 
--- a lock word is touched only by a thread's attempt to take it, or by its storing of 0 if it has the lock
+-- A lock word is accessed only by an attempt to take the lock, or by the store of 0 of the thread that holds it.
 abbrev pub LockUse : List ℕ → ℕ → Action → Type 0
 LockUse ws t (Load w) = Unit {0}
 LockUse ws t (Store w v) = IsLockWord w → (v ≡ 0) × (slice_index ws w ≡ t + 1)
 LockUse ws t (Exchange w old new) = IsLockWord w → (old ≡ 0) × (new ≡ t + 1)
 
--- the reply of a call that has made a change, or none
+-- The reply is correct: True after a change, and otherwise a reply that the set returns at some moment of the call.
 abbrev pub Due : Bool → ℕ → (ℕ → View) → ℕ → ℕ → ℕ → Call → Reply → Type 0
 Due done q vs first now t call r = RightReply done q (contents_of vs) (counts_of vs) first now t call (Some r)
 
--- a call ends exactly if it replies
+-- A call ends exactly if it replies.
 abbrev pub Answered : Bool → ℕ → (ℕ → View) → ℕ → ℕ → ℕ → Call → ℕ → Option Reply → Type 0
 Answered done q vs first now t call pc None = pc ≢ 0
 Answered done q vs first now t call pc (Some r) = (pc ≡ 0) × Due done q vs first now t call r
 
--- Each step of thread t with l, the one after the first k events; `change` is its change:
+-- The laws of a step of thread t in state l, made after the first k events. `change` is its change of the content.
 pub record StepLaws (T : Table) (op : Opening) (es : ℕ → Event) (k t : ℕ) (s : State) (l : Local)
     (change : Option (Key × Bool)) : Type 0 where
-  -- its word is one of the table,
+  -- Its word is a word of the table.
   pub in_table : word_named (T.next l) < word_count (sizes op)
-  -- it touches a lock word only as a lock,
+  -- It accesses a lock word only as a lock.
   pub lock_use : LockUse s.words t (T.next l)
   pub same_call : (T.feed l (seen_next T s t)).local.call ≡ l.call
-  -- the content changes by that, and by nothing else,
+  -- The content changes by `change`, and by nothing else.
   pub content : Changed change (views T op es k) (views T op es (suc k))
-  -- a change is that of its call,
+  -- The change is one that its call can make.
   pub by_call : MayChange op.quota l.used l.call (has_changed (log_of T op es) t k) change
   pub counts : (T.feed l (seen_next T s t)).local.used ≡ count_after change l.used
-  -- and if it replies, the call ends with a right reply.
+  -- If it replies, the call ends with a correct reply.
   pub answered : Answered (has_changed (log_of T op es) t (suc k)) op.quota (views T op es)
       (begun_at (log_of T op es) t (suc k)) (suc k) t l.call
       (T.feed l (seen_next T s t)).local.pc (T.feed l (seen_next T s t)).answer
@@ -95,38 +95,38 @@ StepAt T op es k t =
     StepLaws T op es k t (state_at T op es k) (local_of (state_at T op es k) t)
     (T.effect (local_of (state_at T op es k) t) (seen_next T (state_at T op es k) t))
 
--- What a thread that held l holds when it has begun a call:
+-- The laws of beginning a call, for a thread in state l.
 pub record BeginLaws (begin : Call → Local → Local) (call : Call) (l : Local) : Type 0 where
   pub called : (begin call l).call ≡ call
   pub used : (begin call l).used ≡ l.used
   pub opened : (begin call l).pc ≢ 0
-  -- of what it held, only its number, its quota and its count of successful adds have a part in it.
+  -- Only its number, its quota and its count of successful adds are kept.
   pub alike : begin call l ≡ begin call (record (idle l.quota l.thread) { used = l.used })
 
--- THE LAW OF A MACHINE
+-- The law of a machine.
 pub record Lawful (T : Table) : Type 0 where
   pub begins : (call : Call) (l : Local) → BeginLaws T.begin call l
-  -- what is so in every state of every run,
+  -- Every state of every run has the properties of states.
   pub states : (op : Opening) (last k : ℕ) (es : ℕ → Event) → Run T op es last → k ≤ last →
       StateLaws T.marks (sizes op) (state_at T op es k)
-  -- at every step,
+  -- Every step has the properties of steps.
   pub steps : (op : Opening) (last k t : ℕ) (es : ℕ → Event) → Run T op es last → k < last → es k ≡ Go t → StepAt T op es k t
-  -- and of a node from a moment to a later one
+  -- A published node keeps its key, and an unlinked one its link, up to every later moment.
   pub unlinked_stays : (op : Opening) (last j k i : ℕ) (es : ℕ → Event) → Run T op es last → j ≤ k → k ≤ last
       → (views T op es j).published i
       → UnlinkedStays T.marks (views T op es j) (views T op es k) i
-  -- and what is read at a later moment of a node that was in the chain
+  -- A link read later from a node that was in the chain is one that the node had in the chain.
   pub seen_before : (op : Opening) (last j k b : ℕ) (es : ℕ → Event) → Run T op es last → j ≤ k → k ≤ last
       → InChain (views T op es j) b
       → Seen (views T op es) j k b ((views T op es k).link b)
 
--- the limits are met, k events have run, and thread t has an open call
+-- A run of k events within the limits, after which thread t has a pending call.
 pub record UnderWay (T : Table) (op : Opening) (es : ℕ → Event) (k t : ℕ) : Type 0 where
   pub run : Run T op es k
   pub thread : t < op.threads
   pub open_call : (local_of (state_at T op es k) t).pc ≢ 0
 
--- a thread with an open call has this Local in some run, and sees this value at its next step
+-- A thread with a pending call has the state l at some moment of some run; and below, sees this value at its next step.
 abbrev pub Occurs : Table → Local → Type 0
 Occurs T l = (op : Opening) × (es : ℕ → Event) × (k : ℕ) × (t : ℕ) × UnderWay T op es k t
     × (local_of (state_at T op es k) t ≡ l)

@@ -1,5 +1,5 @@
--- The rows of a contains and of a ceiling that take no lock and write nothing (Herlihy and Shavit's wait-free contains):
--- rows 20 and 23 load a link, 21 and 24 the key behind it, and 22 and 25 the mark of the node at which it stops.
+-- The rows of a contains and of a ceiling that take no lock and write nothing (Herlihy and Shavit's wait-free contains). Rows 20
+-- and 23 load a link, 21 and 24 the key of the node it leads to, and 22 and 25 the mark of the node at which the walk stops.
 use Rattle.std.specs.Prelude.{ℕ, ◌/◌, ◌%◌, if◌then◌else◌, Some, None, ◌==◌, nat_lt}
 use Rattle.lset_words.specs.declared.Call.{Call}
 use Rattle.lset_words.specs.declared.Call.TheVariants.{Add, Remove, Contains, Ceiling}
@@ -12,7 +12,7 @@ use Rattle.lset_steps.specs.declared.Action.TheVariants.{Load}
 use Rattle.lset_steps.specs.declared.Fed.{Fed}
 use Rattle.lset_steps.specs.Rows.{begun, ceiling_at}
 
--- a call begins at row 1, a contains at row 20, a ceiling at row 23
+-- The first row of a call: 20 for contains, 23 for ceiling, 1 for the others.
 abbrev pub first_row : Call → ℕ
 first_row (Add k) = 1
 first_row (Remove k) = 1
@@ -43,14 +43,15 @@ read_key l seen =
 abbrev pub read_mark : Local → ℕ → Fed
 read_mark l seen = if seen % 2 == 0 then leaves_with True l else leaves_with False l
 
--- a ceiling walks to the first key that is not below its own, which is the tail's if there is none
+-- A ceiling that has read a key word: it continues below its own key, replies Nothing at the tail, and else loads the node's
+-- mark.
 abbrev pub ceiling_key : Local → ℕ → Fed
 ceiling_key l seen =
     if nat_lt seen (target l.call) then continued (record l { pc = 23; ckey = seen })
     else if seen == tail_word then leaves_with Nothing (record l { ckey = seen })
     else continued (record l { pc = 25; ckey = seen })
 
--- and replies it if its node has no mark; else it starts again from the head
+-- A ceiling that has read the mark of the node: it replies the node's key, or starts again from the head if the node is marked.
 abbrev pub ceiling_mark : Local → ℕ → Fed
 ceiling_mark l seen = if seen % 2 == 0 then leaves_with (ceiling_at l.ckey) l else continued (record l { pc = 23; curr = 0 })
 

@@ -1,5 +1,5 @@
--- What the rows of all tables share: the nodes and words that they name, and what a call does at the first key that is not below
--- its own.
+-- The parts of rows that all tables share: the nodes and words they name, and the decision of a call at the first key that is not
+-- below its own.
 use Rattle.std.specs.Prelude.{ℕ, ◌-◌, ◌<◌, ◌≤◌, Bool, if◌then◌else◌, Option, Some, None, ◌==◌, nat_lt}
 use Rattle.lset_words.specs.declared.TheConstants.{MOST_THREADS, MOST_QUOTA, MOST_NODES}
 use Rattle.lset_words.specs.declared.Call.{Call}
@@ -11,24 +11,24 @@ use Rattle.lset_steps.specs.declared.Local.{Local}
 use Rattle.lset_steps.specs.Steps.{idle}
 use Rattle.lset_steps.specs.declared.rows.Targets.{Targets}
 
--- the slot that the thread's next successful add puts into the chain
+-- The slot that the thread's next successful add links into the chain.
 abbrev pub own_slot : Local → ℕ
 own_slot l = slot_node l.quota l.thread l.used
 
--- a thread that has begun a call: as one that is idle, but for the call and what it has used
+-- A thread that has begun a call: in the idle state but for the call, its row, and the slots used.
 abbrev pub begun : ℕ → Call → Local → Local
 begun pc call l = record (idle l.quota l.thread) { used = l.used; call = call; pc = pc }
 
--- on to another row, with a reply
+-- Continues at another row, with a reply or none yet.
 abbrev pub goes_to : ℕ → Option Reply → Local → Local
 goes_to pc reply l = record l { pc = pc; reply = reply }
 
--- the reply of a ceiling that stops at a key word: its key, or at that of the tail that there is none
+-- The reply of a ceiling that stops at a key word: its key, or Nothing at the tail.
 abbrev pub ceiling_at : ℕ → Reply
 ceiling_at word = if nat_lt word tail_word then At (record { 0 = word - 1 }) else Nothing
 
--- on to the row that adds, to the one that removes, or with a reply to the one that leaves: by whether the key was found, and
--- whether the quota allows another successful add; a ceiling leaves with the key of the key word, or with none
+-- The decision of a call: to add, to remove, or to leave with a reply. It depends on whether the key was found and whether the
+-- quota allows another successful add. A ceiling leaves with the key of the key word, or with Nothing.
 abbrev pub decided : ℕ → ℕ → ℕ → Call → Bool → Bool → ℕ → Local → Local
 decided adds removes leaves (Add k) found room key l =
     if found then goes_to leaves (Some False) l else if room then goes_to adds None l else goes_to leaves (Some Full) l
@@ -37,11 +37,11 @@ decided adds removes leaves (Contains k) found room key l = if found then goes_t
     else goes_to leaves (Some False) l
 decided adds removes leaves (Ceiling k) found room key l = goes_to leaves (Some (ceiling_at key)) l
 
--- the decision on a key word
+-- The decision at a key word.
 abbrev pub decided_on : Targets → ℕ → Local → Local
 decided_on rows key l = decided rows.adds rows.removes rows.leaves l.call (key == target l.call) (nat_lt l.used l.quota) key l
 
--- every number is small enough to compute with
+-- All numbers of a thread's state are small enough to compute with.
 pub record IsSmall (l : Local) : Type 0 where
   pub thread : l.thread < MOST_THREADS
   pub quota : l.quota ≤ MOST_QUOTA

@@ -15,8 +15,9 @@ mod world;
 use lset_words::{Call, Key, Kind, Layout, Reply};
 pub use world::{ChainKey, StepFault, World, opening_words};
 
-/// The private state of a thread: its number, its quota and the slots that it has used, its call with the program counter (0
-/// if no call is pending) and the reply, and the registers. One value of the program counter is one row of the list's table.
+/// The private state of a thread: its number, its quota and the slots it has used; its call with the reply and the program
+/// counter, which is 0 if no call is pending; and its registers. Each value of the program counter is one row of the list's
+/// table.
 #[derive(Clone, Copy)]
 pub struct Local {
     pub thread: u32,
@@ -34,14 +35,14 @@ pub struct Local {
 }
 
 impl Local {
-    /// Returns the state of thread `t`, which must be below the layout's threads, before its first call.
+    /// Returns the state of thread `t` before its first call. `t` must be below the layout's number of threads.
     pub fn idle(layout: &Layout, t: u32) -> Local
         ensures { result ≡ idle layout.now.quota t }
     {
         Local::at_rest(t, layout.quota())
     }
 
-    /// A thread that has used no slot and begun no call.
+    /// Returns the state of a thread that has used no slot and begun no call.
     pub(crate) fn at_rest(thread: u32, quota: u32) -> Local
         ensures { result ≡ idle quota thread }
     {
@@ -63,7 +64,7 @@ impl Local {
 }
 
 /// One atomic access of one 64-bit word: the word's index, then the values. An exchange writes its second value if the word
-/// holds the first.
+/// contains the first.
 #[derive(Clone, Copy)]
 pub enum Action {
     Load(u64),
@@ -71,7 +72,7 @@ pub enum Action {
     Exchange(u64, u64, u64),
 }
 
-/// A thread's state after a step, and the reply if the step ends the call.
+/// The state of a thread after a step, and the reply if the step ends the call.
 #[derive(Clone, Copy)]
 pub struct Fed {
     pub local: Local,
@@ -85,7 +86,7 @@ pub enum Event {
     Go(u32),
 }
 
-/// What an event did: the reply, if it ended a call; and the key that it added (`true`) or removed (`false`), if it changed
+/// The outcome of an event: the reply, if it ended a call; and the key that it added (`true`) or removed (`false`), if it changed
 /// the set.
 #[derive(Clone, Copy, Debug, PartialEq, Eq)]
 pub struct Told {
@@ -93,9 +94,9 @@ pub struct Told {
     pub change: Option<(Key, bool)>,
 }
 
-/// A list set as a step table: each function is about one step of one thread. The five lists are Herlihy and Shavit's
-/// algorithms. `seen` is the value that was loaded or stored, or that the word held before an exchange, which succeeded if
-/// that is its first value.
+/// A list set as a step table. Each function describes one step of one thread. The five lists are Herlihy and Shavit's
+/// algorithms. `seen` is the value that was loaded or stored; for an exchange it is the value before the exchange, which
+/// succeeded if `seen` is the expected value.
 pub trait Machine {
     const KIND: Kind;
 
@@ -103,23 +104,23 @@ pub trait Machine {
 
     ghost table: { Table };
 
-    /// Returns the thread's state when it has begun the call. It must have no call pending.
+    /// Returns the state of a thread after it begins `call`. The thread must have no pending call.
     fn begin(call: Call, local: &Local) -> Local
         ensures { result ≡ table.begin call local.now };
 
-    /// Returns the next step of a thread with a pending call. `local` must be a state of a world of a run.
+    /// Returns the next step of a thread with a pending call. `local` must occur in a world of a run.
     fn next(local: &Local) -> Action
         requires { Occurs table local.now }
         ensures { result ≡ table.next local.now };
 
-    /// Returns the thread's state after its next step, and the reply if that ends the call. `local` and `seen` must be of a
-    /// world of a run.
+    /// Returns the thread's state after its next step, and the reply if the step ends the call. `local` and `seen` must occur in
+    /// a world of a run.
     fn feed(local: &Local, seen: u64) -> Fed
         requires { Sees table local.now seen }
         ensures { result ≡ table.feed local.now seen };
 
-    /// Returns the key that the next step adds (`true`) or removes (`false`); `None` if it does not change the set. `local`
-    /// and `seen` must be of a world of a run.
+    /// Returns the key that the next step adds (`true`) or removes (`false`); `None` if the step does not change the set. `local`
+    /// and `seen` must occur in a world of a run.
     fn effect(local: &Local, seen: u64) -> Option<(Key, bool)>
         requires { Sees table local.now seen }
         ensures { result ≡ table.effect local.now seen };
@@ -127,10 +128,10 @@ pub trait Machine {
     ghost lawful: { Lawful table };
 }
 
-/// A list whose `contains` takes no lock and writes nothing, so that it does not block (Herlihy and Shavit's wait-free
+/// A list whose `contains` takes no lock and writes nothing. Such a `contains` does not block (Herlihy and Shavit's wait-free
 /// `contains`).
 pub trait OpenReads: Machine {
-    /// Returns the maximum number of steps of a `contains`, whatever the other threads do. Each of them is a load.
+    /// Returns the maximum number of steps of a `contains`, whatever the other threads do. Each step is a load.
     fn bound(layout: &Layout) -> u64
         ensures { result ≡ most_reads layout.now }
     {

@@ -6,8 +6,8 @@ use crate::rows::{TAIL_WORD, begun, ceiling_at, key_index, link_index};
 use crate::{Action, Fed, Local};
 use lset_words::{Call, Reply};
 
-/// Returns the state of a thread that has begun a call, at the first row of its kind. A `contains` and a `ceiling` have rows
-/// of their own, which take no lock and write nothing (Herlihy and Shavit's wait-free `contains`).
+/// Returns the state of a thread that has begun a call, at the first row of that kind of call. `contains` and `ceiling` have
+/// their own rows, which take no lock and write nothing (Herlihy and Shavit's wait-free `contains`).
 #[inline(always)]
 pub fn begun_reading(call: Call, local: &Local) -> Local
     ensures { result ≡ begun_reading call local.now }
@@ -20,7 +20,7 @@ pub fn begun_reading(call: Call, local: &Local) -> Local
     begun(pc, call, local)
 }
 
-/// A step after which the call goes on, with this state.
+/// Returns a step after which the call continues in the given state.
 #[inline(always)]
 pub fn continued(local: Local) -> Fed
     ensures { result ≡ continued local }
@@ -31,7 +31,7 @@ pub fn continued(local: Local) -> Fed
     }
 }
 
-/// A step that ends the call with this reply.
+/// Returns a step that ends the call with `reply`.
 #[inline(always)]
 pub fn leaves_with(reply: Reply, local: Local) -> Fed
     ensures { result ≡ leaves_with reply local }
@@ -55,8 +55,8 @@ pub fn read_action(local: &Local) -> Action
     }
 }
 
-/// A `ceiling` that has read a key word: it goes on to the first that is not below its own, and answers at the tail's that
-/// there is none.
+/// Returns the step of a `ceiling` that has read a key word. The walk continues while the key word is below the call's own, and
+/// the call replies `Nothing` at the tail.
 #[inline(always)]
 fn ceiling_key(local: &Local, seen: u64) -> Fed
     ensures { result ≡ ceiling_key local.now seen }
@@ -74,8 +74,8 @@ fn ceiling_key(local: &Local, seen: u64) -> Fed
     }
 }
 
-/// A `ceiling` that has read the link of the node at which it stops: it answers that node's key, or starts again from the
-/// head if the node has a mark.
+/// Returns the step of a `ceiling` that has read the link of the node at which it stopped. The call replies that node's key, or
+/// starts again from the head if the node is marked.
 #[inline(always)]
 fn ceiling_mark(local: &Local, seen: u64) -> Fed
     ensures { result ≡ ceiling_mark local.now seen }
@@ -91,9 +91,9 @@ fn ceiling_mark(local: &Local, seen: u64) -> Fed
     }
 }
 
-/// Returns the thread's state after the next step of a `contains` or a `ceiling` that takes no lock, and the reply if that
-/// ends the call. A `contains` walks to the first key that is not below its own, and replies whether it is its own, in a
-/// node without a mark.
+/// Returns the thread's state after the next step of a `contains` or a `ceiling` that takes no lock, and the reply if the step
+/// ends the call. A `contains` walks to the first key that is not below its own. It replies `True` if that is its own key and the
+/// node is not marked.
 #[inline(always)]
 pub fn read_fed(local: &Local, seen: u64) -> Fed
     ensures { result ≡ read_fed local.now seen }

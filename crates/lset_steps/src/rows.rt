@@ -6,7 +6,7 @@ use crate::{Action, Local};
 use lset_words::{Call, Key, MOST_NODES, Reply, slot_node};
 pub use lset_words::{key_index, link_index, lock_index};
 
-/// Returns the number of the slot that the thread's next successful `add` links into the chain.
+/// Returns the node of the slot that the thread's next successful `add` links into the chain.
 #[inline(always)]
 pub fn own_slot(local: &Local) -> u64
     requires { IsSmall local.now }
@@ -16,8 +16,8 @@ pub fn own_slot(local: &Local) -> u64
     slot_node(local.quota, local.thread, local.used)
 }
 
-/// Returns the attempt to take the lock of a node, numbered below `2^62`: an exchange of 0, which is a free lock, for the
-/// thread's number plus 1. (Herlihy and Shavit's node locks.)
+/// Returns the attempt to take the lock of `node`, which must be below `2^62`: an exchange of 0, a free lock, for the thread's
+/// number plus 1. (Herlihy and Shavit's node locks.)
 #[inline(always)]
 pub fn try_lock(node: u64, local: &Local) -> Action
     requires { node < 2 ^ 62 }
@@ -26,7 +26,7 @@ pub fn try_lock(node: u64, local: &Local) -> Action
     Action::Exchange(lock_index(node), 0, u64::from(local.thread) + 1)
 }
 
-/// Returns the state of a thread that has begun a call, at the row `pc`, with registers 0.
+/// Returns the state of a thread that has begun a call, at row `pc`, with all registers 0.
 #[inline(always)]
 pub fn begun(pc: u8, call: Call, local: &Local) -> Local
     ensures { result ≡ begun pc call local.now }
@@ -42,7 +42,7 @@ pub fn begun(pc: u8, call: Call, local: &Local) -> Local
 /// The key word of the tail, `2^32 + 1`.
 pub const TAIL_WORD: u64 = 4_294_967_297;
 
-/// Returns the reply of a `ceiling` that stops at this key word: its key, or `Nothing` at the tail's.
+/// Returns the reply of a `ceiling` that stops at this key word: its key, or `Nothing` at the tail.
 #[inline(always)]
 pub fn ceiling_at(word: u64) -> Reply
     ensures { result ≡ ceiling_at word }
@@ -54,7 +54,7 @@ pub fn ceiling_at(word: u64) -> Reply
     }
 }
 
-/// The rows of a table at which a call continues from its decision: to add, to remove, or to leave with a reply.
+/// The rows at which a call continues after its decision: to add, to remove, or to leave with a reply.
 #[derive(Clone, Copy)]
 pub struct Targets {
     pub adds: u8,
@@ -62,9 +62,9 @@ pub struct Targets {
     pub leaves: u8,
 }
 
-/// Decides a call at the first key word that is not below its own. An `add` of a key that is there, and a `remove` or
-/// `contains` of one that is not, leave with `False`; an `add` beyond the quota with `Full`; a `ceiling` with the word's
-/// key, or `Nothing`. Any other call continues at its row of `Targets`.
+/// Decides a call at the first key word that is not below its own. `add` leaves with `False` if the key is present, and with
+/// `Full` if the quota is used up. `remove` and `contains` leave with `False` if the key is absent. `ceiling` leaves with the
+/// word's key, or `Nothing` at the tail. Any other call continues at its row of `Targets`.
 #[inline(always)]
 pub fn decide(rows: Targets, key: u64, local: Local) -> Local
     ensures { result ≡ decided_on rows key local }

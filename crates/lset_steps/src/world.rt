@@ -17,16 +17,16 @@ use std::alloc::{AllocError, Global};
 use std::marker::{Model, PhantomData};
 use thiserror::Error;
 
-/// Why `World::step` refused an event: the first of these that applies.
+/// The error of `World::step`: the first of these that applies. The world is unchanged.
 #[derive(Clone, Copy, Debug, PartialEq, Eq, Error)]
 pub enum StepFault {
-    /// There is no such thread.
+    /// The thread does not exist.
     #[error("no such thread")]
     NoThread,
-    /// The thread that is to begin a call has one open.
+    /// The thread already has a pending call and cannot begin another.
     #[error("a call of the thread is open")]
     Busy,
-    /// The thread that is to make a step has no call open.
+    /// The thread has no pending call and cannot make a step.
     #[error("no call of the thread is open")]
     Idle,
 }
@@ -38,7 +38,7 @@ pub struct ChainKey {
     pub marked: bool,
 }
 
-/// The words of a list and the state of each thread, after the events of a run of the machine `M`. It executes a run event
+/// The words of a list and the state of each thread, after the events of a run of the machine `M`. A world executes a run event
 /// by event, in one thread.
 #[derive(Drop)]
 pub struct World<M: Machine> {
@@ -65,7 +65,7 @@ impl<M: Machine> Model for World<M> {
     }) };
 }
 
-/// The node of the first opening key; with no opening keys the number of nodes.
+/// Returns the node of the first opening key; without opening keys, the number of nodes.
 fn first_opening_node(layout: &Layout) -> u64
     ensures node { result ≡ opening_node layout.now 0 }
     ensures few { result + layout.now.opening ≤ MOST_NODES }
@@ -74,7 +74,7 @@ fn first_opening_node(layout: &Layout) -> u64
     2 + u64::from(layout.threads()) * u64::from(layout.quota())
 }
 
-/// The node of the opening key `i`, or the tail if there are no more.
+/// Returns the node of opening key `i`, or the tail if there are no more.
 fn opening_next(layout: &Layout, i: u64) -> u64
     requires { i ≤ layout.now.opening }
     ensures node { result ≡ opening_next layout.now i }
@@ -141,8 +141,8 @@ fn opening_word_at(layout: &Layout, keys: &[u32], i: u64) -> u64
 }
 
 /// Returns the words of a list before any event: a chain from the head over the nodes of the opening keys to the tail, free
-/// locks, and unused slots of zeros. `keys` must be as many as the opening keys of `layout`. Allocates one vector, of
-/// `layout.words()` words, at most 6,291,465; `AllocError` if that fails.
+/// locks, and unused slots of zeros. `keys` must have as many keys as `layout` has opening keys. Allocates one vector of
+/// `layout.words()` words, at most 6,291,465; `AllocError` if the allocation fails.
 pub fn opening_words(alloc: Global, layout: &Layout, keys: &[u32]) -> Result<Vec<u64>, AllocError>
     requires { length keys.now ≡ layout.now.opening }
     ensures words { IfOk result (λ v. v.items ≡ (opening (opening_of layout.now keys.now)).words) }
@@ -154,7 +154,7 @@ pub fn opening_words(alloc: Global, layout: &Layout, keys: &[u32]) -> Result<Vec
     for i in 0..9 {
         words.push(opening_word_at(layout, keys, i))?;
     }
-    // (the slots: all but a few of the words, in one fill)
+    // (the slots are almost all of the words: one fill writes them)
     words.resize(behind_slots as usize, 0)?;
     for i in behind_slots..words_in_all {
         words.push(opening_word_at(layout, keys, i))?;
@@ -195,7 +195,7 @@ fn access(words: &mut Vec<u64>, action: Action) -> u64
     }
 }
 
-/// What an access will see.
+/// Returns the value that an access will see.
 fn sight(words: &[u64], action: Action) -> u64
     requires { word_named action < length words.now }
     ensures { result ≡ seen_by words.now action }
@@ -208,7 +208,7 @@ fn sight(words: &[u64], action: Action) -> u64
 
 impl<M: Machine> World<M> {
     /// Returns the world of a list that opens empty, before any event: every thread is idle. The layout must have no opening
-    /// keys. Allocates the table and the states of the threads; `AllocError` if that fails.
+    /// keys. Allocates the table and the states of the threads; `AllocError` if an allocation fails.
     pub fn new(alloc: Global, layout: Layout) -> Result<World<M>, AllocError>
         requires { layout.opening ≡ 0 }
         ensures { IfOk result (λ w. w ≡ record {
@@ -219,9 +219,9 @@ impl<M: Machine> World<M> {
         World::opened(alloc, layout, &[])
     }
 
-    /// Returns the world of a list that opens with `keys`, before any event: every thread is idle. `keys` must be in
-    /// strictly increasing order, and as many as the layout's opening keys. They are in the set from moment 0, and any
-    /// thread may remove them. Allocates the table and the states of the threads; `AllocError` if that fails.
+    /// Returns the world of a list that opens with `keys`, before any event: every thread is idle. `keys` must be in strictly
+    /// increasing order, and as many as the layout's opening keys. They are in the set from moment 0, and any thread can remove
+    /// them. Allocates the table and the states of the threads; `AllocError` if an allocation fails.
     pub fn opened(alloc: Global, layout: Layout, keys: &[u32]) -> Result<World<M>, AllocError>
         requires many { length keys.now ≡ layout.opening }
         requires rising { IsStrictlyIncreasing keys.now }
@@ -248,7 +248,7 @@ impl<M: Machine> World<M> {
         self.words[w as usize]
     }
 
-    /// Whether thread `t`, which must be below the number of threads, has a pending call.
+    /// Returns whether thread `t` has a pending call. `t` must be below the number of threads.
     pub fn busy(&self, t: u32) -> bool
         requires { t < self.now.sizes.threads }
         ensures { IsTrue result ↔ ((local_of self.now.state t).pc ≢ 0) }
@@ -256,7 +256,7 @@ impl<M: Machine> World<M> {
         self.locals[t as usize].pc != 0
     }
 
-    /// Returns the state of thread `t`; `None` if there is no such thread.
+    /// Returns the state of thread `t`; `None` if the thread does not exist.
     pub fn holds(&self, t: u32) -> Option<Local>
         ensures { MatchOption result (self.now.sizes.threads ≤ t) (λ l.
             (t < self.now.sizes.threads) × (l ≡ local_of self.now.state t)) }
@@ -268,7 +268,7 @@ impl<M: Machine> World<M> {
         }
     }
 
-    /// Returns the next access of thread `t` and the value that it will see; `None` if there is no such thread, or it has no
+    /// Returns the next access of thread `t` and the value that it will see. `None` if the thread does not exist or has no
     /// pending call.
     pub fn next(&self, t: u32) -> Option<(Action, u64)>
         ensures { MatchOption result (Enabled self.now.state (Event.Go t) → ⊥) (λ s. Enabled self.now.state (Event.Go t)
@@ -280,8 +280,8 @@ impl<M: Machine> World<M> {
         Some(self.next_access(t))
     }
 
-    /// Returns the keys of the set in strictly increasing order: those of the unmarked nodes of the chain between head and
-    /// tail. Allocates one vector; `AllocError` if that fails, and the world is as it was.
+    /// Returns the keys of the set in strictly increasing order: the keys of the unmarked nodes of the chain between head and
+    /// tail. Allocates one vector; `AllocError` if that fails, and the world is unchanged.
     pub fn content(&self) -> Result<Vec<u32>, AllocError>
         ensures { IfOk result (λ v. IsContent (view_of self.now.sizes self.now.state) v.items) }
     {
@@ -289,8 +289,8 @@ impl<M: Machine> World<M> {
     }
 
     /// Returns the keys of the nodes of the chain between head and tail, in the chain's order, each with whether its node is
-    /// marked. Allocates one vector; `AllocError` if that fails, and the world is as it was. (Herlihy and Shavit's lists;
-    /// the marks are Harris's.)
+    /// marked. Allocates one vector; `AllocError` if that fails, and the world is unchanged. (Herlihy and Shavit's lists; the
+    /// marks are Harris's.)
     pub fn chain(&self) -> Result<Vec<ChainKey>, AllocError>
         ensures keys { IfOk result (λ v. AreChainKeys (view_of self.now.sizes self.now.state) v.items) }
         ensures content { IfOk result (λ v.
@@ -299,7 +299,7 @@ impl<M: Machine> World<M> {
         self.walk(|met| Some(met))
     }
 
-    /// Walks along the chain from head to tail, and keeps what `pick` picks of the keys between them.
+    /// Walks along the chain from head to tail, and collects the results of `pick` for the keys between them.
     fn walk<T: Copy, F: Fn(ChainKey) -> Option<T>>(&self, pick: F) -> Result<Vec<T>, AllocError>
         requires { F.IsAlwaysCallable pick }
         ensures { IfOk result (λ v.
@@ -321,7 +321,7 @@ impl<M: Machine> World<M> {
         Ok(picked)
     }
 
-    /// What is so in every state of every run.
+    /// Lemma: a world satisfies the laws that hold in every state of every run.
     fn keeps_its_laws(&self)
         ensures { StateLaws M.table.marks self.now.sizes self.now.state }
     {
@@ -382,7 +382,7 @@ impl<M: Machine> World<M> {
         }
     }
 
-    /// Makes the next step of a thread, given what it holds.
+    /// Makes the next step of thread `t`, whose state is `local`.
     #[inline(always)]
     fn go_holding(&mut self, t: u32, local: Local) -> Told
         requires call { Enabled self.old.state (Event.Go t) }
@@ -402,9 +402,8 @@ impl<M: Machine> World<M> {
         }
     }
 
-    /// Makes the next step of a thread whose call is at the row `PC`. The row is a number that the compiler knows, so that of
-    /// the machine's `next`, `feed` and `effect` this row alone is left, and of what the thread holds only what the row changes
-    /// is written.
+    /// Makes the next step of a thread whose call is at row `PC`. `PC` is a constant for the compiler: it compiles only this row
+    /// of the machine's `next`, `feed` and `effect`, and writes only the parts of the thread's state that the row changes.
     #[inline(always)]
     fn go_at<const PC: u8>(&mut self, t: u32) -> Told
         requires call { Enabled self.old.state (Event.Go t) }
@@ -416,7 +415,7 @@ impl<M: Machine> World<M> {
         self.go_holding(t, Local { pc: PC, ..held })
     }
 
-    /// Makes the next step of a thread whose call is at a row that `go` does not name.
+    /// Makes the next step of a thread whose call is at a row without an arm in `go`.
     fn go_elsewhere(&mut self, t: u32) -> Told
         requires { Enabled self.old.state (Event.Go t) }
         ensures new { self.new ≡ record self.old { state = after M.table self.old.state (Event.Go t) } }
@@ -426,8 +425,8 @@ impl<M: Machine> World<M> {
         self.go_holding(t, held)
     }
 
-    /// Makes the next step of a thread, by the code of its row. It names each row of the five tables; a table with further rows
-    /// is right without an arm for them here, and slower there.
+    /// Makes the next step of a thread, by the code of its row. The arms cover each row of the five tables. A table with further
+    /// rows works without an arm for them here, but their steps are slower.
     #[inline(always)]
     fn go(&mut self, t: u32) -> Told
         requires { Enabled self.old.state (Event.Go t) }
@@ -460,14 +459,14 @@ impl<M: Machine> World<M> {
         }
     }
 
-    /// Executes one event, and returns the reply and the change of the set that it made. Does not allocate.
+    /// Executes one event, and returns its reply and its change of the set. Does not allocate.
     ///
     /// # Errors
     ///
-    /// For an event that is not enabled, the first that applies; the world is then as it was:
-    /// - `NoThread`: there is no such thread;
-    /// - `Busy`: the thread begins a call while it has one pending;
-    /// - `Idle`: the thread makes a step while it has no call pending.
+    /// Returns the first error that applies if the event is not enabled. The world is then unchanged.
+    /// - `NoThread`: the thread does not exist;
+    /// - `Busy`: the thread already has a pending call and cannot begin another;
+    /// - `Idle`: the thread has no pending call and cannot make a step.
     #[inline(always)]
     pub fn step(&mut self, event: Event) -> Result<Told, StepFault>
         ensures { StepResult M.table self.old event result self.new }

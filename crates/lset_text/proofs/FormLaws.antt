@@ -1,4 +1,4 @@
--- A line of a form is read from its text, and from nothing else: once for every form.
+-- Proof of the law of forms: values are read from the line that spells them, and from no other line. The proof covers every form.
 use Rattle.std.proofs.Common.{◌≡◌, ℕ, ◌<◌, true, false, List, [], ◌∷◌, Option, Some, None, refl, ap, ◌∙◌, arith, codes, length}
 use Rattle.std.proofs.lemmas.Bool.{and_parts, and_left}
 use Rattle.std.specs.List.{AllByRecursion}
@@ -17,7 +17,7 @@ use Rattle.lset_text.proofs.WordLaws.{same_bytes, kind_ok, kind_again, kind_lack
 use Rattle.lset_text.proofs.WordLaws.{reply_again, reply_lacks}
 use Rattle.lset_text.proofs.ReadingLaws.{test_some}
 
--- ---- one piece
+-- ---- one field
 
 piece_ok : (v : Version) (p : Piece) (x : List ℕ) (t : Tells p) → IsPiece p → told v p x ≡ Some t → (x ≡ spelled p t) × Fits v p t
 piece_ok v (word w) x t is e = (same_bytes x w (test_some (bytes_eq x w) (Some tt) t e).0, tt)
@@ -55,7 +55,7 @@ piece_lacks v byte reply r low is fits = reply_lacks byte v r fits low
 some_is : {A : Type 0} (a b : A) → Some a ≡ Some b → a ≡ b
 some_is a b e = cc
 
--- what a pair of options tells
+-- If two options together have a pair, each of them has its half.
 both_told : {A B : Type 0} (o : Option A) (p : Option B) (t : A × B) → both o p ≡ Some t → (o ≡ Some t.0) × (p ≡ Some t.1)
 both_told {A} {B} None p t e = absurd cc
 both_told {A} {B} (Some a) None t e = absurd cc
@@ -95,7 +95,7 @@ pub are_pieces : (f : Form) → IsForm f → ArePieces f
 are_pieces [] is = tt
 are_pieces (p ∷ f) is = is
 
--- a line with more pieces than its form has
+-- A line with more fields than the form does not have the form.
 pub too_many : (v : Version) (f : Form) (xs : List (List ℕ)) → length f < length xs → have_form v f xs ≡ false
 too_many v [] [] lt = absurd (omega arith)
 too_many v [] (x ∷ xs) lt = refl
@@ -110,7 +110,7 @@ cut_form v (p ∷ f) t is fit =
     cut_line (spelled p t.0) (spell f t.1) (piece_lacks v 32 p t.0 (omega arith) is.0 fit.0)
     (form_lacks v 32 f t.1 (omega arith) is.1 fit.1)
 
--- what is read stands there
+-- Values that are read from a line are spelled by that line, and the version has a spelling for each of them.
 pub line_ok : (v : Version) (f : Form) (line : List ℕ) (t : Told f) → IsForm f → told_in v f (cut_at 32 line) ≡ Some t
     → (line ≡ line_with f t) × AllFit v f t
 line_ok v f line t is e =
@@ -118,7 +118,7 @@ line_ok v f line t is e =
     let found = form_ok v f (cut_at 32 line) t (are_pieces f is) read.0 read.1 in
     (line_from_cut line (spell f t) found.0, found.1)
 
--- what stands there is read
+-- The values of a line are read from the line that spells them.
 pub line_again : (v : Version) (f : Form) (t : Told f) → IsForm f → AllFit v f t → told_in v f (cut_at 32 (line_with f t)) ≡ Some t
 line_again v f t is fit =
     let again = form_again v f t (are_pieces f is) fit in

@@ -1,4 +1,4 @@
--- Lines that are read one after another, as a loop does: once for every text.
+-- Laws of a loop that reads the lines of a text one by one, for every grammar.
 use Rattle.std.proofs.Common.{◌≡◌, ℕ, ◌+◌, ◌<◌, ◌≤◌, ◌⊎◌, inl, inr, Bool, true, false, cond, eqb, List, [], ◌∷◌, ◌++◌, length}
 use Rattle.std.proofs.Common.{get_or, Result, Ok, Err, refl, sym, ap, subst, ◌∙◌, append_assoc, length-append, arith}
 use Rattle.std.specs.List.{AllByRecursion}
@@ -29,7 +29,7 @@ unfolding lines_from
 lines_stop g d line s x [] some is = absurd (omega arith)
 lines_stop g d line s x (y ∷ more) some is = rw is refl
 
--- ---- faults stand at the first line or below
+-- ---- an error is at the first line or below it
 
 pub bind_err : {A B E : Type 0} (r : Result A E) (f : A → Result B E) (d : E) → (r >>= f) ≡ Err d
     → (r ≡ Err d) ⊎ ((x : A) × (r ≡ Ok x) × (f x ≡ Err d))
@@ -60,13 +60,13 @@ faultless_from {S} g above line s parts below =
     faultless (Ok x) all = tt
     faultless (Err e) all = all e refl
 
--- ---- A LOOP'S TURNS
+-- ---- one round of the loop
 
 pub starts : {S : Type 0} (g : Grammar S) (first : ℕ) (text : List ℕ) (s : S)
     → Stands g first text (lines_from g first s (cut_at 10 text)) first s text
 starts g first text s = record { so_far = refl; above = []; parts = refl; number = omega arith; left = omega arith }
 
--- a line that is taken
+-- A line that is accepted: the loop is at the next line, in the next state.
 pub goes_on : {S : Type 0} (g : Grammar S) (first : ℕ) (text : List ℕ) (read : Result S LineFault) (line : ℕ) (s t : S)
     (rest x after : List ℕ) → cut_at 10 rest ≡ x ∷ cut_at 10 after → length x + length after + 1 ≡ length rest → g.step s x ≡ Ok t
     → Stands g first text read line s rest → Stands g first text read (line + 1) t after
@@ -80,14 +80,14 @@ goes_on g first text read line s t rest x after parts shorter is stands = record
   left = omega (arith, stands.left, shorter);
 }
 
--- a line that is refused
+-- A line that is refused: reading the whole text fails with the error of that line.
 pub stops : {S : Type 0} (g : Grammar S) (first : ℕ) (text : List ℕ) (read : Result S LineFault) (line : ℕ) (s : S) (d : Cause)
     (rest x after : List ℕ) → cut_at 10 rest ≡ x ∷ cut_at 10 after → g.step s x ≡ Err d
     → Stands g first text read line s rest → read ≡ Err (fault line d)
 stops g first text read line s d rest x after parts is stands =
     sym stands.so_far ∙ ap (lines_from g line s) parts ∙ lines_stop g d line s x (cut_at 10 after) (some_part 10 after) is
 
--- a line that has bytes and no newline
+-- A line that has bytes and no newline: reading the whole text fails with `NotEnded`.
 pub not_ended : {S : Type 0} (g : Grammar S) (first : ℕ) (text : List ℕ) (read : Result S LineFault) (line : ℕ) (s : S)
     (rest : List ℕ) → cut_at 10 rest ≡ rest ∷ [] → (length rest ≡ 0 → ⊥)
     → Stands g first text read line s rest → read ≡ Err (unended line)
@@ -95,14 +95,14 @@ unfolding lines_from
 not_ended g first text read line s rest parts some stands =
     sym stands.so_far ∙ rw (parts, ne_eqb (length rest) 0 some) refl
 
--- no byte is left
+-- No byte is left: the result is that of the grammar's check at the end.
 pub is_done : {S : Type 0} (g : Grammar S) (first : ℕ) (text : List ℕ) (read : Result S LineFault) (line : ℕ) (s : S)
     (rest : List ℕ) → length rest ≡ 0 → Stands g first text read line s rest → read ≡ map_fault (fault line) (g.ends s)
 unfolding lines_from
 is_done g first text read line s rest none stands =
     let empty : rest ≡ [] = nil_from_length rest none in sym stands.so_far ∙ rw empty refl
 
--- a line that would be taken has no fault, and no line above it has
+-- An accepted line has no error, and neither has any line above it.
 pub is_good : {S : Type 0} (g : Grammar S) (first : ℕ) (text : List ℕ) (read : Result S LineFault) (line : ℕ) (s t : S) (rest x after : List ℕ)
     → cut_at 10 rest ≡ x ∷ cut_at 10 after → g.step s x ≡ Ok t
     → Stands g first text read line s rest → IsGoodLine first (cut_at 10 text) read line
@@ -117,7 +117,7 @@ is_good {S} g first text read line s t rest x after parts is stands =
       rw (← more) (faultless_from g line (line + 1) t (cut_at 10 after) (omega arith)),
     )
 
--- a line that is not taken, since it has a fault or memory ran out
+-- A line that is not accepted, because it has an error or an allocation failed.
 module _ {S : Type 0} (g : Grammar S) (first : ℕ) (text : List ℕ) (read : Result S LineFault) (line : ℕ) (s : S)
     (rest x after : List ℕ) (parts : cut_at 10 rest ≡ x ∷ cut_at 10 after) (stands : Stands g first text read line s rest)
     (cause : Cause) where
@@ -132,7 +132,7 @@ module _ {S : Type 0} (g : Grammar S) (first : ℕ) (text : List ℕ) (read : Re
   ran_out never (inl is) same = absurd (never (is ∙ ap (λ (c : Cause). Err c) same))
   ran_out never (inr none) same = is_good g first text read line s none.1 rest x after parts none.2 stands
 
--- the part of the text that it is
+-- The current line is a part of the text: the one after those already read.
 pub line_at : {S : Type 0} (g : Grammar S) (first : ℕ) (text : List ℕ) (read : Result S LineFault) (line : ℕ) (s : S)
     (rest x after : List ℕ) → cut_at 10 rest ≡ x ∷ cut_at 10 after → (stands : Stands g first text read line s rest)
     → get_or (cut_at 10 text) (length stands.above) [] ≡ x
@@ -140,15 +140,15 @@ line_at g first text read line s rest x after parts stands =
     ap (λ (ps : List (List ℕ)). get_or ps (length stands.above) []) (cc (stands.parts, parts))
     ∙ get_or-append_seam stands.above x (cut_at 10 after) []
 
--- ---- BOTH WAYS
+-- ---- reading and writing
 
 ended : {S : Type 0} (g : Grammar S) (line : ℕ) (other : Cause) (b : Bool) (s t : S)
     → map_fault (fault line) (cond b (g.ends s) (Err other)) ≡ Ok t → (b ≡ true) × (g.ends s ≡ Ok t)
 ended g line other true s t e = (refl, map_fault_ok (fault line) (g.ends s) t e)
 ended g line other false s t e = absurd cc
 
--- WHAT IS READ STANDS THERE: where each line that is taken stands behind those of the state, so do all, and there the text may end.
--- Of the states on the way it may be known that each line that is taken keeps `P`.
+-- If each accepted line extends the text of the state by that line and keeps `P`, the bytes that are read are the text of the
+-- last state, and `P` holds of that state.
 pub lines_hold : {S : Type 0} (g : Grammar S) (P : S → Type 0) (text : S → List (List ℕ))
     → ((s t : S) (x : List ℕ) → P s → g.step s x ≡ Ok t → P t × (text t ≡ text s ++ x ∷ []))
     → ((s t : S) → g.ends s ≡ Ok t → s ≡ t)
@@ -177,7 +177,7 @@ some_more : (ls : List (List ℕ)) → 0 < length (ls ++ [] ∷ [])
 some_more [] = omega arith
 some_more (l ∷ ls) = omega arith
 
--- WHAT STANDS THERE IS READ: lines that lead from one state to another, at which a text may end, are read so
+-- If lines lead from one state to another and a text can end there, reading these lines returns that last state.
 pub lines_again : {S : Type 0} (g : Grammar S) (line : ℕ) (s t : S) (xs : List (List ℕ)) → Leads g s xs t
     → g.ends t ≡ Ok t → lines_from g line s (xs ++ [] ∷ []) ≡ Ok t
 unfolding lines_from
@@ -190,7 +190,7 @@ pub leads_on : {S : Type 0} (g : Grammar S) (s t u : S) (xs ys : List (List ℕ)
 leads_on {S} g s t u [] ys a b = subst (λ (v : S). Leads g v ys u) (sym a) b
 leads_on g s t u (x ∷ xs) ys a b = (a.0, a.1, leads_on g a.0 t u xs ys a.2 b)
 
--- and each of them is as every line that is taken
+-- If each accepted line has property `Q`, all lines that lead from one state to another have it.
 pub leads_all : {S : Type 0} (g : Grammar S) (P : S → Type 0) (Q : List ℕ → Type 0)
     → ((s t : S) (x : List ℕ) → P s → g.step s x ≡ Ok t → P t × Q x)
     → (s t : S) (xs : List (List ℕ)) → P s → Leads g s xs t → AllByRecursion Q xs
@@ -198,7 +198,7 @@ leads_all g P Q one s t [] holds leads = tt
 leads_all g P Q one s t (x ∷ xs) holds leads =
     let moved = one s leads.0 x holds leads.1 in (moved.1, leads_all g P Q one leads.0 t xs moved.0 leads.2)
 
--- THE LINES OF A LIST: where each item leads from the state of those before it to the state with it, so do all
+-- If the line of each item leads from the state of the items before it to the state with it, the lines of the whole list do.
 pub items_lead : {S X : Type 0} (g : Grammar S) (state : List X → S) (lines : ℕ → List X → List (List ℕ))
     (line : ℕ → X → List ℕ) → ((n : ℕ) → lines n [] ≡ [])
     → ((n : ℕ) (x : X) (xs : List X) → lines n (x ∷ xs) ≡ line n x ∷ lines (n + 1) xs) → (before xs : List X)

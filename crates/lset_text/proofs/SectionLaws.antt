@@ -1,4 +1,4 @@
--- Sections of a text: lines of one kind that stand together, and tell the items of a list. Once for every text.
+-- Laws of sections: lines of one kind in a row, one for each item of a list. They hold for every text.
 use Rattle.std.proofs.Common.{◌≡◌, ℕ, ◌<◌, ◌≤◌, ◌^◌, List, [], ◌∷◌, ◌++◌, map, length, true, Ok, refl, sym, ap, subst, arith}
 use Rattle.std.proofs.Common.{append_assoc, length-append}
 use Rattle.std.specs.List.{AllByRecursion}
@@ -26,7 +26,7 @@ middle P front more xs x is all = at_seam P front more x (subst (AllByRecursion 
 pub shorter : {X : Type 0} (front more xs : List X) (x : X) → front ++ x ∷ more ≡ xs → length front < length xs
 shorter front more xs x is = let long = ap length is in omega (arith, long, length-append front (x ∷ more))
 
--- ---- one more line of a section stands behind those of the text where the sections behind it have none
+-- ---- a further line of a section, if the sections after it are still empty, is the last line of the text
 
 pub push_last : {X : Type 0} (f : List (List ℕ)) (line : X → List ℕ) (xs : List X) (x : X)
     → f ++ map line (xs ++ x ∷ []) ≡ f ++ map line xs ++ line x ∷ []
@@ -36,9 +36,9 @@ pub push_before : {X : Type 0} (f a : List (List ℕ)) (line : X → List ℕ) (
     → f ++ map line (xs ++ x ∷ []) ++ a ≡ f ++ map line xs ++ a ++ line x ∷ []
 push_before f a line xs x none = rw (none, map_push line xs x) (simp (append-nil, append_assoc))
 
--- ---- the section to which a text has come
+-- ---- the section that the reader is in
 
--- behind some items it is another
+-- The section is `s` before the first item, and `t` after it.
 abbrev pub later : {X T : Type 0} → List X → T → T → T
 later [] s t = s
 later (x ∷ xs) s t = t
@@ -47,7 +47,7 @@ pub later_pushed : {X T : Type 0} (xs : List X) (x : X) (s t : T) → t ≡ late
 later_pushed [] x s t = refl
 later_pushed (y ∷ ys) x s t = refl
 
--- ---- THE LINES OF A SECTION with a greatest number of items: where each of them leads on, so do all
+-- ---- a section with a limit of items: if the line of each item leads on, the whole section does
 
 pub section_leads : {S X : Type 0} (g : Grammar S) (state : List X → S) (line : X → List ℕ) (P : X → Type 0) (most : ℕ)
     (xs : List X) → length xs ≤ most → AllByRecursion P xs
@@ -57,7 +57,7 @@ section_leads g state line P most xs few are each =
     items_lead g state (λ n. map line) (λ n. line) (λ n. refl) (λ n x ys. refl) [] xs
     (λ front more x is. each front more x is (omega (arith, shorter front more xs x is, few)) (middle P front more xs x is are))
 
--- the opening keys, of which a text of the first version has none
+-- The opening keys lead from the empty state to the state with all of them. A file of version 1 has none.
 pub openings_lead : {S : Type 0} (g : Grammar S) (state : List ℕ → S) (v : Version) (o : Opening) → Opens o
     → HasOpening v o.keys
     → ((front : List ℕ) (k : ℕ) → v ≡ Two → length front < MOST_OPENING → k < 2 ^ 32 → is_above front k ≡ true

@@ -1,4 +1,4 @@
--- Whole texts: what is read stands there, and what stands there is read; once for every text.
+-- Proof that a whole text and the value that is read from it determine each other, for every grammar.
 use Rattle.std.proofs.Common.{◌≡◌, ℕ, ◌<◌, false, List, [], ◌∷◌, ◌++◌, length, Result, Ok, Err, refl, sym, ap, ◌∙◌, subst}
 use Rattle.std.proofs.Common.{append_assoc, arith}
 use Rattle.std.specs.Prelude.{IfErr}
@@ -21,7 +21,7 @@ use Rattle.lset_text.proofs.LineLaws.{faultless_from, lines_hold, lines_again, l
 
 -- ---- a header, and what comes after it
 
--- a text whose header has a fault
+-- A text whose header has an error is refused with that error.
 pub text_refused : {S : Type 0} (g : TextGrammar S) (parts : List (List ℕ)) (e : LineFault)
     → header_of g.title parts ≡ Err e → text_from g parts ≡ Err e
 unfolding text_from
@@ -32,7 +32,7 @@ pub text_after : {S : Type 0} (g : TextGrammar S) (parts rest : List (List ℕ))
 unfolding text_from
 text_after g parts rest h is = rw is refl
 
--- the last line of a header that was read has no fault, and no line above it has
+-- If the header was read, its last line has no error, and neither has any line above it.
 pub header_good : {S : Type 0} (g : TextGrammar S) (bytes rest : List ℕ) (h : Header) → header_of g.title (cut_at 10 bytes) ≡ Ok (h, cut_at 10 rest)
     → IsGoodLine 1 (cut_at 10 bytes) (text_from g (cut_at 10 bytes)) last_of_header
 header_good g bytes rest h is =
@@ -43,7 +43,7 @@ header_good g bytes rest h is =
           (faultless_from g.lines last_of_header first_line (g.start h) (cut_at 10 rest) (omega arith)),
     )
 
--- a good line of what comes after the header is one of the text
+-- A good line of the part after the header is a good line of the text.
 pub good_in_text : {S : Type 0} (g : TextGrammar S) (bytes rest : List ℕ) (h : Header) (line : ℕ)
     → header_of g.title (cut_at 10 bytes) ≡ Ok (h, cut_at 10 rest)
     → IsGoodLine first_line (cut_at 10 rest) (lines_from g.lines first_line (g.start h) (cut_at 10 rest)) line
@@ -55,7 +55,7 @@ good_in_text g bytes rest h line is good =
       subst (IsFaultlessTo line) (sym (text_after g (cut_at 10 bytes) (cut_at 10 rest) h is)) good.2,
     )
 
--- so where a reader of what comes after the header ran out of memory
+-- A line at which a reader of the part after the header ran out of memory is below the header, and a good line of the text.
 pub good_after : {S X : Type 0} (g : TextGrammar S) (bytes rest : List ℕ) (h : Header)
     (r : Result X LineFault) → header_of g.title (cut_at 10 bytes) ≡ Ok (h, cut_at 10 rest)
     → IfErr r (λ e. e.cause ≡ Memory → IsGoodLine first_line (cut_at 10 rest)
@@ -66,9 +66,9 @@ good_after g bytes rest h (Ok x) is good = tt
 good_after g bytes rest h (Err e) is good = λ m.
     let line = good m in (omega (arith, line.0), good_in_text g bytes rest h e.line is line)
 
--- ---- BOTH WAYS
+-- ---- reading and writing
 
--- WHAT IS READ STANDS THERE, and is as its header starts it and each line keeps it
+-- The bytes that are read are the text of the value. `P` holds of the value if the header's start has it and each line keeps it.
 pub text_found : {S : Type 0} (g : TextGrammar S) (P : S → Type 0) (text : S → List (List ℕ))
     → ((h : Header) → IsHeader h → P (g.start h) × (text (g.start h) ≡ header_lines g.title h))
     → ((s t : S) (x : List ℕ) → P s → g.lines.step s x ≡ Ok t → P t × (text t ≡ text s ++ x ∷ []))
@@ -93,7 +93,7 @@ some_first : (ls : List (List ℕ)) → (y : List ℕ) × (more : List (List ℕ
 some_first [] = ([], [], refl)
 some_first (l ∷ ls) = (l, ls ++ [] ∷ [], refl)
 
--- WHAT STANDS THERE IS READ: a header, and lines that lead from its start to where a text may end
+-- A header, followed by lines that lead from its start to a state in which a text can end, is read as that state.
 pub text_again : {S : Type 0} (g : TextGrammar S) (P : S → Type 0)
     → ((s t : S) (x : List ℕ) → P s → g.lines.step s x ≡ Ok t → P t × Lacks 10 x)
     → (h : Header) (xs : List (List ℕ)) (t : S) → Lacks 10 g.title → IsHeader h → P (g.start h)
@@ -112,7 +112,7 @@ text_again g P free h xs t title_free is start leads at_end =
           ∙ lines_again g.lines first_line (g.start h) t xs leads at_end,
     )
 
--- the version of a text is the one whose title stands first
+-- The version of a text is the one whose title is the first line.
 pub version_again : {S : Type 0} (g : Version → TextGrammar S) → bytes_eq (g One).title (g Two).title ≡ false
     → (v : Version) (h : Header) (rest : List (List ℕ)) → version_in (g Two).title (header_lines (g v).title h ++ rest) ≡ v
 version_again g other One h rest = rw other refl

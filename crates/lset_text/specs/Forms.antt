@@ -1,4 +1,4 @@
--- Lines as forms: what each field of a line is, how it is spelled, and how it is read.
+-- Forms of lines: which values the fields of a line have, how the values are spelled, and how they are read.
 use Rattle.std.specs.Prelude.{◌≡◌, ℕ, ◌<◌, ◌≤◌, ◌^◌, ◌&&◌, Bool, true, false, List, [], ◌∷◌, Option, Some, None, is_some, if◌then◌else◌}
 use Rattle.std.specs.Fmt.{decimal}
 use Rattle.std.specs.Str.{bytes_eq}
@@ -11,7 +11,7 @@ use Rattle.lset_text.specs.Numbers.{number_in, max_number}
 use Rattle.lset_text.specs.Spellings.{kind_text, kind_of, call_word_text, call_word_in, reply_text, reply_in, is_reply_in}
 use Rattle.lset_text.specs.Spellings.{HasWord, HasReply}
 
--- ONE PIECE of a line: a fixed word, a number of a range, or the word of a kind of list, of a call or of a reply
+-- A field of a form: a fixed word, a number of a range, or the name of a kind of list, of a call or of a reply.
 pub data Piece : Type 0 where
   word : List ℕ → Piece
   number : ℕ → ℕ → Piece
@@ -19,15 +19,15 @@ pub data Piece : Type 0 where
   call : Piece
   reply : Piece
 
--- any number of a text
+-- Any number that a file can contain.
 abbrev pub any : Piece
 any = number 0 max_number
 
--- a moment, counted from 1
+-- A moment, counted from 1.
 abbrev pub moment : Piece
 moment = number 1 max_number
 
--- the value of a field
+-- The type of a field's value.
 abbrev pub Tells : Piece → Type 0
 Tells (word w) = Unit {0}
 Tells (number low high) = ℕ
@@ -35,7 +35,7 @@ Tells kind = Kind
 Tells call = CallWord
 Tells reply = Reply
 
--- how that is spelled
+-- How a field spells a value.
 abbrev pub spelled : (p : Piece) → Tells p → List ℕ
 spelled (word w) t = w
 spelled (number low high) n = decimal n
@@ -43,7 +43,7 @@ spelled kind k = kind_text k
 spelled call w = call_word_text w
 spelled reply r = reply_text r
 
--- what a version has a spelling for
+-- The version has a spelling for this value.
 abbrev pub Fits : Version → (p : Piece) → Tells p → Type 0
 Fits v (word w) t = Unit {0}
 Fits v (number low high) n = (low ≤ n) × (n ≤ high)
@@ -51,7 +51,7 @@ Fits v kind k = Unit {0}
 Fits v call w = HasWord v w
 Fits v reply r = HasReply v r
 
--- whether a piece has its form: a word is that word, a number may be anything
+-- Whether `x` has the form of the field: a fixed word must match, a name must be known, and a number can be anything.
 abbrev pub has_form : Version → Piece → List ℕ → Bool
 has_form v (word w) x = bytes_eq x w
 has_form v (number low high) x = true
@@ -59,7 +59,7 @@ has_form v kind x = is_some (kind_of x)
 has_form v call x = is_some (call_word_in v x)
 has_form v reply x = is_reply_in v x
 
--- and its value then
+-- The value that `x` spells; `None` if it spells none.
 abbrev pub told : Version → (p : Piece) → List ℕ → Option (Tells p)
 told v (word w) x = if bytes_eq x w then Some tt else None
 told v (number low high) x = number_in low high x
@@ -67,11 +67,11 @@ told v kind x = kind_of x
 told v call x = call_word_in v x
 told v reply x = reply_in v x
 
--- A FORM is the pieces of a line
+-- A form: the fields of a line.
 abbrev pub Form : Type 0
 Form = List Piece
 
--- what its pieces tell, one after another
+-- The values of all fields of a form.
 abbrev pub Told : Form → Type 0
 Told [] = Unit {0}
 Told (p ∷ f) = Tells p × Told f
@@ -80,7 +80,7 @@ abbrev pub spell : (f : Form) → Told f → List (List ℕ)
 spell [] t = []
 spell (p ∷ f) t = spelled p t.0 ∷ spell f t.1
 
--- the line with these values
+-- The line that spells these values.
 abbrev pub line_with : (f : Form) → Told f → List ℕ
 line_with f t = line_of (spell f t)
 
@@ -88,7 +88,7 @@ abbrev pub AllFit : Version → (f : Form) → Told f → Type 0
 AllFit v [] t = Unit {0}
 AllFit v (p ∷ f) t = Fits v p t.0 × AllFit v f t.1
 
--- as many pieces as the form has, each of its form
+-- Whether there are as many fields as the form has, and each has the form of its field.
 abbrev pub have_form : Version → Form → List (List ℕ) → Bool
 have_form v [] [] = true
 have_form v [] (x ∷ xs) = false
@@ -105,11 +105,11 @@ all_told v [] xs = Some tt
 all_told v (p ∷ f) [] = None
 all_told v (p ∷ f) (x ∷ xs) = both (told v p x) (all_told v f xs)
 
--- the values of a line of a form; `None` for any other line
+-- The values of a line with this form; `None` for any other line.
 abbrev pub told_in : Version → (f : Form) → List (List ℕ) → Option (Told f)
 told_in v f xs = if have_form v f xs then all_told v f xs else None
 
--- a form of at least one piece, whose words are of letters, digits and dashes, and whose numbers are not too large
+-- A field that can be read back: the bytes of a fixed word are above the space, and the largest number is below 2^64.
 abbrev pub IsPiece : Piece → Type 0
 IsPiece (word w) = all_from 45 w ≡ true
 IsPiece (number low high) = high < 2 ^ 64
@@ -123,7 +123,7 @@ abbrev pub IsForm : Form → Type 0
 IsForm [] = ⊥
 IsForm (p ∷ f) = IsPiece p × ArePieces f
 
--- THE LAW of forms: a line of a form is read from its text, and from nothing else
+-- The law of forms: values are read from the line that spells them, and from no other line.
 abbrev pub FormsReadBack : Type 0
 FormsReadBack = (v : Version) (f : Form) (line : List ℕ) (t : Told f) → IsForm f
     → (AllFit v f t → told_in v f (cut_at 32 (line_with f t)) ≡ Some t)

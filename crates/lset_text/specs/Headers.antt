@@ -1,4 +1,4 @@
--- The four lines at the head of a text: its title, the kind of list, the number of threads and their quota.
+-- The header of a file, its first four lines: title, kind of list, number of threads, and quota.
 use Rattle.std.specs.Prelude.{◌≡◌, ℕ, ◌==◌, List, [], ◌∷◌, ◌++◌, length, codes, Option, Some, None, Result, Ok, Err}
 use Rattle.std.specs.Prelude.{if◌then◌else◌, option_map}
 use Rattle.std.specs.Fmt.{decimal}
@@ -24,7 +24,7 @@ use Rattle.lset_text.specs.Results.{◌>>=◌, or_fail}
 abbrev pub kind_line : Kind → List ℕ
 kind_line k = line_of (codes "list" ∷ kind_text k ∷ [])
 
--- a line of a word and a number
+-- A line of a word and a number.
 abbrev pub number_line : List ℕ → ℕ → List ℕ
 number_line word n = line_of (word ∷ decimal n ∷ [])
 
@@ -32,11 +32,11 @@ abbrev pub header_lines : List ℕ → Header → List (List ℕ)
 header_lines title h =
     title ∷ kind_line h.kind ∷ number_line (codes "threads") h.threads ∷ number_line (codes "quota") h.quota ∷ []
 
--- 1 to 64 threads, with a quota of 0 to 16,384
+-- The header has 1 to 64 threads, and a quota from 0 to 16,384.
 abbrev pub IsHeader : Header → Type 0
 IsHeader h = IsWithin (record { threads = h.threads; quota = h.quota; opening = 0 })
 
--- ---- the version of a text, whose second version has this title
+-- ---- the version of a text; `title` is the title of version 2
 
 abbrev pub version_in : List ℕ → List (List ℕ) → Version
 version_in title [] = One
@@ -50,24 +50,24 @@ title_in title line = if bytes_eq line title then Some title else None
 abbrev pub kind_form : Form
 kind_form = piece.word (codes "list") ∷ piece.kind ∷ []
 
--- the kind that a line names
+-- The kind that a line names.
 abbrev pub kind_in : List ℕ → Option Kind
 kind_in line = option_map (λ t. t.1.0) (told_in Two kind_form (cut_at 32 line))
 
 abbrev pub number_form : List ℕ → ℕ → ℕ → Form
 number_form word low high = piece.word word ∷ piece.number low high ∷ []
 
--- the number of a range that a line has after a word
+-- The number from `low` to `high` that follows the given word in a line.
 abbrev pub number_after : List ℕ → ℕ → ℕ → List ℕ → Option ℕ
 number_after word low high line = option_map (λ t. t.1.0) (told_in Two (number_form word low high) (cut_at 32 line))
 
--- The header line that is due, and the parts after it. If no byte is left the error is the one of the line that is due.
+-- The next header line and the parts after it. If no byte is left, the error is `cause`, the one of the missing line.
 abbrev pub line_due : ℕ → Cause → List (List ℕ) → Result (List ℕ × List (List ℕ)) LineFault
 line_due line cause [] = Err (fault line cause)
 line_due line cause (rest ∷ []) = Err (fault line (if length rest == 0 then cause else wrong.NotEnded))
 line_due line cause (x ∷ y ∷ more) = Ok (x, y ∷ more)
 
--- what the line that is due has, and the parts after it
+-- The value that is read from the next header line, and the parts after it.
 unfoldable pub told_by_line : {A : Type 0} → ℕ → Cause → (List ℕ → Option A) → List (List ℕ)
     → Result (A × List (List ℕ)) LineFault
 told_by_line line cause read parts = do
@@ -87,7 +87,7 @@ threads_told = told_by_line 3 wrong.Threads (number_after (codes "threads") 1 MO
 abbrev pub quota_told : List (List ℕ) → Result (ℕ × List (List ℕ)) LineFault
 quota_told = told_by_line 4 wrong.Quota (number_after (codes "quota") 0 MOST_QUOTA)
 
--- the header of a text's parts, and the parts after it
+-- The header that a text begins with, and the parts after it.
 unfoldable pub header_of : List ℕ → List (List ℕ) → Result (Header × List (List ℕ)) LineFault
 header_of title parts = do
   first ← title_told title parts
@@ -96,7 +96,7 @@ header_of title parts = do
   quota ← quota_told threads.1
   Ok (record { kind = kind.0; threads = threads.0; quota = quota.0 }, quota.1)
 
--- a header is read from its text, whatever comes after it
+-- A header is read from its text, whatever comes after it.
 abbrev pub HeadersReadBack : Type 0
 HeadersReadBack = (title : List ℕ) (h : Header) (rest : List ℕ) → Lacks 10 title → IsHeader h
     → header_of title (cut_at 10 (text_of (header_lines title h) ++ rest)) ≡ Ok (h, cut_at 10 rest)

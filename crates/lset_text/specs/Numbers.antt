@@ -1,28 +1,28 @@
--- Numbers as they are spelled in decimals without leading zeros.
+-- Numbers as they are spelled: decimals without leading zeros.
 use Rattle.std.specs.Prelude.{◌≡◌, ℕ, ◌<◌, ◌≤◌, ◌^◌, ◌&&◌, ◌||◌, ◌==◌, nat_lt, nat_le, not, Bool, List, length, slice_index}
 use Rattle.std.specs.Prelude.{Option, Some, None, if◌then◌else◌}
 use Rattle.std.specs.Fmt.{decimal}
 use Rattle.std.specs.Str.{all_ascii_digits}
 use Rattle.std.specs.Str.Parse.{digits_value}
 
--- `0`, or digits of which the first is not `0`
+-- Whether a field is `0`, or consists of digits and begins with another digit than `0`.
 abbrev pub is_number : List ℕ → Bool
 is_number piece = nat_lt 0 (length piece) && (all_ascii_digits piece && (length piece == 1 || not (slice_index piece 0 == 48)))
 
--- from the smallest to the largest
+-- Whether `n` is from `low` to `high`.
 abbrev pub is_between : ℕ → ℕ → ℕ → Bool
 is_between low high n = nat_le low n && nat_le n high
 
--- the number that a piece spells, if it lies in the range
+-- The number that a field spells, if it is from `low` to `high`.
 unfoldable pub number_in : ℕ → ℕ → List ℕ → Option ℕ
 number_in low high piece =
     if is_number piece && is_between low high (digits_value 10 piece) then Some (digits_value 10 piece) else None
 
--- the largest thread number, key, number of a call or moment of a file
+-- The largest thread number, key, call number or moment in a file.
 abbrev pub max_number : ℕ
 max_number = 4294967295
 
--- a number of a range is read from its decimal, and only from there
+-- A number is read from its decimal, and from no other text.
 abbrev pub NumbersReadBack : Type 0
 NumbersReadBack = (low high n : ℕ) (piece : List ℕ) → high < 2 ^ 64
     → (low ≤ n → n ≤ high → number_in low high (decimal n) ≡ Some n)

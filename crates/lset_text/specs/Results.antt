@@ -1,4 +1,4 @@
--- Reading as a chain of checks, of which the first that fails gives the fault.
+-- Chains of checks: the first check that fails determines the error.
 use Rattle.std.specs.Prelude.{Option, Some, None, Result, Ok, Err}
 
 infixl 10 ◌>>=◌
@@ -6,12 +6,12 @@ abbrev pub ◌>>=◌ : {A B E : Type 0} → Result A E → (A → Result B E) �
 (Ok x) >>= f = f x
 (Err e) >>= f = Err e
 
--- the value, or the error if there is none
+-- The value, or the given error if there is none.
 abbrev pub or_fail : {A E : Type 0} → E → Option A → Result A E
 or_fail e None = Err e
 or_fail e (Some x) = Ok x
 
--- the same value, or the fault seen another way
+-- The value unchanged, or the error mapped by `f`.
 abbrev pub map_fault : {A E D : Type 0} → (E → D) → Result A E → Result A D
 map_fault f (Ok x) = Ok x
 map_fault f (Err e) = Err (f e)

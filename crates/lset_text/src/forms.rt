@@ -1,6 +1,6 @@
 ghost use Rattle.lset_text.specs.Forms.{FormsReadBack};
 
-/// Lemma, for every form of a line: a line of the form is read from its text, and from nothing else.
+/// Lemma, for every form of a line: values are read from the line that spells them, and from no other line.
 pub fn forms_read_back()
     ensures { FormsReadBack }
 {}

@@ -18,7 +18,7 @@ use crate::words::{Version, kind_word, read_kind};
 use lset_words::{Kind, MOST_QUOTA, MOST_THREADS};
 use std::alloc::AllocError;
 
-/// What the header of a file states: the kind of list, its threads, 1 to 64, and the quota of each, 0 to 16,384.
+/// The header of a file: the kind of list, the number of threads, 1 to 64, and the quota of each thread, 0 to 16,384.
 #[derive(Clone, Copy, Debug, PartialEq, Eq)]
 pub struct Header {
     pub kind: Kind,
@@ -39,7 +39,7 @@ fn kind_of_line(line: &[u8]) -> Option<Kind>
     read_kind(kind)
 }
 
-/// Returns the number in a line that has `word`, a space, and a number from `low` to `high`; `None` for any other line.
+/// Returns the number in a line that consists of `word`, a space, and a number from `low` to `high`. `None` for any other line.
 pub fn number_of_line(line: &[u8], word: &[u8], low: u32, high: u32) -> Option<u32>
     ensures { result ≡ number_after word.now low high line.now }
 {
@@ -53,7 +53,7 @@ pub fn number_of_line(line: &[u8], word: &[u8], low: u32, high: u32) -> Option<u
     number(count, low, high)
 }
 
-/// The header line that is due, and what comes after it.
+/// Splits the next header line off a text. Returns the line and the remaining text.
 fn due(text: &[u8], line: u64, cause: Cause) -> Result<(&[u8], &[u8]), LineFault>
     ensures value { MatchResult result
         (λ p. line_due line cause (cut_at 10 text.now) ≡ Ok (p.0.now, cut_at 10 p.1.now))
@@ -69,8 +69,7 @@ fn due(text: &[u8], line: u64, cause: Cause) -> Result<(&[u8], &[u8]), LineFault
     Err(LineFault::unended(line))
 }
 
-/// Returns the version of a file: the second if the file begins with a line that is `title`, the title of its second
-/// version; else the first.
+/// Returns the version of a file. Version 2 if its first line is `title`, the title of version 2; else version 1.
 pub fn version_of(text: &[u8], title: &[u8]) -> Version
     ensures { result ≡ version_in title.now (cut_at 10 text.now) }
 {
@@ -85,21 +84,20 @@ pub fn version_of(text: &[u8], title: &[u8]) -> Version
     }
 }
 
-/// Reads the header of a file with the given title, lines 1 to 4. Returns the header and what follows it.
+/// Reads the header of a file with the given title, lines 1 to 4. Returns the header and the rest of the file.
 ///
 /// # Errors
 ///
-/// The first error, with its line from 1 to 4. If a header line is due and no byte is left, it is the error of that line:
-/// `Header`, `Kind`, `Threads` or `Quota`. A line that has bytes and no newline is refused before anything else of it is
-/// looked at.
+/// Returns the first error, at a line from 1 to 4. A missing header line has the cause of that line: `Header`, `Kind`, `Threads`
+/// or `Quota`. A line that has bytes and no newline has the cause `NotEnded`, whatever else is wrong with it.
 pub fn read_header<'a>(title: &[u8], text: &'a [u8]) -> Result<(Header, &'a [u8]), LineFault>
-    // What is read is in the text.
+    // The header that is returned is in the text.
     ensures found { IfOk result (λ p. IsHeader p.0 × (text.now ≡ text_of (header_lines title.now p.0) ++ p.1.now)) }
-    // Which fault it is.
+    // Exactly which value or error is returned.
     ensures exact { MatchResult result
         (λ p. header_of title.now (cut_at 10 text.now) ≡ Ok (p.0, cut_at 10 p.1.now))
         (λ e. header_of title.now (cut_at 10 text.now) ≡ Err e) }
-    // No line of a header takes memory.
+    // An allocation cannot fail: nothing is allocated.
     ensures asks { IfErr result (λ e. e.cause ≢ Cause.Memory) }
     ensures shorter { IfOk result (λ p. length p.1.now < length text.now) }
 {
@@ -143,8 +141,8 @@ fn header_due<'a>(title: &[u8], text: &'a [u8]) -> Result<(Header, &'a [u8]), Li
     Ok((header, rest))
 }
 
-/// Appends the four lines of a header to `out`. If an allocation fails, returns `AllocError`; `out` may then end with part of
-/// them.
+/// Appends the four lines of a header to `out`. If an allocation fails, returns `AllocError`; `out` can then end with part of the
+/// lines.
 pub fn put_header(out: &mut String, title: &str, header: Header) -> Result<(), AllocError>
     ensures { OnOk result (string_bytes out.new ≡ string_bytes out.old ++ text_of (header_lines title.now header)) }
 {

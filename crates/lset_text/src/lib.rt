@@ -1,5 +1,5 @@
-//! What schedules and reports share: lines and their fields, numbers, names, the four lines of the header, and the lines of
-//! opening keys.
+//! The parts that all file formats share: lines and their fields, numbers, names, the four header lines, and the lines of opening
+//! keys.
 #![tactic(auto)]
 
 mod causes;

@@ -1,8 +1,8 @@
 ghost use Rattle.std.specs.Prelude.{◌≡◌, ◌≤◌, IfSome};
 ghost use Rattle.lset_text.specs.Numbers.{number_in, NumbersReadBack};
 
-/// Returns the number from `low` to `high` that a field spells: `0`, or digits of which the first is not `0`. `None` for any
-/// other field. It looks no further than the digit that exceeds `high`.
+/// Returns the number from `low` to `high` that a field spells in decimal digits, without leading zeros. `None` for any other
+/// field. Stops at the digit with which the value exceeds `high`.
 #[tactic(auto, unfolding(crate::specs::Numbers::number_in))]
 pub fn number(piece: &[u8], low: u32, high: u32) -> Option<u32>
     ensures { result ≡ number_in low high piece.now }
@@ -26,7 +26,8 @@ pub fn number(piece: &[u8], low: u32, high: u32) -> Option<u32>
     Some(value as u32)
 }
 
-/// Returns what `number` does of a range that may go past 32 bits; it takes a test more for each digit.
+/// Returns the number from `low` to `high` that a field spells, as `number` does, for ranges beyond 32 bits. Makes one more test
+/// for each digit.
 #[tactic(auto, unfolding(crate::specs::Numbers::number_in))]
 pub fn long_number(piece: &[u8], low: u64, high: u64) -> Option<u64>
     ensures value { result ≡ number_in low high piece.now }
@@ -56,7 +57,7 @@ pub fn long_number(piece: &[u8], low: u64, high: u64) -> Option<u64>
     Some(value)
 }
 
-/// Lemma: the numbers of a range are read from their decimals, and from nothing else.
+/// Lemma: a number of a range is read from its decimal, and from no other text.
 pub fn numbers_read_back()
     ensures { NumbersReadBack }
 {}

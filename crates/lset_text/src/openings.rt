@@ -4,8 +4,7 @@ ghost use Rattle.lset_text.specs.Openings.{is_above, opening_line, opening_lines
 
 use std::alloc::AllocError;
 
-/// Whether a key is above the last of these keys, so that it may be the next of keys in strictly increasing order; true if
-/// there are none.
+/// Returns whether `key` is above the last of `keys`, as the next of strictly increasing keys must be. True if `keys` is empty.
 pub fn is_above(keys: &[u32], key: u32) -> bool
     ensures { result ≡ is_above keys.now key }
 {
@@ -22,8 +21,8 @@ fn put_opening(out: &mut String, key: u32) -> Result<(), AllocError>
     Ok(())
 }
 
-/// Appends a line `opening K` to `out` for each opening key. If an allocation fails, returns `AllocError`; `out` may then
-/// end with part of them.
+/// Appends a line `opening K` to `out` for each opening key. If an allocation fails, returns `AllocError`; `out` can then end
+/// with part of the lines.
 pub fn put_openings(out: &mut String, keys: &[u32]) -> Result<(), AllocError>
     ensures { OnOk result (string_bytes out.new ≡ string_bytes out.old ++ text_of (opening_lines keys.now)) }
 {

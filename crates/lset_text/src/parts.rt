@@ -7,8 +7,8 @@ fn first_of(text: &[u8], byte: u8) -> Option<usize>
     text.iter().position(|b| *b == byte)
 }
 
-/// Cuts a text at its first byte `byte`: returns what is before it and what is after it. `None` if the text has no such
-/// byte. It looks no further than that byte.
+/// Splits a text at the first occurrence of `byte`. Returns the text before and the text after it; `None` if `byte` does not
+/// occur. Does not look at the text after it.
 pub fn cut(text: &[u8], byte: u8) -> Option<(&[u8], &[u8])>
     ensures parts { MatchOption result (cut_at byte text.now ≡ text.now ∷ [])
         (λ p. cut_at byte text.now ≡ p.0.now ∷ cut_at byte p.1.now) }

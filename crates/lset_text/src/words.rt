@@ -21,7 +21,7 @@ use crate::numbers::number;
 use lset_words::{Call, Key, Kind, Reply};
 use std::fmt;
 
-/// The version of a file format. Only the second has opening keys, the call `ceiling` and its replies.
+/// The version of a file format. Only version 2 has opening keys, the call `ceiling` and its replies.
 #[derive(Clone, Copy, Debug, PartialEq, Eq)]
 pub enum Version {
     One,
@@ -64,7 +64,7 @@ pub fn kind_word(kind: Kind) -> &'static str
     }
 }
 
-/// Whether a field is the word of a kind.
+/// Returns whether a field is the name of the given kind.
 fn is_word_of(piece: &[u8], kind: Kind) -> bool
     ensures { result ≡ bytes_eq piece.now (kind_text kind) }
 {
@@ -98,7 +98,7 @@ pub fn call_word(call: Call) -> &'static str
     }
 }
 
-/// Returns the name of a call that a field is in this version; `None` for any other field.
+/// Returns the call name that a field is in the given version; `None` for any other field.
 #[tactic(auto, unfolding(crate::specs::Spellings::call_word_of))]
 pub fn read_call(version: Version, piece: &[u8]) -> Option<CallWord>
     ensures { result ≡ call_word_in version piece.now }
@@ -133,14 +133,14 @@ impl fmt::Display for ReplyWord {
     }
 }
 
-/// Returns a reply as files spell it, to be written.
+/// Wraps a reply for printing, as files spell it.
 pub fn reply_word(reply: Reply) -> ReplyWord
     ensures { result ≡ record { 0 = reply } }
 {
     ReplyWord(reply)
 }
 
-/// The reply of a version that a field spells, if it has no number; `None` for any other field.
+/// Returns the reply that a field spells in the given version, if it is one without a number. `None` for any other field.
 #[tactic(auto, unfolding(crate::specs::Spellings::reply_of))]
 fn read_plain_reply(version: Version, piece: &[u8]) -> Option<Reply>
     ensures { result ≡ reply_of (plain_in version) piece.now }
@@ -154,7 +154,7 @@ fn read_plain_reply(version: Version, piece: &[u8]) -> Option<Reply>
     }
 }
 
-/// The key of `at-` and a number.
+/// Returns the reply `at-` with the key that follows; `None` for any other field.
 fn read_at(piece: &[u8]) -> Option<Reply>
     ensures { result ≡ at_number piece.now }
 {
@@ -162,7 +162,7 @@ fn read_at(piece: &[u8]) -> Option<Reply>
     Some(Reply::At(Key(number(key, 0, u32::MAX)?)))
 }
 
-/// Returns the reply that a field spells in this version; `None` for any other field.
+/// Returns the reply that a field spells in the given version; `None` for any other field.
 pub fn read_reply(version: Version, piece: &[u8]) -> Option<Reply>
     ensures { result ≡ reply_in version piece.now }
 {
@@ -173,7 +173,7 @@ pub fn read_reply(version: Version, piece: &[u8]) -> Option<Reply>
     }
 }
 
-/// Whether a field is a reply in this version, or, in the second, begins with `at-`.
+/// Returns whether a field has the form of a reply: it is a reply of the given version or, in version 2, begins with `at-`.
 pub fn is_reply(version: Version, piece: &[u8]) -> bool
     ensures { result ≡ is_reply_in version piece.now }
 {
@@ -184,7 +184,7 @@ pub fn is_reply(version: Version, piece: &[u8]) -> bool
     }
 }
 
-/// Lemma: kinds, calls and replies are read from their names, and from nothing else.
+/// Lemma: kinds, calls and replies are read from their names, and from no other text.
 pub fn words_read_back()
     ensures kinds { KindsReadBack }
     ensures calls { CallsReadBack }

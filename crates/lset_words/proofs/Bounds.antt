@@ -1,4 +1,4 @@
--- How many nodes and words a table has at most, and that its slots are different nodes.
+-- The maximum number of nodes of a table, and that its slots are different nodes.
 use Rattle.std.specs.Prelude.{◌≡◌, ℕ, ◌+◌, ◌*◌, ◌<◌, ◌≤◌}
 use Rattle.std.proofs.Common.{arith, ap}
 use Rattle.lset_words.specs.declared.TheConstants.{MOST_THREADS, MOST_QUOTA, MOST_OPENING, MOST_NODES}
@@ -12,14 +12,14 @@ few_nodes threads quota opening few small opens =
 pub nodes_within : (s : Sizes) → IsWithin s → node_count s ≤ MOST_NODES
 nodes_within s w = few_nodes s.threads s.quota s.opening w.few w.small w.opens
 
--- a number has one row and one place in it
+-- A number has one quotient and one remainder.
 pub row_once : (quota t u i j : ℕ) → i < quota → j < quota → t * quota + i ≡ u * quota + j → (t ≡ u) × (i ≡ j)
 row_once quota t u i j a b e =
     let row : t ≡ u = grind arith in
     let same : t * quota ≡ u * quota = ap (λ x. x * quota) row in
     (row, omega arith)
 
--- a set that opens with no key
+-- An opening without keys is within its limits if its sizes are.
 pub opens_empty : (threads quota : ℕ) → IsWithin (sizes (empty threads quota)) → Opens (empty threads quota)
 opens_empty threads quota within = record {
   within = within;

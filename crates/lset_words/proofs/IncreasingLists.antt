@@ -1,4 +1,4 @@
--- Members of lists, and increasing lists: what the proofs about contents as lists share.
+-- Lemmas about members of lists and about increasing lists, for proofs on contents.
 use Rattle.std.proofs.Common.{◌≡◌, ℕ, zero, suc, ◌+◌, ◌<◌, ◌≤◌, ◌⊎◌, inl, inr, List, [], ◌∷◌, length, get_or, sym, refl, subst, arith}
 use Rattle.std.specs.Prelude.{Contains}
 use Rattle.std.specs.List.Sorted.{IsStrictlyIncreasing}
@@ -21,7 +21,7 @@ pub contains-nil : (y : ℕ) → Contains [] y → ⊥
 contains-nil y c = let l : c.0 < 0 = c.1 in omega arith
 
 -- INCREASING LISTS
--- from lo on
+-- The list increases strictly, and its elements are at least `lo`.
 abbrev pub IncreasesFrom : ℕ → List ℕ → Type 0
 IncreasesFrom lo [] = Unit {0}
 IncreasesFrom lo (x ∷ xs) = (lo ≤ x) × IncreasesFrom (x + 1) xs
@@ -30,7 +30,7 @@ pub increases_less : (lo hi : ℕ) (xs : List ℕ) → lo ≤ hi → IncreasesFr
 increases_less lo hi [] l r = tt
 increases_less lo hi (x ∷ xs) l r = let a : hi ≤ x = r.0 in (omega arith, r.1)
 
--- no key of an increasing list lies below its start
+-- No element of an increasing list is below its bound.
 increase_bound : (lo y : ℕ) (xs : List ℕ) → IncreasesFrom lo xs → Contains xs y → lo ≤ y
 increase_bound lo y [] r c = absurd (contains-nil y c)
 increase_bound lo y (x ∷ xs) r c = elim (contains-cons x y xs c) [
@@ -76,7 +76,7 @@ increases_after x (y ∷ ys) h =
           subst (λ n. get_or (y ∷ ys) k 0 < get_or (x ∷ (y ∷ ys)) n 0) e (h (suc k) (omega arith))),
     )
 
--- std's word for increasing
+-- IncreasesFrom beside the definition in std
 pub increases_from_increasing : (xs : List ℕ) → IsStrictlyIncreasing xs → IncreasesFrom 0 xs
 increases_from_increasing [] h = tt
 increases_from_increasing (x ∷ xs) h = (omega arith, increases_after x xs h)

@@ -1,5 +1,5 @@
--- What a run shows of its set, apart from any machine: the contents at its moments, which replies fit them, and what each
--- event does.
+-- The account of a run, without any machine: the contents of the set at each moment, the replies that fit them, and the
+-- effect of each event.
 use Rattle.std.specs.Prelude.{◌≡◌, ◌≢◌, ℕ, suc, ◌+◌, ◌<◌, ◌≤◌, Bool, true, false, Option, Some, None, Contains as InList}
 use Rattle.std.specs.List.Sorted.{IsStrictlyIncreasing}
 use Rattle.lset_words.specs.Words.{Opening}
@@ -10,14 +10,15 @@ use Rattle.lset_words.specs.declared.Reply.TheVariants.{True, False, Full, At, N
 use Rattle.lset_words.specs.Log.{Log, Entry, Change, last_call, begun_at, is_open, has_changed}
 use Rattle.lset_words.specs.Log.Entry.{began, stepped}
 
--- a set of keys, as a fact of each key
+-- A set of keys, as a predicate
 abbrev pub Content : Type 1
 Content = ℕ → Type 0
 
 abbrev pub Same : Content → Content → Type 0
 Same before after = (j : ℕ) → (before j → after j) × (after j → before j)
 
--- [Named change]: what a change does to a content, and only that
+-- [Named change]: the content after a change differs from the content before in that key alone. A key is added only if it was
+-- absent, and removed only if it was present.
 abbrev pub Changes : Option Change → Content → Content → Type 0
 Changes None before after = Same before after
 Changes (Some (k, true)) before after =
@@ -25,25 +26,25 @@ Changes (Some (k, true)) before after =
 Changes (Some (k, false)) before after =
     before k.0 × (after k.0 → ⊥) × ((j : ℕ) → j ≢ k.0 → (before j → after j) × (after j → before j))
 
--- a thread's count of successful adds, after a change of its own
+-- A thread's count of successful adds, after a change by the thread
 abbrev pub count_after : Option Change → ℕ → ℕ
 count_after None count = count
 count_after (Some (k, true)) count = count + 1
 count_after (Some (k, false)) count = count
 
--- [Named change]: which call makes a change: an Add of that key by a thread below its quota, a Remove of that key, and one
--- change a call
+-- [Named change]: a key is added by an Add of that key, by a thread below its quota, and removed by a Remove of that key. A
+-- call makes at most one change.
 abbrev pub MayChange : ℕ → ℕ → Call → Bool → Option Change → Type 0
 MayChange quota count call changed None = Unit {0}
 MayChange quota count call changed (Some (k, true)) = (call ≡ Add k) × (changed ≡ false) × (count < quota)
 MayChange quota count call changed (Some (k, false)) = (call ≡ Remove k) × (changed ≡ false)
 
--- the smallest key of a content at or above k, or that there is none
+-- The smallest key of a content at or above k; None if there is no such key
 abbrev pub IsCeiling : Content → ℕ → Option ℕ → Type 0
 IsCeiling content k None = (j : ℕ) → k ≤ j → content j → ⊥
 IsCeiling content k (Some x) = (k ≤ x) × content x × ((j : ℕ) → k ≤ j → j < x → content j → ⊥)
 
--- [Fits]: with this content, and this count of the thread, the sequential set gives this reply to the call without a change
+-- [Fits]: with this content, and this count of the thread, the sequential set returns this reply and does not change
 abbrev pub Fits : ℕ → Content → ℕ → Call → Reply → Type 0
 Fits quota content count (Add k) True = ⊥
 Fits quota content count (Add k) False = content k.0
@@ -66,14 +67,14 @@ Fits quota content count (Ceiling k) Full = ⊥
 Fits quota content count (Ceiling k) (At x) = IsCeiling content k.0 (Some x.0)
 Fits quota content count (Ceiling k) Nothing = IsCeiling content k.0 None
 
--- the contents at the moments, and each thread's count
+-- The content at each moment, and each thread's count at each moment
 abbrev pub Contents : Type 1
 Contents = ℕ → Content
 
 abbrev pub Counts : Type 0
 Counts = ℕ → ℕ → ℕ
 
--- the reply is correct at a moment of a call of that thread that begins at `first` and has not ended before `last`
+-- The reply fits a moment from `first` to `last`, for a call of this thread
 pub record FitsSometime (quota : ℕ) (contents : Contents) (counts : Counts) (first last thread : ℕ) (call : Call)
     (reply : Reply) : Type 0 where
   pub moment : ℕ
@@ -81,24 +82,24 @@ pub record FitsSometime (quota : ℕ) (contents : Contents) (counts : Counts) (f
   pub upto : moment ≤ last
   pub fits : Fits quota (contents moment) (counts moment thread) call reply
 
--- a reply is True if the call has made a change; else it is correct at a moment of the call
+-- The reply of a call that has made a change is True. Any other reply fits a moment of the call.
 abbrev pub RightReply : Bool → ℕ → Contents → Counts → ℕ → ℕ → ℕ → Call → Option Reply → Type 0
 RightReply changed quota contents counts first last thread call None = Unit {0}
 RightReply true quota contents counts first last thread call (Some reply) = reply ≡ True
 RightReply false quota contents counts first last thread call (Some reply) =
     FitsSometime quota contents counts first last thread call reply
 
--- Thread t begins a call between the moments k and k + 1: it has none open, and nothing else changes.
+-- Thread t begins a call between the moments k and k + 1: it has no pending call, and nothing else changes.
 pub record Begins (threads : ℕ) (log : Log) (contents : Contents) (counts : Counts) (k t : ℕ) : Type 0 where
   pub of_a_thread : t < threads
   pub idle : is_open log t k ≡ false
   pub content : Same (contents k) (contents (suc k))
   pub same_counts : (u : ℕ) → u < threads → counts (suc k) u ≡ counts k u
 
--- Thread t makes a step between the moments k and k + 1, which makes this change and gives this reply, or none:
+-- Thread t makes a step between the moments k and k + 1, with this change and this reply, if any:
 pub record Steps (threads quota : ℕ) (log : Log) (contents : Contents) (counts : Counts) (k t : ℕ) (change : Option Change)
     (reply : Option Reply) : Type 0 where
-  -- it has a call open,
+  -- it has a pending call,
   pub of_a_thread : t < threads
   pub under_way : is_open log t k ≡ true
   -- content and counts change by that change, and by nothing else,
@@ -107,20 +108,20 @@ pub record Steps (threads quota : ℕ) (log : Log) (contents : Contents) (counts
   pub other_counts : (u : ℕ) → u < threads → u ≢ t → counts (suc k) u ≡ counts k u
   -- its call may make the change,
   pub may : MayChange quota (counts k t) (last_call log t k) (has_changed log t k) change
-  -- and the reply is right.
+  -- and the reply is correct.
   pub right : RightReply (has_changed log t (suc k)) quota contents counts (begun_at log t k) (suc k) t (last_call log t k) reply
 
--- one entry
+-- One entry of the log: a begin or a step
 abbrev pub Enters : ℕ → ℕ → Log → Contents → Counts → ℕ → Entry → Type 0
 Enters threads quota log contents counts k (began t call) = Begins threads log contents counts k t
 Enters threads quota log contents counts k (stepped t change reply) = Steps threads quota log contents counts k t change reply
 
 -- THE ACCOUNT of a run of `last` events
 pub record Account (o : Opening) (last : ℕ) (log : Log) (contents : Contents) (counts : Counts) : Type 0 where
-  -- it begins with the opening keys, which increase strictly,
+  -- The content at moment 0 is the opening keys, which increase strictly,
   pub increasing : IsStrictlyIncreasing o.keys
   pub opens : (k : ℕ) → (contents 0 k → InList o.keys k) × (InList o.keys k → contents 0 k)
-  -- no thread has added one yet,
+  -- no thread has added a key yet,
   pub none_yet : (t : ℕ) → t < o.threads → counts 0 t ≡ 0
-  -- and each entry does to it what it says.
+  -- and each entry of the log changes content and counts as it says.
   pub enters : (k : ℕ) → k < last → Enters o.threads o.quota log contents counts k (log k)

@@ -1,4 +1,4 @@
--- What a call does to its key.
+-- The effect of a call on its key.
 use Rattle.std.specs.Prelude.{Bool, true, false}
 use Rattle.lset_words.specs.declared.Call.{Call}
 use Rattle.lset_words.specs.declared.Call.TheVariants.{Add, Remove, Contains}
@@ -17,7 +17,7 @@ abbrev pub is_there : Presence → Bool
 is_there Present = true
 is_there Absent = false
 
--- with its reply: a change that it makes, or what it sees of the key
+-- The effect of a call with this reply: it changes its key, or sees it present or absent
 abbrev pub effect_of : Call → Reply → Effect
 effect_of (Add k) True = Changes Present
 effect_of (Add k) False = Sees Present

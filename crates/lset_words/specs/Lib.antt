@@ -4,5 +4,4 @@ pub mod Effects
 pub mod History
 pub mod Log
 pub mod Account
-pub mod Placement
 pub mod Records

@@ -1,5 +1,5 @@
--- What happens in a run, and the calls that it makes. No machine is named here: a log has of each event what a set shows of it.
--- Moment k is after the first k events, and entry k of a log is the event between the moments k and k + 1.
+-- The log of a run, and the calls in it. A log names no machine: of each event it has only what a user of the set sees.
+-- Moment k is the state after the first k events. Entry k of a log is the event between the moments k and k + 1.
 use Rattle.std.specs.Prelude.{ℕ, zero, suc, ◌==◌, ◌||◌, ◌&&◌, Bool, true, false, if◌then◌else◌, List, [], ◌∷◌, ◌++◌, map, Option}
 use Rattle.std.specs.Prelude.{Some, None, is_none}
 use Rattle.lset_words.specs.declared.Key.{Key}
@@ -8,11 +8,11 @@ use Rattle.lset_words.specs.declared.Call.TheVariants.{Contains}
 use Rattle.lset_words.specs.declared.Reply.{Reply}
 use Rattle.lset_words.specs.declared.history.CallRecord.{CallRecord}
 
--- a key that is put in (true) or taken out (false)
+-- A change of the set: the key, and true if it is added, false if it is removed
 abbrev pub Change : Type 0
 Change = Key × Bool
 
--- a thread begins a call, or makes a step, which may change the set and may answer
+-- An event: a thread begins a call, or makes a step. A step can change the set, and can end the call with a reply.
 pub data Entry : Type 0 where
   began : (thread : ℕ) → Call → Entry
   stepped : (thread : ℕ) → Option Change → Option Reply → Entry
@@ -21,7 +21,7 @@ abbrev pub Log : Type 0
 Log = ℕ → Entry
 
 -- THE CALLS OF A LOG
--- a call: the moments just after its Begin, its changing step and its answering step, if there are such
+-- A call: the moments just after its Begin, its changing step and its last step. The last two are None if there is no such step.
 pub record TracedCall : Type 0 where
   pub thread : ℕ
   pub call : Call
@@ -29,7 +29,7 @@ pub record TracedCall : Type 0 where
   pub changed : Option ℕ
   pub ended : Option (ℕ × Reply)
 
--- an open call of that thread
+-- Whether the call is pending and of this thread
 abbrev pub is_under_way : ℕ → TracedCall → Bool
 is_under_way thread x = x.thread == thread && is_none x.ended
 
@@ -41,7 +41,7 @@ abbrev pub ended_by : ℕ → Option Reply → Option (ℕ × Reply)
 ended_by moment None = None
 ended_by moment (Some reply) = Some (moment, reply)
 
--- a step of its thread, up to that moment
+-- The call after a step of its thread; `moment` is the moment just after the step
 abbrev pub traced_on : ℕ → Option Change → Option Reply → TracedCall → TracedCall
 traced_on moment change reply x = record x { changed = changed_by moment change x.changed; ended = ended_by moment reply }
 
@@ -49,21 +49,21 @@ abbrev pub calls_after : ℕ → Entry → List TracedCall → List TracedCall
 calls_after moment (began t call) xs = xs ++ record { thread = t; call = call; begun = moment; changed = None; ended = None } ∷ []
 calls_after moment (stepped t change reply) xs = map (λ x. if is_under_way t x then traced_on moment change reply x else x) xs
 
--- the calls that have begun at the moment, by their numbers, which count from 0
+-- The calls that have begun by moment k. Calls are numbered from 0 in the order of their begins.
 abbrev pub calls_at : Log → ℕ → List TracedCall
 calls_at log zero = []
 calls_at log (suc k) = calls_after (suc k) (log k) (calls_at log k)
 
--- what a history has of a call
+-- The call, as a history records it
 abbrev pub record_of : TracedCall → CallRecord
 record_of x = record { thread = x.thread; call = x.call; begun = x.begun; ended = x.ended }
 
--- the history of the first k events
+-- The history of the first k events
 abbrev pub history_at : Log → ℕ → List CallRecord
 history_at log k = map record_of (calls_at log k)
 
--- THE LAST CALL OF A THREAD, open or ended: which it is, whether it is open, the moment just after its Begin, whether it has made
--- a change. What stood before an entry is the last argument.
+-- THE LAST CALL OF A THREAD, pending or completed: the call, the moment just after its Begin, whether it is pending, and whether
+-- it has made a change. The last argument of each function is the value before the entry.
 abbrev pub call_after : Entry → ℕ → Call → Call
 call_after (began u call) t before = if u == t then call else before
 call_after (stepped u change reply) t before = before

@@ -1,4 +1,4 @@
-//! What a call does to its key.
+//! The effect of a call on its key.
 
 ghost use Rattle.std.specs.Prelude.{◌≡◌};
 ghost use Rattle.lset_words.specs.Effects.{effect_of};
@@ -12,19 +12,19 @@ pub enum Presence {
     Absent,
 }
 
-/// What a completed call does to its key.
+/// The effect of a completed call on its key.
 #[derive(Clone, Copy, Debug, PartialEq, Eq)]
 pub enum Effect {
-    /// It puts the key in, or takes it out.
+    /// The call adds the key (`Present`) or removes it (`Absent`).
     Changes(Presence),
-    /// It finds the key there, or absent, and leaves it so.
+    /// The call sees that the key is present or absent, and changes nothing.
     Sees(Presence),
-    /// It tells nothing of the key alone: a `ceiling`, or a reply that the set never gives to such a call.
+    /// Nothing is known of the key: the call is a `ceiling`, or no set replies this to such a call.
     Other,
 }
 
 impl Call {
-    /// Returns what the call does to its key if it has this reply. An `add` that replies `Full` finds its key absent.
+    /// Returns the effect of the call on its key, if the call returns `reply`. An `add` that returns `Full` sees its key absent.
     pub fn effect(self, reply: Reply) -> Effect
         ensures { result ≡ effect_of self reply }
     {

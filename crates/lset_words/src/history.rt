@@ -1,7 +1,7 @@
 use crate::{Call, Reply};
 
-/// One call of a history (Herlihy and Wing): its thread, the call, and the moments at which it begins and ends, counted in
-/// events from 1. A call without an end is pending.
+/// A call of a history (Herlihy and Wing): its thread, the call, and the moments at which it begins and ends. Moments are
+/// counted in events from 1. A call without an end is pending.
 #[derive(Clone, Copy, Debug, PartialEq, Eq)]
 pub struct CallRecord {
     pub thread: u32,
@@ -10,15 +10,15 @@ pub struct CallRecord {
     pub ended: Option<(u32, Reply)>,
 }
 
-/// A place in an order of calls: the number of a call, from 0, and the reply that the order gives it.
+/// A place in an order of calls: the number of a call, from 0, and its reply in the order.
 #[derive(Clone, Copy, Debug, PartialEq, Eq)]
 pub struct Placed {
     pub call: u32,
     pub reply: Reply,
 }
 
-/// The linearization point of a call in an order: the moment, counted in events from 1, and whether the call changes the set
-/// there.
+/// The linearization point of a call: the moment, counted in events from 1, and whether the call changes the set at that
+/// moment.
 #[derive(Clone, Copy, Debug, PartialEq, Eq)]
 pub struct Point {
     pub moment: u32,

@@ -1,13 +1,12 @@
-//! Keys, calls, replies, the layout of a list's words, and the records of which histories are made.
+//! Keys, calls, replies, the layout of a list's words, and the records of histories.
 //!
-//! The definitions of the whole theorem are in this crate's specs: the sequential set, the history of a run, an order of the
-//! calls that explains it, the content that it leaves; what a run is, lset_steps defines. The crates that prove the theorem
-//! of each list, that run the lists in threads, that replay a schedule and that check a report have no other crate in
-//! common: whoever believes them has one place to read, and none of them bends a definition to its own proof.
+//! This crate's specs define the terms of the main theorem: the sequential set, the history of a run, an order of the calls
+//! that explains the history, and the content. A run is defined in `lset_steps`. The crates that prove the theorem for each
+//! list, run the lists in threads, replay schedules and check reports all use these definitions. A reader who wants to
+//! believe the theorem reads them once.
 //!
-//! In this library a function allocates only if it takes `alloc: Global`, or a value that was made with one; it blocks only
-//! if it takes a runtime `rt` with `Wait`. The table of words, the limits and the call `ceiling` are not from the
-//! literature.
+//! A function of this library allocates only if it takes `alloc: Global`, or a value that was made with one. It blocks only
+//! if it takes a runtime `rt` with `Wait`. The table of words, the limits and the call `ceiling` are not from the literature.
 #![tactic(auto)]
 
 ghost use Rattle.std.specs.Prelude.{◌≡◌, ℕ, ◌+◌, ◌/◌, ◌%◌, ◌<◌, ◌^◌, IsTrue, ◌↔◌, All, Bool, IfOk, IfErr};
@@ -29,13 +28,13 @@ pub use table::{Layout, key_index, link_index, lock_index, slot_node, words_are_
 /// The maximum number of threads of a list.
 pub const MOST_THREADS: u32 = 64;
 
-/// The maximum quota: how many keys a thread can add over the life of a list, each in a slot of its own.
+/// The maximum quota: the number of keys that a thread can add over the life of a list. Each takes a slot of its own.
 pub const MOST_QUOTA: u32 = 16_384;
 
 /// The maximum number of keys with which a list opens.
 pub const MOST_OPENING: u32 = 1_048_576;
 
-/// The maximum number of nodes of a table: head, tail, every slot of every thread, and the opening keys.
+/// The maximum number of nodes of a table: the head, the tail, a node for each slot of each thread and for each opening key.
 pub const MOST_NODES: u64 = 2 + MOST_THREADS as u64 * MOST_QUOTA as u64 + MOST_OPENING as u64;
 
 /// The maximum number of 64-bit words of a table.
@@ -47,7 +46,7 @@ pub const HEAD: u64 = 0;
 /// The number of the node that is the tail of each list's chain.
 pub const TAIL: u64 = 1;
 
-/// The index of the word that is CoarseList's one lock.
+/// The index of the word that is the single lock of CoarseList.
 pub const LOCK: u64 = 0;
 
 /// A key of a set: any `u32`.
@@ -55,8 +54,7 @@ pub const LOCK: u64 = 0;
 pub struct Key(pub u32);
 
 impl Key {
-    /// Returns the key word of a node with this key: the key plus 1, which is above the head's 0 and below the tail's
-    /// `2^32 + 1`.
+    /// Returns the key word of a node with this key: the key plus 1. The head's key word is 0, the tail's is `2^32 + 1`.
     pub fn word(self) -> u64
         ensures { result ≡ key_word_of self }
     {
@@ -108,7 +106,7 @@ pub enum Reply {
     Nothing,
 }
 
-/// Returns the layout of a list that opens empty, for `threads` threads, 1 to 64, with a quota of `quota` each, 0 to 16,384.
+/// Returns the layout of a list that opens empty, with `threads` threads (1 to 64) and a quota of `quota` each (0 to 16,384).
 ///
 /// # Errors
 ///
@@ -120,8 +118,8 @@ pub fn layout(threads: u32, quota: u32) -> Result<Layout, LayoutFault>
     layout_opening(threads, quota, 0)
 }
 
-/// Returns the layout of a list that opens with keys, for `threads` threads, 1 to 64, with a quota of `quota` each, 0 to 16,384,
-/// and `opening` opening keys, 0 to 1,048,576. Each opening key has a node that is no thread's slot.
+/// Returns the layout of a list that opens with `opening` keys (0 to 1,048,576), with `threads` threads (1 to 64) and a quota
+/// of `quota` each (0 to 16,384). Each opening key has a node of its own, which is no slot of a thread.
 ///
 /// # Errors
 ///
@@ -143,7 +141,7 @@ pub fn layout_opening(threads: u32, quota: u32, opening: u32) -> Result<Layout, 
     Ok(Layout::of(threads, quota, opening))
 }
 
-/// Whether each key is above the one before.
+/// Returns whether the keys increase strictly.
 pub fn increases(keys: &[u32]) -> bool
     ensures { IsTrue result ↔ IsStrictlyIncreasing keys.now }
 {
@@ -155,15 +153,15 @@ pub fn increases(keys: &[u32]) -> bool
     true
 }
 
-/// Has a proof see that each key is below `2^32`. It does nothing.
+/// A lemma for proofs: each key is below `2^32`. The function does nothing.
 pub fn keys_are_small(keys: &[u32])
     ensures { All (λ k. k < 2 ^ 32) keys.now }
 {
     let _keys = keys;
 }
 
-/// Returns the link word of a node whose next node has the number `next`, below `2^63`, and whose mark is `mark`. Mark and
-/// link share one word (Harris).
+/// Returns the link word of a node: `next` is the number of the next node, below `2^63`, and `mark` is the node's mark. Mark
+/// and link share one word (Harris).
 pub fn pack(next: u64, mark: bool) -> u64
     requires { next < 2 ^ 63 }
     ensures { result ≡ packed next mark }
@@ -171,8 +169,8 @@ pub fn pack(next: u64, mark: bool) -> u64
     if mark { 2 * next + 1 } else { 2 * next }
 }
 
-/// Returns the number of the next node and the mark that a link word holds. Every `word` is a link word;
-/// `unpack(pack(next, mark))` is `(next, mark)`.
+/// Returns the number of the next node and the mark in a link word. Every `word` is a link word. `unpack(pack(next, mark))`
+/// is `(next, mark)`.
 pub fn unpack(word: u64) -> (u64, bool)
     ensures next { result.0 ≡ word / 2 }
     ensures mark { IsTrue result.1 ↔ (word % 2 ≡ 1) }

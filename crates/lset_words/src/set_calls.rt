@@ -1,28 +1,28 @@
-//! What is asked of a set whose calls are made from seats.
+//! The trait of running sets.
 ghost use Rattle.std.specs.Prelude.{◌≡◌, ℕ};
 ghost use Rattle.lset_words.specs.Records.{Record, called};
 
 use crate::{Call, Reply};
 use std::sync::Wait;
 
-/// A running set whose calls are made from seats: the right to call as one thread. `session` serves any set that implements
-/// it.
+/// A running set. Its calls are made from seats: a seat is the right to call as one thread. `session` serves any set that
+/// implements this trait.
 pub trait SetCalls {
     type Seat;
 
-    /// The seat is one of this set.
+    /// The seat belongs to this set.
     ghost is_of: { Self → Self.Seat → Type 0 };
 
     /// The record of a seat.
     ghost record_of: { Self.Seat → Record };
 
-    /// How many seats a seat holds, itself included.
+    /// The number of seats that were gathered into a seat, itself included.
     ghost held_by: { Self.Seat → ℕ };
 
-    /// Makes `call` from the seat `seat`, which must be of this set, and returns the reply. The seat's record grows by the
-    /// call with that reply; nothing else of the seat changes.
+    /// Makes `call` from the seat `seat`, which must belong to this set, and returns the reply. Appends the call with its
+    /// reply to the seat's record. Nothing else of the seat changes.
     ///
-    /// May block while another thread holds a lock that the call needs. The sets of this library do not allocate in it, so that
+    /// Can block while another thread holds a lock that the call needs. The sets of this library do not allocate here, so
     /// `session` does not either.
     fn make_call<R: Wait>(&self, rt: &R, seat: &mut Self::Seat, call: Call) -> Reply
         requires { is_of self.now seat.old }

@@ -30,15 +30,15 @@ pub fn lock_index(node: u64) -> u64
 }
 
 /// Returns the number of the node that is slot `slot` of thread `thread`, if each thread has `quota` slots. Every number is
-/// allowed; if `slot` is not below `quota`, the result is a node of a later thread, or no node.
+/// allowed: if `slot` is not below `quota`, the result is a slot of a later thread or no node.
 pub fn slot_node(quota: u32, thread: u32, slot: u32) -> u64
     ensures { result ≡ slot_node quota thread slot }
 {
     2 + u64::from(thread) * u64::from(quota) + u64::from(slot)
 }
 
-/// The places of a list's words in its table, for 1 to 64 threads with a quota of 0 to 16,384 each, and 0 to 1,048,576
-/// opening keys. `layout` and `layout_opening` make one.
+/// The layout of a list's words in its table, for 1 to 64 threads with a quota of 0 to 16,384 each, and 0 to 1,048,576
+/// opening keys. `layout` and `layout_opening` return one.
 #[derive(Clone, Copy)]
 pub struct Layout {
     threads: u32,
@@ -57,7 +57,7 @@ impl Model for Layout {
 }
 
 impl Layout {
-    /// The layout of sizes that are within their limits.
+    /// Returns the layout of these sizes, which must be within their limits.
     pub(crate) fn of(threads: u32, quota: u32, opening: u32) -> Layout
         requires { IsWithin (record { threads = threads; quota = quota; opening = opening }) }
         ensures { result ≡ record { threads = threads; quota = quota; opening = opening } }
@@ -93,7 +93,7 @@ impl Layout {
         self.opening
     }
 
-    /// Returns the number of nodes: head, tail, every slot of every thread, and one for each opening key.
+    /// Returns the number of nodes: the head, the tail, one for each slot of each thread, and one for each opening key.
     pub fn nodes(&self) -> u64
         ensures count { result ≡ node_count self.now }
         ensures few { result ≤ MOST_NODES }
@@ -109,7 +109,7 @@ impl Layout {
         3 + 3 * self.nodes()
     }
 
-    /// Returns the index of the key word of node `i`, which must be below `nodes()`. The index is below `words()`.
+    /// Returns the index of the key word of node `i`. The index is below `words()`. `i` must be below `nodes()`.
     pub fn key_word(&self, i: u64) -> u64
         requires { i < node_count self.now }
         ensures index { result ≡ key_index i }
@@ -119,7 +119,7 @@ impl Layout {
         key_index(i)
     }
 
-    /// Returns the index of the link word of node `i`, which must be below `nodes()`. The index is below `words()`.
+    /// Returns the index of the link word of node `i`. The index is below `words()`. `i` must be below `nodes()`.
     pub fn link_word(&self, i: u64) -> u64
         requires { i < node_count self.now }
         ensures index { result ≡ link_index i }
@@ -129,7 +129,7 @@ impl Layout {
         link_index(i)
     }
 
-    /// Returns the index of the lock word of node `i`, which must be below `nodes()`. The index is below `words()`.
+    /// Returns the index of the lock word of node `i`. The index is below `words()`. `i` must be below `nodes()`.
     pub fn lock_word(&self, i: u64) -> u64
         requires { i < node_count self.now }
         ensures index { result ≡ lock_index i }

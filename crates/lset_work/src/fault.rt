@@ -2,25 +2,25 @@ use lset_live::{LiveSet, Running, Seat};
 use std::fmt;
 use thiserror::Error;
 
-/// Why programs were not run to their ends.
+/// The cause of a `WorkFault`.
 #[derive(Clone, Copy, Debug, PartialEq, Eq, Error)]
 pub enum WorkCause {
-    /// The programs are not as many as the seats, or the seats do not hold all seats of the set.
+    /// The programs are not as many as the seats, or the seats do not hold all seats of the set. No thread was started.
     #[error("the programs are not as many as the seats, or seats are missing")]
     Programs,
-    /// A thread was refused.
+    /// The system refused to start a thread. The threads that were started have run to their ends.
     #[error("a thread was refused")]
     Spawn,
-    /// A gate answered false.
+    /// The gate returned false. The other threads have run to their ends.
     #[error("a gate answered false")]
     Gate,
-    /// Memory was refused.
+    /// An allocation failed. No thread was started.
     #[error("out of memory")]
     Memory,
 }
 
-/// Why programs were not run to their ends. After `Programs` and after `Memory` no thread was started, and `back` has the set and the
-/// seats, as they were.
+/// The error of `work`. After `Programs` and `Memory` no thread was started, and `back` contains the set and the seats unchanged.
+/// After the other causes `back` is `None`.
 #[derive(Drop, Error)]
 #[error("{cause}")]
 pub struct WorkFault<M: Running> {

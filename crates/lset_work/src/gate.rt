@@ -1,16 +1,16 @@
 ghost use Rattle.std.specs.Prelude.{◌≡◌, Bool, true, false, IsTrue};
 
-/// Asked by each worker before each call of its program. It gives an answer, and touches no set.
+/// A check before each call of a program. It decides whether the call is made, and does not access the set.
 pub trait Gate {
-    /// Whether the gate may answer false.
+    /// Whether the gate can return false.
     ghost may_shut: { Self → Bool } = { λ _. true };
 
-    /// Whether the call with the number `call`, from 0, in the program of the seat of thread `seat` may be made.
+    /// Returns whether to make call number `call`, from 0, of the program that runs on the seat of thread `seat`.
     fn pass(&self, seat: u32, call: u32) -> bool
         ensures { may_shut self.now ≡ false → IsTrue result };
 }
 
-/// Lets every call pass.
+/// A gate that lets every call pass.
 #[derive(Clone, Copy, Debug)]
 pub struct Always;
 

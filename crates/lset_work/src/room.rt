@@ -1,4 +1,4 @@
-//! The lists that the threads fill, all reserved before the first thread starts.
+//! The lists that the threads fill. All are allocated before the first thread starts.
 ghost use Rattle.std.specs.Prelude.{◌≡◌, ◌<◌, ◌≤◌, ◌^◌, [], IfSome, All, map, length, vec_capacity};
 
 use crate::gate::Gate;
@@ -7,7 +7,7 @@ use lset_live::Running;
 use lset_words::{Call, Reply};
 use std::alloc::Global;
 
-/// A program, with room for its replies.
+/// A program, with space for its replies.
 #[derive(Drop)]
 pub(crate) struct Program {
     pub calls: Vec<Call>,
@@ -17,8 +17,8 @@ pub(crate) struct Program {
     ghost short: { length calls.items < 2 ^ 32 },
 }
 
-/// All lists that the threads fill: their programs with room for the replies, and room for their handles and for the lists
-/// of replies.
+/// All lists that the threads fill: the programs with space for their replies, and space for the threads' handles and for the
+/// lists of replies.
 #[derive(Drop)]
 pub(crate) struct Room<M: Running, G: Gate> {
     pub programs: Vec<Program>,
@@ -44,7 +44,7 @@ fn with_room(alloc: Global, programs: Vec<Vec<Call>>) -> Option<Vec<Program>>
     Some(all)
 }
 
-/// Reserves all lists that the threads fill, and one for the keys that are left, at most `keys`. `None` if an allocation fails.
+/// Allocates all lists that the threads fill, and a list for at most `keys` final keys. Returns `None` if an allocation fails.
 pub fn reserved<M: Running, G: Gate>(
     alloc: Global,
     programs: Vec<Vec<Call>>,

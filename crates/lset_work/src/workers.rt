@@ -1,4 +1,4 @@
-//! The threads: what each makes of its program, their starts and their ends.
+//! The threads: starting them, running their programs, and joining them.
 ghost use Rattle.std.specs.Prelude.{◌≡◌, ◌<◌, ◌≤◌, ◌^◌, [], IfSome, MatchBool, MatchOption, All, map, length, true, vec_capacity};
 ghost use Rattle.lset_rule.specs.Runs.{StartsWith};
 ghost use Rattle.lset_work.specs.Programs.{HaveRun, IsMadeOn};
@@ -12,14 +12,14 @@ use std::snapshot::Snapshot;
 use std::sync::Wait;
 use std::thread::{Promise, PromisedHandle, Scope, Threads};
 
-/// What a thread returns: its seat, and the replies of its program unless a gate answered false.
+/// The result of a thread: its seat, and the replies of its program; `None` if the gate returned false.
 #[derive(Drop)]
 pub(crate) struct Done<M: Running> {
     pub seat: Seat<M>,
     pub replies: Option<Vec<Reply>>,
 }
 
-/// What a thread owes: the calls of its program, made on its seat, unless its gate may answer false.
+/// The promise of a thread: it makes the calls of its program on its seat, unless its gate can return false.
 #[derive(Drop)]
 pub(crate) struct WorkerPromise<M: Running, G: Gate> {
     pub set: Snapshot<LiveSet<M>>,
@@ -35,10 +35,10 @@ impl<M: Running, G: Gate> Promise<Done<M>> for WorkerPromise<M, G> {
         × StartsWith done.seat.events owed.seat.value.events };
 }
 
-/// A thread that was started.
+/// A started thread.
 pub(crate) type Worker<M, G> = PromisedHandle<Done<M>, WorkerPromise<M, G>>;
 
-/// Makes the calls of a program until the gate answers false, and adds their replies. Tells whether all were made.
+/// Makes the calls of a program until the gate returns false, and appends their replies. Returns whether all calls were made.
 fn make_calls<R: Wait, M: Running, G: Gate>(
     rt: &R,
     set: &LiveSet<M>,
@@ -93,7 +93,7 @@ fn run_program<R: Wait, M: Running, G: Gate>(
     }
 }
 
-/// What all threads of a program of calls share: the set, the gate that they ask, and what they wait by.
+/// The parts that all threads share: the set, the gate, and the runtime through which they wait.
 #[derive(Drop)]
 pub(crate) struct Shared<'s, R, M: Running, G: Gate> {
     pub rt: &'s R,
@@ -102,7 +102,7 @@ pub(crate) struct Shared<'s, R, M: Running, G: Gate> {
 }
 
 impl<'s, R: Wait + Sync, M: Running + Send + Sync, G: Gate + Sync> Shared<'s, R, M, G> {
-    /// Starts the thread of a program. `None` where it is refused.
+    /// Starts the thread of a program. Returns `None` if the system refuses the thread.
     fn start_one<E>(
         &self,
         scope: &Scope<'s, E>,
@@ -127,7 +127,7 @@ impl<'s, R: Wait + Sync, M: Running + Send + Sync, G: Gate + Sync> Shared<'s, R,
             .ok()
     }
 
-    /// Starts a thread for each seat. `None` where one is refused.
+    /// Starts a thread for each seat. Returns `None` if the system refuses a thread.
     pub fn start_all<E>(
         &self,
         scope: &Scope<'s, E>,
@@ -158,14 +158,14 @@ impl<'s, R: Wait + Sync, M: Running + Send + Sync, G: Gate + Sync> Shared<'s, R,
     }
 }
 
-/// The replies of the programs, and the seat into which the others were gathered.
+/// The replies of the programs, and the seat into which all others were gathered.
 #[derive(Drop)]
 pub(crate) struct Gathered<M: Running> {
     pub seat: Option<Seat<M>>,
     pub replies: Vec<Vec<Reply>>,
 }
 
-/// Waits for the threads, which ask `gate`, and gathers their seats. `None` where it has answered false.
+/// Joins the threads and gathers their seats. Returns `None` if the gate has returned false.
 pub(crate) fn join_all<R: Threads, M: Running, G: Gate>(
     rt: &R,
     set: &LiveSet<M>,

@@ -1,4 +1,4 @@
-//! Programs of calls on the seats of a running set, all at once.
+//! Runs programs of calls on the seats of a running set, all at once.
 ghost use Rattle.std.specs.Prelude.{◌≡◌, ◌<◌, ◌^◌, ◌↔◌, IfOk, IfErr, IsOk, MatchResult, All, map, length, true};
 ghost use Rattle.lset_live.specs.Explained.{IsOneLegalOrder};
 ghost use Rattle.lset_work.specs.Programs.{Fit, GivesBack, HaveRun, IsOfThreads, IsWorkInTime, worked};
@@ -14,12 +14,12 @@ use std::sync::Wait;
 use std::thread;
 use std::thread::{Scope, Threads};
 
-/// What programs made of a set.
+/// The outcome of running programs on a set.
 #[derive(Drop)]
 pub struct Outcome {
     /// The replies of each program, in the order of the seats.
     pub replies: Vec<Vec<Reply>>,
-    /// The keys that are left, in increasing order.
+    /// The final keys, in increasing order.
     pub keys: Vec<u32>,
 }
 
@@ -77,23 +77,25 @@ fn run_all<R: Threads + Wait + Sync, M: Running + Send + Sync, G: Gate + Sync>(
     )
 }
 
-/// Makes the calls of each program on its seat, all programs at once, one thread for each seat.
+/// Makes the calls of each program on its seat, all programs at once, with one thread for each seat.
 ///
-/// `gate` is asked before each call. At the end the seats are gathered and the set is closed. One legal order of calls
-/// (Herlihy and Wing) keeps each seat's earlier record, then the calls of its program with their replies, has no other
-/// call, and leaves the keys. No program has more than 4,294,967,295 calls. It waits for its threads, which wait for the
-/// locks of the set and as long as the gate does.
+/// `gate` is asked before each call. At the end the seats are gathered and the set is closed. One legal order of calls (Herlihy
+/// and Wing) has each seat's earlier record followed by the calls of its program with their replies, has no other call, and
+/// leaves the final keys. A program has at most 4,294,967,295 calls. Blocks until its threads have ended. They wait for the locks
+/// of the set, and as long as the gate does.
 ///
-/// The cause of a `WorkFault` is the first of these that applies:
+/// # Errors
 ///
-/// - `Programs`: the programs are not as many as the seats, or the seats do not hold all seats of the set. Nothing was
-///   called, and set and seats come back.
-/// - `Spawn`: the system refused a thread. Those that were started run to their ends.
-/// - `Gate`: the gate answered false. That worker stops, the others run to their ends.
-/// - `Memory`: it was refused before the first thread started, and set and seats come back. All memory, that for the keys too,
-///   is taken by then.
+/// Returns a `WorkFault` with the first of these causes that applies:
 ///
-/// No clause says when a thread is refused, or when a gate that may answer false does.
+/// - `Programs`: the programs are not as many as the seats, or the seats do not hold all seats of the set. No call was made, and
+///   the set and the seats are returned.
+/// - `Spawn`: the system refused to start a thread. The threads that were started have run to their ends.
+/// - `Gate`: the gate returned false. That thread stopped, and the others have run to their ends.
+/// - `Memory`: an allocation failed before the first thread started. The set and the seats are returned. All memory, also for the
+///   final keys, is allocated before the first thread starts.
+///
+/// No contract states when the system refuses a thread, or when a gate that can return false does.
 pub fn work<R: Threads + Wait + Sync, M: Running + Send + Sync, G: Gate + Sync>(
     rt: &R,
     alloc: Global,
@@ -104,18 +106,18 @@ pub fn work<R: Threads + Wait + Sync, M: Running + Send + Sync, G: Gate + Sync>(
 ) -> Result<Outcome, WorkFault<M>>
     requires seats { All (λ s. s.set ≡ set) seats.items }
     requires short { All (λ p. length p.items < 2 ^ 32) programs.items }
-    // one reply for each call of each program
+    // There is one reply for each call of each program.
     ensures replies { IfOk result (λ o. map (λ v. length v.items) o.replies.items ≡ map (λ p. length p.items) programs.items) }
     ensures outcome { IfOk result (λ o. IsOneLegalOrder set.shape (worked
         (map (λ s. s.past) seats.items) (map (λ p. p.items) programs.items) (map (λ v. v.items) o.replies.items)) o.keys.items) }
-    // in time: what was seen before, by a seat or the giver of a receipt that it took, comes first
+    // In time: calls that a seat had seen before, or the giver of a receipt that it took, come first.
     ensures in_time { IfOk result (λ o. IsWorkInTime M.table set.shape seats.items (worked
         (map (λ s. s.past) seats.items) (map (λ p. p.items) programs.items) (map (λ v. v.items) o.replies.items)) o.keys.items) }
-    // `Programs` is answered just where programs and seats do not fit
+    // The cause is `Programs` exactly if programs and seats do not fit.
     ensures fitting { IsOk result → Fit set seats.items (length programs.items) }
     ensures refused { IfErr result (λ f. f.cause ≡ WorkCause.Programs ↔ ¬ (Fit set seats.items (length programs.items))) }
     ensures back { IfErr result (λ f. GivesBack (set, seats) f.cause f.back) }
-    // a gate that never answers false stops no program
+    // A gate that never returns false stops no program.
     ensures gate { IfErr result (λ f. f.cause ≡ WorkCause.Gate → G.may_shut gate.now ≡ true) }
 {
     if programs.len() != seats.len() || !set.is_held_by(&seats) {

@@ -1,7 +1,7 @@
 use anyhow::{Error, Result};
 use std::alloc::{AllocError, Global};
 
-/// An error if an answer is not the expected one.
+/// Returns an error unless `is_as_wanted`: the result is not the expected one.
 pub fn check(is_as_wanted: bool) -> Result<()> {
     if is_as_wanted {
         Ok(())
@@ -13,9 +13,9 @@ pub fn check(is_as_wanted: bool) -> Result<()> {
 /// The calls made so far.
 #[derive(Drop)]
 pub struct Calls {
-    /// The last one.
+    /// The name of the last call.
     pub name: &'static str,
-    /// The one that returned `Memory`.
+    /// The name of the call that returned `Memory`.
     pub refused: Option<&'static str>,
 }
 
@@ -27,7 +27,7 @@ impl Calls {
         }
     }
 
-    /// Whether the last call may return `Memory`: only the first call that does, since one allocation alone fails.
+    /// Returns whether the last call may return `Memory`. Only one allocation fails, so only the first such call may.
     pub fn may_be_refused(&mut self) -> bool {
         if self.refused.is_some() {
             return false;
@@ -36,8 +36,8 @@ impl Calls {
         true
     }
 
-    /// Allocates a block of memory in the name of the call that comes next. An allocation that is counted behind that block,
-    /// and before one of another name, is this call's.
+    /// Allocates a block of memory in the name of the next call. The allocations after that block, up to the next announcement, are
+    /// those of this call.
     pub fn announce(&mut self, alloc: Global, name: &'static str) -> Result<(), AllocError> {
         self.name = name;
         if Box::new(alloc, 0).is_ok() || self.may_be_refused() {

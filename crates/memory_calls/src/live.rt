@@ -1,4 +1,4 @@
-//! Running sets of each list, from their opening to their keys.
+//! Running sets of each list, from opening to the final keys.
 
 use crate::prelude::*;
 use lset_coarse::CoarseList;
@@ -29,7 +29,7 @@ fn add_six<M: Running, R: Wait>(rt: &R, set: &LiveSet<M>, seat: &mut Seat<M>) ->
     Ok(())
 }
 
-/// Changes the set, leaves the keys 1, 2, 4, 5 and 6, and looks for a key that went out and for the next one.
+/// Changes the set so that it has the keys 1, 2, 4, 5 and 6, and looks for a removed key and for the next larger one.
 fn change_and_look<M: Running, R: Wait>(
     rt: &R,
     alloc: Global,
@@ -47,7 +47,7 @@ fn change_and_look<M: Running, R: Wait>(
     check(set.ceiling(rt, seat, Key(3)) == Reply::At(Key(4)))
 }
 
-/// Makes a call with no handle to block by, which is answered so.
+/// Makes a call with no handle to block by, and expects this reply.
 fn call_within<M: Running>(
     alloc: Global,
     calls: &mut Calls,
@@ -65,7 +65,7 @@ fn call_within<M: Running>(
     Ok(seat)
 }
 
-/// One call of each kind, which leave the keys as they were.
+/// Makes a call of each kind. The keys are unchanged at the end.
 fn call_each_within<M: Running>(
     alloc: Global,
     calls: &mut Calls,
@@ -80,7 +80,7 @@ fn call_each_within<M: Running>(
     call_within(alloc, calls, set, seat, Call::Remove(key), Reply::True)
 }
 
-/// The calls of a seat, which leave the keys as they were: of one that has slots, or of one that has used all of its slots.
+/// Makes the typed calls of a seat that has slots, or has used all its slots. The keys are unchanged at the end.
 fn call_typed<M: Running, R: Wait>(
     rt: &R,
     alloc: Global,
@@ -101,7 +101,7 @@ fn call_typed<M: Running, R: Wait>(
     check(!seat.remove(rt, set, Key(3)))
 }
 
-/// A seat gives a receipt, and another goes on after it; so does the first after a second one.
+/// Hands a receipt from each of two seats to the other.
 fn pass_receipts<M: Running>(
     alloc: Global,
     calls: &mut Calls,
@@ -119,7 +119,7 @@ fn pass_receipts<M: Running>(
     Ok(())
 }
 
-/// A session over bytes in memory, with an answer of each kind but `FULL`.
+/// Runs a session over bytes in memory, with an answer of each kind except `FULL`.
 fn answer_session<M: Running, R: Wait>(
     rt: &R,
     alloc: Global,
@@ -141,7 +141,7 @@ fn answer_session<M: Running, R: Wait>(
     check(written.as_slice() == b"TRUE\nFALSE\nTRUE\nBAD\nTRUE\nBYE\n".as_slice())
 }
 
-/// Both seats meet, and the set is closed.
+/// Gathers both seats and closes the set.
 fn gather_and_close<M: Running>(
     alloc: Global,
     calls: &mut Calls,
@@ -171,7 +171,7 @@ fn running_set<M: Running, R: Wait>(rt: &R, alloc: Global, calls: &mut Calls) ->
     gather_and_close(alloc, calls, set, zero, one)
 }
 
-/// Typed calls of a seat with this key, which is not in the set, and is then.
+/// Makes typed calls with `key`, which is absent before and present after them.
 fn add_typed<M: Running, R: Wait>(
     rt: &R,
     set: &LiveSet<M>,
@@ -186,7 +186,7 @@ fn add_typed<M: Running, R: Wait>(
 
 const MANY: u32 = 1_100;
 
-/// A seat adds falling keys, each right behind the head, and takes them out.
+/// Adds keys in decreasing order, each right after the head, and removes them.
 fn fill_and_empty<M: Running, R: Wait>(rt: &R, set: &LiveSet<M>, seat: &mut Seat<M>) -> Result<()> {
     add_typed(rt, set, seat, u32::MAX)?;
     for key in (0..MANY).rev() {
@@ -198,7 +198,7 @@ fn fill_and_empty<M: Running, R: Wait>(rt: &R, set: &LiveSet<M>, seat: &mut Seat
     Ok(())
 }
 
-/// More than a thousand calls of each kind, of a seat that has gathered another, with small keys and the greatest.
+/// Makes more than a thousand calls of each kind, with small keys and the largest key, from a seat that has gathered another.
 fn many_calls<M: Running, R: Wait>(rt: &R, alloc: Global, calls: &mut Calls) -> Result<()> {
     let (set, mut seats) = answer!(calls, "open", OpenFault::Memory, open::<M>(alloc, 2, 1_101))?;
     let one = last_seat(&set, &mut seats)?;
@@ -207,7 +207,7 @@ fn many_calls<M: Running, R: Wait>(rt: &R, alloc: Global, calls: &mut Calls) -> 
     fill_and_empty(rt, &set, &mut zero)
 }
 
-/// Opens a set whose reads do not block, and looks for keys that are there and for some that are not.
+/// Opens a set whose `contains` does not block, and looks for present and absent keys.
 fn read_now<M: RunningReads, R: Wait>(rt: &R, alloc: Global, calls: &mut Calls) -> Result<()> {
     let (set, mut zero, mut one) = opened::<M>(alloc, calls)?;
     add_six(rt, &set, &mut one)?;

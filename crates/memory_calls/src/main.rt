@@ -1,12 +1,12 @@
-//! Makes public calls of the libraries that what the program listset prints does not show one by one, compares what each
-//! answers, and prints which call returned `Memory` (or `Spawn`, if a thread is refused for it). That call is made
-//! again, with memory, and then has to answer as if nothing had been refused.
+//! Calls public functions of the libraries that the output of the program listset does not show one by one, compares the
+//! results, and prints which call returned `Memory` (or `Spawn`, if no thread could be created). The program makes that call
+//! again: its result must be as if no allocation had failed.
 //!
-//! Run as it stands no growth is refused. `tests/failed_allocations.py` refuses them in turn: it has the one allocation of a fixed
-//! number fail, and by the number on the standard input this program takes as many blocks before its first call.
+//! Run alone, no allocation fails. `tests/failed_allocations.py` lets each fail in turn: the allocation with a fixed number fails,
+//! and the number on the standard input says how many blocks this program allocates before its first call.
 #![tactic(auto)]
 
-/// The answer of a call, which is made again if it is `Memory`.
+/// Makes a call, and makes it again if it returns `Memory`. Returns its result.
 macro_rules! answer {
     ($calls:ident, $name:expr, $memory:pat, $call:expr) => {{
         $calls.name = $name;
@@ -40,7 +40,7 @@ fn make_calls<R: Host + Net<Listener = TcpListener, Stream = TcpStream>>(
     threads::a_session(rt, alloc, calls)
 }
 
-/// The number on the input, 0 if there is none.
+/// Reads the number on the standard input; 0 if there is none.
 fn number_on(input: &mut impl Read) -> io::Result<u32> {
     let mut buffer = [0; 16];
     let count = input.read(&mut buffer)?;
@@ -48,7 +48,7 @@ fn number_on(input: &mut impl Read) -> io::Result<u32> {
     Ok(text.trim().parse().unwrap_or(0))
 }
 
-/// Takes so many blocks of memory, one after another, and frees each.
+/// Allocates `count` blocks of memory, one after another, and frees each.
 fn take_blocks(alloc: Global, count: u32) -> Result<(), AllocError> {
     for number in 0..count {
         let _block = Box::new(alloc, number)?;
@@ -56,7 +56,7 @@ fn take_blocks(alloc: Global, count: u32) -> Result<(), AllocError> {
     Ok(())
 }
 
-/// What is printed of the calls, if all of them returned what they must.
+/// Makes all calls. Returns the text to print if each result is the expected one.
 fn told(alloc: Global, calls: &Calls, blocks: u32) -> (&'static str, &'static str) {
     match calls.refused {
         Some(name) => (name, " wanted memory"),

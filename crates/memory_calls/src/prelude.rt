@@ -1,4 +1,4 @@
-//! What the groups of calls use, and what they ask of the runtime.
+//! The imports of the groups of calls, and the bound on their runtime.
 pub use crate::calls::{Calls, check};
 pub use anyhow::{Error, Result};
 pub use lset_lazy::LazyList;
@@ -10,7 +10,7 @@ pub use std::sync::Wait;
 pub use std::thread::Threads;
 pub use std::time::Clock;
 
-/// Has a clock and threads, and may wait.
+/// A runtime with a clock and threads that may wait.
 pub trait Host: Clock + Sync + Threads + Wait {}
 
 impl<R: Clock + Sync + Threads + Wait> Host for R {}

@@ -4,7 +4,7 @@ use lset_history::{History, HistoryFault, Oracle};
 use lset_steps::{Event, StepFault, World};
 use lset_words::layout;
 
-/// Adds a key, at most 5: the add of that takes 15 steps, and what comes after the end of a call is refused as `Idle`.
+/// Adds a key, at most 5. The add of 5 takes 15 steps; a step after the end of a call is refused as `Idle`.
 fn add(world: &mut World<CoarseList>, key: u32) -> Result<(), StepFault> {
     world.step(Event::Begin(0, Call::Add(Key(key))))?;
     for _ in 0..15 {
@@ -13,7 +13,7 @@ fn add(world: &mut World<CoarseList>, key: u32) -> Result<(), StepFault> {
     Ok(())
 }
 
-/// A list's world and its content, after five adds.
+/// Expects the content of a list's world after five adds.
 pub fn worlds(alloc: Global, calls: &mut Calls) -> Result<()> {
     let sizes = layout(1, 5)?;
     let mut world = answer!(calls, "World::new", AllocError, World::new(alloc, sizes))?;
@@ -25,14 +25,14 @@ pub fn worlds(alloc: Global, calls: &mut Calls) -> Result<()> {
     check(content.as_slice() == [1, 2, 3, 4, 5].as_slice())
 }
 
-/// The sequential set has just these keys.
+/// Expects exactly these keys in the sequential set.
 fn oracle_has(alloc: Global, oracle: &Oracle, calls: &mut Calls, keys: &[u32]) -> Result<()> {
     calls.announce(alloc, "Oracle::keys")?;
     let found = answer!(calls, "Oracle::keys", AllocError, oracle.keys())?;
     check(found.as_slice() == keys)
 }
 
-/// Adds the keys 1 to 12, more than a node of the set of keys holds.
+/// Adds the keys 1 to 12, more than one node of the set of keys has.
 fn fill(oracle: &mut Oracle, calls: &mut Calls) -> Result<()> {
     for key in 1..=12 {
         let add = Call::Add(Key(key));
@@ -44,7 +44,7 @@ fn fill(oracle: &mut Oracle, calls: &mut Calls) -> Result<()> {
 
 const KEYS: [u32; 12] = [1, 2, 3, 4, 5, 6, 7, 8, 9, 10, 11, 12];
 
-/// A set that is filled, and one that opens with the same keys.
+/// Fills a set, and opens another one with the same keys.
 pub fn oracles(alloc: Global, calls: &mut Calls) -> Result<()> {
     let mut oracle = answer!(calls, "Oracle::new", AllocError, Oracle::new(alloc, 1, 12))?;
     fill(&mut oracle, calls)?;
@@ -58,7 +58,7 @@ pub fn oracles(alloc: Global, calls: &mut Calls) -> Result<()> {
     oracle_has(alloc, &opened, calls, &KEYS)
 }
 
-/// A call of a thread that looks for a key in the empty set begins and ends.
+/// Begins and ends a call that looks for a key in the empty set.
 fn looks(alloc: Global, history: &mut History, calls: &mut Calls, number: u32) -> Result<()> {
     let (call, begun) = (Call::Contains(Key(number)), 2 * number + 1);
     let id = answer!(

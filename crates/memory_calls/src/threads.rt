@@ -1,5 +1,5 @@
-//! Programs on threads, and a server with one session. No two threads ask for memory at once, so each run counts the growths
-//! in one order.
+//! Programs on threads, and a server with one session. No two threads allocate at once, so each run has the same order of
+//! allocations.
 
 use crate::prelude::*;
 use lset_server::{ServeCause, Served, serve};
@@ -7,7 +7,7 @@ use lset_work::{Always, Outcome, WorkCause, WorkFault, work};
 use std::io::{self, Read, Write};
 use std::net::Shutdown;
 
-/// A set that was just opened, and its seats: it is opened again if that was refused.
+/// Opens a set, again if the first time fails. Returns the set and its seats.
 fn open_seats(
     alloc: Global,
     calls: &mut Calls,
@@ -21,7 +21,7 @@ fn open_seats(
     )
 }
 
-/// Add 1, Contains 1, Remove 1; and Add 2, Add 2.
+/// Returns two programs: Add 1, Contains 1, Remove 1; and Add 2, Add 2.
 fn two_programs(alloc: Global) -> Result<Vec<Vec<Call>>, AllocError> {
     let mut programs = Vec::new(alloc);
     let first = [
@@ -35,7 +35,7 @@ fn two_programs(alloc: Global) -> Result<Vec<Vec<Call>>, AllocError> {
     Ok(programs)
 }
 
-/// Notes how `work` was refused, and gives the set and the seats to go on with: those that came back, or new ones.
+/// Notes why `work` failed. Returns the set and the seats that came back, or new ones.
 fn after_refusal(
     alloc: Global,
     calls: &mut Calls,
@@ -54,7 +54,7 @@ fn after_refusal(
     }
 }
 
-/// The programs once more, on the set and the seats that there are to go on with.
+/// Runs the programs once more, on the set and the seats that remain.
 fn work_again<R: Host>(
     rt: &R,
     alloc: Global,
@@ -67,7 +67,7 @@ fn work_again<R: Host>(
     }
 }
 
-/// Two programs on two threads. If they were refused they are run again.
+/// Runs two programs on two threads, again if the first run fails.
 pub fn programs_on_threads<R: Host>(rt: &R, alloc: Global, calls: &mut Calls) -> Result<()> {
     let programs = answer!(calls, "Vec::push", AllocError, two_programs(alloc))?;
     let (set, seats) = open_seats(alloc, calls, 2)?;
@@ -82,7 +82,7 @@ pub fn programs_on_threads<R: Host>(rt: &R, alloc: Global, calls: &mut Calls) ->
     check(outcome.keys.as_slice() == [2].as_slice() && outcome.replies.len() == 2)
 }
 
-/// A client that has sent its lines before the server accepts it, so that it needs no thread of its own.
+/// Returns a client that sends its lines before the server accepts it: it needs no thread.
 fn client<R: Net<Listener = TcpListener, Stream = TcpStream>>(
     rt: &R,
 ) -> io::Result<(TcpListener, TcpStream)> {
@@ -94,7 +94,7 @@ fn client<R: Net<Listener = TcpListener, Stream = TcpStream>>(
     Ok((listener, stream))
 }
 
-/// One session, its four calls and the keys that they leave; and the client's answers.
+/// Expects one session with four calls, the final keys, and the client's answers.
 fn is_served(served: &Served, stream: &mut TcpStream) -> Result<()> {
     let mut answers = [0u8; 19];
     stream.read_exact(&mut answers)?;
@@ -103,7 +103,7 @@ fn is_served(served: &Served, stream: &mut TcpStream) -> Result<()> {
     check(served.keys.as_slice() == [3, 7].as_slice())
 }
 
-/// A server, and a client to which it holds a session; why it does not.
+/// Serves one client. Returns an error if the server fails.
 fn serve_client<R: Host + Net<Listener = TcpListener, Stream = TcpStream>>(
     rt: &R,
     alloc: Global,
@@ -120,7 +120,7 @@ fn serve_client<R: Host + Net<Listener = TcpListener, Stream = TcpStream>>(
     }
 }
 
-/// A session with one client. If it was refused, another server has another client.
+/// Serves one client, and another one by another server if the first fails.
 pub fn a_session<R: Host + Net<Listener = TcpListener, Stream = TcpStream>>(
     rt: &R,
     alloc: Global,

@@ -1,4 +1,4 @@
-//! Random runs of each broken list: the order of some run is refused.
+//! Random schedules on each broken list: some run has an order that is refused.
 
 use crate::prelude::*;
 use broken_lists::{ALL, BrokenList, BrokenWorld, broken_run};
@@ -6,12 +6,12 @@ use lset_replay::{Steps, calls_of};
 use lset_schedule::read_schedule;
 use lset_text::{call_word, kind_word};
 
-/// So many runs are enough.
+/// The number of runs to try for each list. Each list is refused earlier.
 const RUNS: u64 = 2_000;
 
 const EVENTS: u32 = 120;
 
-/// The key with which a list opens.
+/// The opening keys.
 const OPENING: [u32; 1] = [5];
 
 fn drawn_call(rng: &mut Pcg32) -> Call {
@@ -24,7 +24,7 @@ fn drawn_call(rng: &mut Pcg32) -> Call {
     }
 }
 
-/// Writes a random schedule of two threads, each of which goes on for some steps.
+/// Returns a random schedule of two threads on a broken list. A thread makes a few steps before the other continues.
 fn drawn_schedule(alloc: Global, broken: BrokenList, seed: u64) -> Result<String, Fail> {
     let mut rng = Pcg32::seed_from_u64(seed);
     let layout = layout_opening(2, 2, 1)?;
@@ -50,7 +50,7 @@ fn drawn_schedule(alloc: Global, broken: BrokenList, seed: u64) -> Result<String
     Ok(text)
 }
 
-/// Whether the order of a random run is refused.
+/// Runs a random schedule and decides whether its order is refused.
 fn is_run_refused(alloc: Global, broken: BrokenList, seed: u64) -> Result<bool, Fail> {
     let text = drawn_schedule(alloc, broken, seed)?;
     let schedule = read_schedule(alloc, text.as_bytes())?;
@@ -62,7 +62,7 @@ fn is_run_refused(alloc: Global, broken: BrokenList, seed: u64) -> Result<bool, 
     )
 }
 
-/// Whether some random run is refused.
+/// Decides whether one of the random runs is refused.
 fn is_refused(alloc: Global, broken: BrokenList) -> Result<bool, Fail> {
     for seed in 0..RUNS {
         if is_run_refused(alloc, broken, seed)? {

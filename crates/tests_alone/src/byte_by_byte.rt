@@ -1,5 +1,5 @@
-//! Inputs that come byte by byte, as from a recorder that is slow, and an output that takes its text so: tens of thousands of reads, or of
-//! writes.
+//! Inputs that arrive byte by byte, as from a slow recorder, and an output that accepts one byte at a time: tens of
+//! thousands of reads or writes.
 use crate::devices::{Plan, WHOLE, Writer};
 use crate::prelude::*;
 use std::io::{self, Read};
@@ -7,10 +7,10 @@ use tool_base::{Answer, deliver};
 use tool_judge::judge_input;
 use tool_replay::tool_check;
 
-/// So many calls in turn.
+/// The number of calls, one after another.
 const CALLS: u32 = 4_000;
 
-/// A text, byte by byte.
+/// A reader that returns one byte of its text at a time.
 #[derive(Drop)]
 struct Drops {
     text: String,
@@ -29,7 +29,7 @@ impl Read for Drops {
     }
 }
 
-/// A recording.
+/// Returns a recording of `CALLS` calls.
 fn recording(alloc: Global) -> Result<String, AllocError> {
     let mut text = String::from_str(alloc, "listset-calls 1\n")?;
     for number in 0..CALLS {
@@ -57,7 +57,7 @@ fn a_recording_comes_byte_by_byte(rt: HostRuntime) -> Result<(), Fail> {
     }
 }
 
-/// A report without its order, so that the first call is missing.
+/// The report has no order, so its first call is missing in the order.
 #[test]
 fn a_report_comes_byte_by_byte(rt: HostRuntime) -> Result<(), Fail> {
     let alloc = rt.alloc();

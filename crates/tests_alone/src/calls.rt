@@ -1,4 +1,5 @@
-//! Calls that come one after another: which fault is named if one has several, and what is said of calls without an order.
+//! Recorded calls: which fault is returned for a call that has several, and which two calls are named if no order
+//! exists.
 
 use crate::made::{FIVE, reply_of};
 use crate::prelude::*;
@@ -12,7 +13,7 @@ fn add_of_six(thread: u32, begun: u64, ended: Option<(u64, Reply)>) -> StreamCal
     }
 }
 
-/// Calls of key 6, each with a reply with which the judge does not take it.
+/// Calls of key 6, each with a reply for which the judge refuses the call.
 const NOT_PLAIN: [(Call, Reply); 5] = [
     (Call::Add(Key(6)), Reply::Full),
     (Call::Remove(Key(6)), Reply::Nothing),
@@ -21,7 +22,7 @@ const NOT_PLAIN: [(Call, Reply); 5] = [
     (Call::Ceiling(Key(6)), Reply::True),
 ];
 
-/// One of these calls, by thread 3.
+/// Returns a call of thread 3.
 fn not_plain(made: (Call, Reply), begun: u64, end: u64) -> StreamCall {
     let (call, reply) = made;
     StreamCall {
@@ -32,8 +33,8 @@ fn not_plain(made: (Call, Reply), begun: u64, end: u64) -> StreamCall {
     }
 }
 
-/// Calls after one of thread 3 from moment 2 to 7, each with all the faults that come after the one that is named, as far as one call
-/// can have them.
+/// Returns calls to add after a call of thread 3 from moment 2 to 7, each with the fault that must be returned. Each
+/// call also has the faults that are checked later, as far as one call can.
 fn with_faults(made: (Call, Reply)) -> [(StreamCall, StreamFault); 10] {
     let late = LAST_MOMENT + 1;
     [
@@ -61,22 +62,22 @@ fn the_first_fault_of_a_call_is_named(rt: HostRuntime) -> Result<(), Fail> {
     }
     let taken = add_of_six(3, 5, Some((7, Reply::False)));
     assert_eq!(rt; judge.add(taken), Err(StreamFault::Taken));
-    // A later pending call takes the end, and an earlier one is of the thread.
+    // a later pending call has the same end, and an earlier call of the thread overlaps
     judge.add(add_of_six(4, 3, Some((8, Reply::True))))?;
     let both = add_of_six(3, 5, Some((8, Reply::True)));
     assert!(rt; judge.add(both) == Err(StreamFault::Taken));
-    // An earlier call ends at its begin, and one that is still pending is of the thread.
+    // an earlier call ends where this one begins, and a pending call of the thread overlaps
     judge.add(add_of_six(5, 4, Some((6, Reply::True))))?;
     let begins_taken = add_of_six(3, 6, Some((9, Reply::True)));
     assert!(rt; judge.add(begins_taken) == Err(StreamFault::Taken));
     Ok(())
 }
 
-/// So many calls do not find key 5, then one does, and the next does not, while a long `add` is pending.
+/// The number of `contains` calls. All return false except the last but one, while a long `add` is pending.
 const LOOKS: u64 = 102;
 
 #[test]
-fn of_many_calls_those_that_show_the_error_are_left(rt: HostRuntime) -> Result<(), Fail> {
+fn two_clashing_calls_of_many_are_named(rt: HostRuntime) -> Result<(), Fail> {
     let mut judge = Judge::new(rt.alloc(), &[])?;
     judge.add(StreamCall {
         thread: 0,
@@ -92,18 +93,12 @@ fn of_many_calls_those_that_show_the_error_are_left(rt: HostRuntime) -> Result<(
             ended: Some((2 * number + 1, reply_of(number == LOOKS - 1))),
         })?;
     }
-    let Verdict::NotLinearizable(refusal, Some(window)) = judge.close(&[5])? else {
+    let Verdict::NotLinearizable(refusal, Some(clash)) = judge.close(&[5])? else {
         return Err(Fail::new("the calls are not refused"));
     };
     assert!(rt; refusal.key == FIVE && refusal.moment == Some(205));
-    let begins: [u64; 2] = [202, 204];
-    assert!(rt; window.calls.iter().map(|call| call.begun).eq(begins));
-    assert!(rt; window.since == 0 && window.there == Presence::Absent && window.before.is_none());
-    let hidden = Hidden {
-        count: LOOKS - 1,
-        first: 1,
-        last: 200,
-    };
-    assert!(rt; window.hidden == Some(hidden));
+    assert!(rt; clash.was == Presence::Present);
+    assert!(rt; clash.first.map(|call| call.begun) == Some(202));
+    assert!(rt; clash.second.map(|call| call.begun) == Some(204));
     Ok(())
 }

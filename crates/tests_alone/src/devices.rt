@@ -1,4 +1,4 @@
-//! Readers and writers of which one call fails.
+//! Readers and writers that fail at one of their calls.
 
 use crate::prelude::*;
 use std::io::{self, ErrorKind, Read, Write};
@@ -7,21 +7,22 @@ pub const CANNOT_READ: &[u8] = b"listset: cannot read\n";
 
 pub const CANNOT_WRITE: &[u8] = b"listset: cannot write\n";
 
-/// The number of no call.
+/// A call number that is never reached.
 pub const NEVER: usize = usize::MAX;
 
-/// How a call of a device fails.
+/// A way in which a call of a device fails.
 #[derive(Clone, Copy)]
 pub enum Failure {
-    /// An error after which std's own loops call again.
+    /// An error after which the loops of std call again.
     Interrupted,
     BrokenPipe,
-    /// A write that takes no byte, or a flush that fails for it. No reader fails so: it is the end of its text.
+    /// A write of no byte, or a flush that fails with `WriteZero`. Never used for readers: a read of no byte is the end
+    /// of the text.
     Nothing,
 }
 
 impl Failure {
-    /// The error of a call that has no bytes to take.
+    /// Returns the error of a call that cannot return a number of bytes.
     fn error(self) -> io::Error {
         io::Error::from(match self {
             Failure::Interrupted => ErrorKind::Interrupted,
@@ -38,8 +39,8 @@ impl Failure {
     }
 }
 
-/// What a device does: its call with the number `fails_at`, from 0, fails, and no other does, so that it would go on if it
-/// were asked again. A call moves at most `most` bytes.
+/// The plan of a device: call number `fails_at`, from 0, fails, and all calls after it succeed. A call moves at most
+/// `most` bytes.
 #[derive(Clone, Copy)]
 pub struct Plan {
     pub most: usize,
@@ -47,7 +48,7 @@ pub struct Plan {
     pub failure: Failure,
 }
 
-/// How a device fails, and how many bytes it moves at a call.
+/// A failure, and the number of bytes that one call moves.
 pub type Way = (Failure, usize);
 
 pub fn planned((failure, most): Way, fails_at: usize) -> Plan {
@@ -58,7 +59,7 @@ pub fn planned((failure, most): Way, fails_at: usize) -> Plan {
     }
 }
 
-/// All that is asked for, at each call.
+/// A plan without a failure: each call moves all bytes.
 pub const WHOLE: Plan = Plan {
     most: usize::MAX,
     fails_at: NEVER,
@@ -100,7 +101,7 @@ impl Read for Reader {
 pub struct Writer {
     pub taken: Vec<u8>,
     plan: Plan,
-    /// The writes, and the flushes among them.
+    /// The number of writes and flushes.
     pub calls: usize,
 }
 
@@ -113,8 +114,9 @@ impl Writer {
         }
     }
 
-    /// Whether it took a front of the text, at each call up to its failing one a byte or more, and was not called again. No
-    /// flush came before. (A text that is written in pieces gives fewer bytes than it takes at the end of a piece.)
+    /// Decides whether the writer has a prefix of the text, received at least one byte at each call before the failing
+    /// one, and was not called again. Assumes that no flush came before. A write at the end of a piece of the text can
+    /// have fewer bytes than the writer accepts.
     pub fn stopped_within(&self, text: &[u8]) -> bool {
         let calls = self.plan.fails_at;
         let bytes = self.taken.len();

@@ -1,4 +1,5 @@
-//! Each read and each write of runs of the program fails in turn. What it prints is in `transcripts`.
+//! Runs of the program in which each read and each write fails in turn. The tests in `transcripts` check what the runs
+//! print.
 use crate::devices::{
     CANNOT_READ, CANNOT_WRITE, Failure, Plan, Reader, WHOLE, Way, Writer, planned,
 };
@@ -9,43 +10,43 @@ use lset_text::cut;
 use tool_replay::tool_gen;
 use tool_threads::tool_run;
 
-/// The words of a run, and its input.
+/// The arguments of a run, and its input.
 type Row = (&'static [&'static str], &'static str);
 
 const SCHEDULE: &str =
     "listset-schedule 1\nlist coarse\nthreads 1\nquota 4\nbegin 0 add 5\ngo 0 7\n";
 
-/// With a step of a thread that has no call open.
+/// A schedule with a step of a thread that has no pending call.
 const IDLE: &str =
     "listset-schedule 1\nlist coarse\nthreads 1\nquota 4\nbegin 0 add 5\ngo 0 1\ngo 0 7\n";
 
 const REPORT: &str =
     "listset-report 1\nlist coarse\nthreads 1\nquota 4\ncall 0 0 add 5 1 8 true\nplace 0 true\nkey 5\nend\n";
 
-/// Its order leaves out its call.
+/// A report whose order lacks its call.
 const LEFT_OUT: &str =
     "listset-report 1\nlist coarse\nthreads 1\nquota 4\ncall 0 0 add 5 1 8 true\nkey 5\nend\n";
 
-/// Calls that an order explains.
+/// A recording that has a linearization.
 const EXPLAINED: &str =
     "listset-calls 1\nopening 7\ncall 0 add 5 1 4 true\ncall 1 remove 7 2 - -\nkey 5\nend\n";
 
-/// Two adds of one key that changed the set.
+/// A recording in which two calls add one key, and both return true.
 const BOTH: &str = "listset-calls 1\ncall 0 add 5 1 4 true\ncall 1 add 5 2 3 true\nkey 5\nend\n";
 
-/// A recording without its end.
+/// A recording without its last line.
 const UNENDED: &str = "listset-calls 1\ncall 0 add 5 1 4 true\nkey 5\n";
 
 const DRAFT: &str = "listset-draft 2\nlist coarse\nthreads 1\nquota 4\nbegin 0 add 5\ngo 0 out\n";
 
-/// One call of a list whose `contains` may look at no mark.
+/// A schedule of one `contains`, for the broken LazyList whose `contains` ignores the mark.
 const LOOK: &str =
     "listset-schedule 2\nlist lazy\nthreads 1\nquota 0\nbegin 0 contains 5\ngo 0 2\n";
 
-/// What a server printed that left one key.
+/// The output of a server that left one key.
 const PRINTED: &str = "listening 127.0.0.1:4711\nsessions 1\ncalls 1\nkey 7\n";
 
-/// Runs that write on the output, and then those that write a line about an error alone.
+/// Runs that write to the output, followed by runs that write only a line about an error.
 const ROWS: [Row; 31] = [
     (&["replay"], SCHEDULE),
     (&["check"], REPORT),
@@ -80,10 +81,10 @@ const ROWS: [Row; 31] = [
     (&["skip"], ""),
 ];
 
-/// A server of no session, which opens with the keys of its input.
+/// A server of no session, which opens with the keys in its input.
 const SERVER: Row = (&["serve", "lazy", "1", "4", "0", "0", "-"], PRINTED);
 
-/// What a run did with its devices.
+/// The exit status of a run, and its devices.
 #[derive(Drop)]
 struct Run {
     status: u8,
@@ -92,7 +93,7 @@ struct Run {
     stderr: Writer,
 }
 
-/// The text without the line that names a server's port, which is another in each run.
+/// Returns the text without the line that names a server's port, since the port differs between runs.
 fn without_port(text: &[u8]) -> &[u8] {
     if !text.starts_with(b"listening ") {
         return text;
@@ -104,12 +105,12 @@ fn without_port(text: &[u8]) -> &[u8] {
 }
 
 impl Run {
-    /// Whether it wrote this line about an error, and nothing on the output.
+    /// Decides whether the run wrote this line about an error, and nothing to the output.
     fn wrote_only(&self, line: &[u8]) -> bool {
         self.output.calls == 0 && self.stderr.taken.as_slice() == line
     }
 
-    /// Whether it wrote and returned what another run did.
+    /// Decides whether two runs wrote the same bytes and returned the same status.
     fn is_as(&self, other: &Run) -> bool {
         self.status == other.status
             && without_port(&self.output.taken) == without_port(&other.output.taken)
@@ -117,7 +118,7 @@ impl Run {
     }
 }
 
-/// Runs a row on devices of these plans: of its input, its output and `stderr`.
+/// Runs a row with the plans of its input, its output and `stderr`.
 fn run_on<R: Host>(rt: &R, alloc: Global, (words, input): Row, plans: [Plan; 3]) -> Run {
     let [of_input, output, stderr] = plans;
     let mut input = Reader::new(input, of_input);
@@ -144,7 +145,7 @@ const WRITES: [Way; 3] = [
     (Failure::Nothing, 7),
 ];
 
-/// More calls than a run makes on one of its devices.
+/// An upper bound for the calls that a run makes on a device.
 const MOST_CALLS: usize = 10_000;
 
 #[derive(Clone, Copy)]
@@ -155,7 +156,7 @@ enum Device {
 }
 
 impl Device {
-    /// The plans of a run in which this device alone fails.
+    /// Returns the plans of a run in which only this device fails.
     fn plans(self, plan: Plan) -> [Plan; 3] {
         match self {
             Device::Input => [plan, WHOLE, WHOLE],
@@ -164,7 +165,7 @@ impl Device {
         }
     }
 
-    /// How often it was called.
+    /// Returns how often the device was called in a run.
     fn calls(self, run: &Run) -> usize {
         match self {
             Device::Input => run.input.calls,
@@ -173,7 +174,7 @@ impl Device {
         }
     }
 
-    /// How many bytes a whole run of a row moves on it.
+    /// Returns how many bytes a run without a failure moves on this device.
     fn moved(self, (_words, input): Row, whole: &Run) -> usize {
         match self {
             Device::Input if whole.input.calls == 0 => 0,
@@ -183,8 +184,9 @@ impl Device {
         }
     }
 
-    /// Whether a run in which it failed did as it is to: nothing is written on the output after a failing read; after a
-    /// failing write a front of the text stands there; if the line about an error fails, the status stays.
+    /// Decides whether a run in which the device failed did the right thing. After a failed read nothing is written to
+    /// the output. After a failed write the output is a prefix of the text. If the line about an error cannot be
+    /// written, the status does not change.
     fn is_met(self, whole: &Run, run: &Run) -> bool {
         match self {
             Device::Input => run.status == 1 && run.wrote_only(CANNOT_READ),
@@ -200,8 +202,8 @@ impl Device {
     }
 }
 
-/// How many runs of a row there are in which the device fails, at each of its calls in turn, until a run ends without a
-/// failure.
+/// Runs a row with a failure at each call of the device in turn, until a run ends without a failure. Returns the number
+/// of runs that failed.
 fn each_call_fails<R: Host>(
     rt: &R,
     alloc: Global,
@@ -239,7 +241,7 @@ fn each_row_fails<R: Host>(
 }
 
 #[test]
-fn each_read_fails_in_turn(rt: HostRuntime) -> Result<(), Fail> {
+fn a_failed_read_ends_the_run_without_output(rt: HostRuntime) -> Result<(), Fail> {
     each_row_fails(&rt, rt.alloc(), Device::Input, &READS)?;
     let runs = each_call_fails(&rt, rt.alloc(), SERVER, Device::Input, READS[1])?;
     assert!(rt; runs > PRINTED.len() / 7);
@@ -247,18 +249,18 @@ fn each_read_fails_in_turn(rt: HostRuntime) -> Result<(), Fail> {
 }
 
 #[test]
-fn each_write_on_the_output_fails_in_turn(rt: HostRuntime) -> Result<(), Fail> {
+fn a_failed_write_ends_the_run(rt: HostRuntime) -> Result<(), Fail> {
     each_row_fails(&rt, rt.alloc(), Device::Output, &WRITES)
 }
 
 #[test]
-fn each_write_of_a_line_about_an_error_fails_in_turn(rt: HostRuntime) -> Result<(), Fail> {
+fn a_failed_line_about_an_error_keeps_the_status(rt: HostRuntime) -> Result<(), Fail> {
     each_row_fails(&rt, rt.alloc(), Device::Stderr, &WRITES)
 }
 
-/// A read, or a write of the output, fails, and then a write of the line about it: the status stays.
+/// A read or a write of the output fails, and then a write of the line about it: the status is still 1.
 #[test]
-fn a_device_and_the_line_about_it_fail(rt: HostRuntime) {
+fn the_status_stays_if_a_device_and_the_line_about_it_fail(rt: HostRuntime) {
     for (device, line) in [(Device::Input, CANNOT_READ), (Device::Output, CANNOT_WRITE)] {
         for write in 0..line.len() {
             let [input, output, _] = device.plans(planned(WRITES[0], 5));
@@ -269,14 +271,15 @@ fn a_device_and_the_line_about_it_fail(rt: HostRuntime) {
     }
 }
 
-/// A schedule in which a thread tries for a lock that another one has: its trace is written in some pieces of 15,360 bytes.
+/// A schedule in which a thread attempts to take a lock that the other thread holds. Its trace is written in several
+/// pieces of 15,360 bytes.
 const TRIES: &str = "listset-schedule 1\nlist coarse\nthreads 2\nquota 4\n\
     begin 0 add 5\ngo 0 1\nbegin 1 add 7\ngo 1 2000\n";
 
-/// On an output that takes up to 4,096 bytes a call: what was written up to a failing call is a front of the text, and nothing is
-/// written behind it.
+/// The output accepts up to 4,096 bytes a call. After a failed write it has a prefix of the trace, and is not called
+/// again.
 #[test]
-fn each_write_of_a_long_trace_fails_in_turn(rt: HostRuntime) -> Result<(), Fail> {
+fn a_failed_write_of_a_long_trace_leaves_a_prefix(rt: HostRuntime) -> Result<(), Fail> {
     let row: Row = (&["trace"], TRIES);
     let whole = run_on(&rt, rt.alloc(), row, [WHOLE, WHOLE, WHOLE]);
     assert!(rt; whole.status == 0 && whole.output.taken.len() > 4 * 15_360);
@@ -294,9 +297,9 @@ fn each_write_of_a_long_trace_fails_in_turn(rt: HostRuntime) -> Result<(), Fail>
     Err(Fail::new("no run ends without a failure"))
 }
 
-/// A port that is taken: each write of the line about it fails, and the status stays.
+/// The port is taken. The status is 1 even if the line about it cannot be written.
 #[test]
-fn a_server_cannot_listen(rt: HostRuntime) -> Result<(), Fail> {
+fn a_server_on_a_taken_port_exits_with_status_1(rt: HostRuntime) -> Result<(), Fail> {
     let alloc = rt.alloc();
     let listener = TcpListener::bind(&rt, "127.0.0.1:0")?;
     let port = listener.local_addr()?.port().to_string(alloc)?;
@@ -319,9 +322,9 @@ fn a_server_cannot_listen(rt: HostRuntime) -> Result<(), Fail> {
     Ok(())
 }
 
-/// `tool_gen` and `tool_run` on the values of the words do what the program does.
+/// `tool_gen` and `tool_run` write and return what the program does for the same arguments.
 #[test]
-fn gen_and_run_take_the_values_of_the_words(rt: HostRuntime) -> Result<(), Fail> {
+fn tool_gen_and_tool_run_do_what_the_program_does(rt: HostRuntime) -> Result<(), Fail> {
     let alloc = rt.alloc();
     for row in &ROWS {
         let whole = run_on(&rt, alloc, *row, [WHOLE, WHOLE, WHOLE]);
@@ -342,6 +345,6 @@ fn gen_and_run_take_the_values_of_the_words(rt: HostRuntime) -> Result<(), Fail>
 }
 
 #[test]
-fn words_without_memory_for_them_are_no_mistake(rt: HostRuntime) {
+fn a_failed_allocation_of_arguments_is_out_of_memory(rt: HostRuntime) {
     assert!(rt; is_out_of_memory(&clap::Error::from(AllocError)));
 }

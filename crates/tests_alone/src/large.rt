@@ -1,12 +1,11 @@
-//! Histories and recordings as large as they may be, and the time that they take: a test has a minute, and a search of all pairs would
-//! take longer.
+//! The largest histories and recordings. A test has a minute; a search of all pairs of calls would take longer.
 
 use crate::made::{FIVE, in_turn, increasing_keys};
 use crate::prelude::*;
 use lset_judge::{Judged, judge};
 use lset_recording::{RecordingAnswer, RecordingReader};
 
-/// So many calls a report may have.
+/// The maximum number of calls of a report.
 const MOST_CALLS: u32 = 1_000_000;
 
 fn true_calls<F: Fn(u32) -> Call>(
@@ -21,7 +20,7 @@ fn true_calls<F: Fn(u32) -> Call>(
     Ok(calls)
 }
 
-/// The threads take turns, and each call finds a key of its own, of a set that opens with as many keys as a list may.
+/// The threads take turns. Each call finds a key of its own in a set with the largest number of opening keys.
 #[test]
 fn a_million_calls_are_judged(rt: HostRuntime) -> Result<(), Fail> {
     let alloc = rt.alloc();
@@ -38,7 +37,7 @@ fn a_million_calls_are_judged(rt: HostRuntime) -> Result<(), Fail> {
     Ok(())
 }
 
-/// Whether the history is refused, by this key and this moment.
+/// Decides whether the history is refused with this key and this moment.
 fn is_refused(
     alloc: Global,
     history: &History,
@@ -49,10 +48,10 @@ fn is_refused(
     Ok(matches!(judged, Judged::NotLinearizable(told, _) if told == Refusal { key, moment }))
 }
 
-/// How often key 5 goes in and out.
+/// How often key 5 is added and removed.
 const TIMES: u32 = 100_000;
 
-/// The threads in turn put key 5 in and take it out; at last a call finds it, or does not.
+/// Returns a history in which the threads in turn add and remove key 5, and a last `contains` returns `last`.
 fn in_and_out(alloc: Global, last: Reply) -> Result<History, Fail> {
     let mut calls = true_calls(alloc, 2 * TIMES, |number| {
         if number % 2 == 0 {
@@ -66,7 +65,7 @@ fn in_and_out(alloc: Global, last: Reply) -> Result<History, Fail> {
 }
 
 #[test]
-fn the_last_of_many_changes_of_a_key_is_wrong(rt: HostRuntime) -> Result<(), Fail> {
+fn a_wrong_reply_after_many_changes_of_a_key_is_found(rt: HostRuntime) -> Result<(), Fail> {
     let alloc = rt.alloc();
     let right = in_and_out(alloc, Reply::False)?;
     assert!(rt; matches!(judge(alloc, &right, &[])?, Judged::Linearizable));
@@ -76,7 +75,7 @@ fn the_last_of_many_changes_of_a_key_is_wrong(rt: HostRuntime) -> Result<(), Fai
     Ok(())
 }
 
-/// An order of all calls of a history in their turn, the last one of which answers so.
+/// Returns an order of all calls of the history, one after another. The last reply is `last`.
 fn in_their_turn(alloc: Global, last: Reply) -> Result<Vec<Placed>, AllocError> {
     let mut order = Vec::new(alloc);
     for number in 0..2 * TIMES {
@@ -92,9 +91,10 @@ fn in_their_turn(alloc: Global, last: Reply) -> Result<Vec<Placed>, AllocError> 
     Ok(order)
 }
 
-/// Of an order of many calls the last place is wrong, or missing, or stands twice, or has no call, or the keys are wrong.
+/// An order of many calls has a fault at its end: the last call has a wrong reply, is missing, is there twice or is
+/// unknown, or the keys are wrong.
 #[test]
-fn an_order_of_many_calls_is_wrong_at_last(rt: HostRuntime) -> Result<(), Fail> {
+fn a_fault_at_the_end_of_a_long_order_is_found(rt: HostRuntime) -> Result<(), Fail> {
     let alloc = rt.alloc();
     let last = 2 * TIMES;
     let history = in_and_out(alloc, Reply::False)?;
@@ -117,12 +117,12 @@ fn an_order_of_many_calls_is_wrong_at_last(rt: HostRuntime) -> Result<(), Fail> 
     Ok(())
 }
 
-/// So many keys have one call each.
+/// The number of keys, each with one call.
 const MANY_KEYS: u32 = 500_000;
 
-/// All keys are put in, and none is left; or all are taken out of a set that opened empty: the first of them is named.
+/// All keys are added and none remains, or all are removed from a set that opened empty. The first key is named.
 #[test]
-fn each_of_many_keys_is_wrong(rt: HostRuntime) -> Result<(), Fail> {
+fn the_first_of_many_wrong_keys_is_named(rt: HostRuntime) -> Result<(), Fail> {
     let alloc = rt.alloc();
     let adds = true_calls(alloc, MANY_KEYS, |number| Call::Add(Key(number)))?;
     let removes = true_calls(alloc, MANY_KEYS, |number| Call::Remove(Key(number)))?;
@@ -133,11 +133,11 @@ fn each_of_many_keys_is_wrong(rt: HostRuntime) -> Result<(), Fail> {
     Ok(())
 }
 
-/// Each of so many threads adds a key of its own, and no call ends.
+/// The number of threads, each of which adds a key of its own. No call ends.
 const MANY_PENDING: u32 = 100_000;
 
 #[test]
-fn many_calls_are_pending(rt: HostRuntime) -> Result<(), Fail> {
+fn many_pending_calls_are_judged(rt: HostRuntime) -> Result<(), Fail> {
     let mut judge = Judge::new(rt.alloc(), &[])?;
     for thread in 0..MANY_PENDING {
         judge.add(StreamCall {
@@ -152,12 +152,12 @@ fn many_calls_are_pending(rt: HostRuntime) -> Result<(), Fail> {
     Ok(())
 }
 
-/// More keys than a list opens with.
+/// More keys than a list can open with.
 const MORE_KEYS: u32 = 1_100_000;
 
-/// Each of the keys is looked for.
+/// One `contains` for each key.
 #[test]
-fn calls_of_more_keys_than_a_list_has(rt: HostRuntime) -> Result<(), Fail> {
+fn more_keys_than_a_list_can_have_are_judged(rt: HostRuntime) -> Result<(), Fail> {
     let keys = increasing_keys(rt.alloc(), MORE_KEYS)?;
     let mut judge = Judge::new(rt.alloc(), &keys)?;
     for key in &keys {
@@ -173,12 +173,12 @@ fn calls_of_more_keys_than_a_list_has(rt: HostRuntime) -> Result<(), Fail> {
     Ok(())
 }
 
-/// So many keys are there as a recording begins, and so many calls look for one.
+/// The number of opening keys of a recording.
 const LONG_KEYS: u32 = 200_000;
 
 const LONG_CALLS: u32 = 100_000;
 
-/// The reader takes a line of a call, one byte after another.
+/// Feeds a line of a call, byte by byte.
 fn feed_call(alloc: Global, reader: &mut RecordingReader, number: u32) -> Result<(), Fail> {
     let (thread, key) = (number % 8, number % LONG_KEYS);
     let begun = 2 * u64::from(number) + 1;
@@ -190,7 +190,7 @@ fn feed_call(alloc: Global, reader: &mut RecordingReader, number: u32) -> Result
     Ok(())
 }
 
-/// The reader takes a line of each key, which begins with the word.
+/// Feeds a line `word K` for each key K.
 fn feed_keys(alloc: Global, reader: &mut RecordingReader, word: &str) -> Result<(), Fail> {
     for key in 0..LONG_KEYS {
         let line = format!(in alloc; "{word} {key}\n")?;
@@ -200,7 +200,7 @@ fn feed_keys(alloc: Global, reader: &mut RecordingReader, word: &str) -> Result<
 }
 
 #[test]
-fn a_recording_of_many_keys_in_pieces_of_a_byte(rt: HostRuntime) -> Result<(), Fail> {
+fn a_large_recording_is_read_byte_by_byte(rt: HostRuntime) -> Result<(), Fail> {
     let alloc = rt.alloc();
     let mut reader = RecordingReader::new(alloc);
     reader.feed(b"listset-calls 1\n")?;

@@ -1,5 +1,5 @@
-//! The tests of what runs alone, without threads of its own: the worked rows of the libraries that no page of `transcripts` shows, sizes
-//! and times, and devices that fail.
+//! The tests without threads of their own: the hand-worked cases of the libraries that no page in `transcripts` has,
+//! sizes and times, and devices that fail.
 #![tactic(auto)]
 
 #[cfg(test)]
@@ -8,6 +8,8 @@ mod broken;
 mod byte_by_byte;
 #[cfg(test)]
 mod calls;
+#[cfg(test)]
+mod counts;
 #[cfg(test)]
 mod devices;
 #[cfg(test)]

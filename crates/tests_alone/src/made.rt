@@ -1,10 +1,10 @@
-//! Keys and histories that several tests are about.
+//! Keys and histories for several tests.
 
 use crate::prelude::*;
 
 pub const FIVE: Key = Key(5);
 
-/// The keys from 0 on, so many.
+/// Returns the keys from 0 to `count - 1`.
 pub fn increasing_keys(alloc: Global, count: u32) -> Result<Vec<u32>, AllocError> {
     let mut keys = Vec::new(alloc);
     for number in 0..count {
@@ -13,7 +13,7 @@ pub fn increasing_keys(alloc: Global, count: u32) -> Result<Vec<u32>, AllocError
     Ok(keys)
 }
 
-/// After this history, which has none yet, calls of threads one after another, at the moments from 1 on.
+/// Appends calls to an empty history, one after another, at the moments from 1 on.
 pub fn in_turn(
     mut history: History,
     calls: &[(u32, Call, Reply)],

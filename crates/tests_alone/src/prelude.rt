@@ -1,8 +1,8 @@
-//! What most of the tests use, and what they ask of the runtime.
+//! The imports of most tests, and their requirements on the runtime.
 pub use lset_coarse::CoarseList;
 pub use lset_fine::FineList;
 pub use lset_history::{Changes, History, HistoryFault, Oracle, OrderFault, Placed, check_order};
-pub use lset_judge::{Hidden, Judge, LAST_MOMENT, Refusal, StreamCall, StreamFault, Verdict};
+pub use lset_judge::{Judge, LAST_MOMENT, Refusal, StreamCall, StreamFault, Verdict};
 pub use lset_lazy::LazyList;
 pub use lset_lock_free::LockFreeList;
 pub use lset_optimistic::OptimisticList;
@@ -23,7 +23,7 @@ pub use std::test::Fail;
 use std::thread::Threads;
 use std::time::Clock;
 
-/// What the program needs of the runtime, and may fail a test.
+/// What the program needs of the runtime, and the right to fail a test.
 pub trait Host: Abort
     + Clock
     + Files

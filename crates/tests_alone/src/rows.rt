@@ -1,10 +1,12 @@
-//! Rows of the libraries, worked by hand, that no page of `transcripts` shows.
+//! Hand-worked cases of the libraries that no page in `transcripts` has.
 use crate::prelude::*;
 use lset_schedule::{GenFault, Line, Schedule, programs, write_schedule};
 use lset_words::{LayoutFault, pack, unpack};
 
 #[test]
-fn layouts_and_links(rt: HostRuntime) -> Result<(), Fail> {
+fn layouts_number_their_words_and_refuse_sizes_above_the_limits(
+    rt: HostRuntime,
+) -> Result<(), Fail> {
     let table = layout(2, 4)?;
     assert!(rt; table.nodes() == 10 && table.words() == 33 && table.slot(1, 0) == 6);
     let words = [table.key_word(6), table.link_word(6), table.lock_word(6)];
@@ -39,7 +41,7 @@ fn an_add_changes_the_set_one_step_before_its_answer(rt: HostRuntime) -> Result<
 }
 
 #[test]
-fn a_set_opens_with_its_key(rt: HostRuntime) -> Result<(), Fail> {
+fn an_opening_key_uses_no_slot(rt: HostRuntime) -> Result<(), Fail> {
     let alloc = rt.alloc();
     let mut oracle = Oracle::opened(alloc, 1, 0, &[9])?;
     for (call, reply) in [
@@ -58,7 +60,7 @@ fn a_set_opens_with_its_key(rt: HostRuntime) -> Result<(), Fail> {
 }
 
 #[test]
-fn a_sequential_set_with_a_quota_of_one(rt: HostRuntime) -> Result<(), Fail> {
+fn an_add_uses_up_its_slot_for_good(rt: HostRuntime) -> Result<(), Fail> {
     let mut oracle = Oracle::new(rt.alloc(), 1, 1)?;
     for (call, reply) in [
         (Call::Add(Key(5)), Reply::True),
@@ -74,7 +76,7 @@ fn a_sequential_set_with_a_quota_of_one(rt: HostRuntime) -> Result<(), Fail> {
 }
 
 #[test]
-fn a_history_names_why_a_call_cannot_begin_or_end(rt: HostRuntime) {
+fn a_history_refuses_a_begin_or_end_with_its_cause(rt: HostRuntime) {
     let add = Call::Add(Key(5));
     let mut history = History::new(rt.alloc(), 1, 1);
     assert!(rt; history.begin(0, add, 1) == Ok(0));
@@ -87,7 +89,7 @@ fn a_history_names_why_a_call_cannot_begin_or_end(rt: HostRuntime) {
     assert!(rt; history.calls().len() == 1);
 }
 
-/// How many calls the schedule begins.
+/// Returns how many calls the schedule begins.
 fn begun(schedule: &Schedule) -> usize {
     let lines = schedule.lines.iter();
     lines
@@ -96,7 +98,7 @@ fn begun(schedule: &Schedule) -> usize {
 }
 
 #[test]
-fn schedules_and_programs_that_are_drawn(rt: HostRuntime) -> Result<(), Fail> {
+fn a_seed_fixes_its_schedule_and_its_programs(rt: HostRuntime) -> Result<(), Fail> {
     let alloc = rt.alloc();
     let empty = generate::<LazyList>(alloc, 2, 4, 0, 8, 1)?;
     let text = b"listset-schedule 1\nlist lazy\nthreads 2\nquota 4\n".as_slice();

@@ -1,4 +1,5 @@
-//! A server whose output fails. Its port is another in each run, so its first line is compared but for the port's digits.
+//! A server whose output fails. Its port differs between runs, so the first line is compared without the digits of the
+//! port.
 use crate::devices::{CANNOT_WRITE, Failure, Plan, Way, Writer, planned};
 use crate::prelude::*;
 use lset_dispatch::run_words;
@@ -7,20 +8,20 @@ use std::net::Shutdown;
 
 const LISTENING: &str = "listening 127.0.0.1:";
 
-/// What comes after the first line if the client was served.
+/// The text after the first line if the client was served.
 const ONE_SESSION: &str = "sessions 1\ncalls 1\nkey 7\n";
 
-/// More calls than a run makes on its output.
+/// An upper bound for the calls that a run makes on its output.
 const MOST_CALLS: usize = 100;
 
-/// How the output fails, and how many bytes it takes at a call.
+/// The failures to try, and the number of bytes that one call moves.
 const WAYS: [Way; 3] = [
     (Failure::Interrupted, 1),
     (Failure::BrokenPipe, 3),
     (Failure::Nothing, 7),
 ];
 
-/// A client that asks for a call and takes its leave before the server accepts it, so that it needs no thread of its own.
+/// Connects a client, which sends a call and `QUIT` before the server accepts it, and so needs no thread.
 fn client<R: Host>(rt: &R, port: u16) -> io::Result<TcpStream> {
     let mut stream = TcpStream::connect(rt, ("127.0.0.1", port))?;
     stream.write_all(b"ADD 7\nQUIT\n")?;
@@ -28,7 +29,7 @@ fn client<R: Host>(rt: &R, port: u16) -> io::Result<TcpStream> {
     Ok(stream)
 }
 
-/// The port that a whole first line names.
+/// Returns the port that a complete first line names.
 fn port_in(text: &[u8]) -> Option<u16> {
     let text = std::str::from_utf8(text).ok()?;
     text.strip_prefix(LISTENING)?
@@ -37,13 +38,13 @@ fn port_in(text: &[u8]) -> Option<u16> {
         .ok()
 }
 
-/// The output of a server. When the first line is flushed, a client connects.
+/// The output of a server. A flush connects a client if the first line is complete.
 #[derive(Drop)]
 struct Door<'r, R> {
     rt: &'r R,
     writer: Writer,
     client: Option<TcpStream>,
-    /// Whether the flush succeeded.
+    /// Whether a flush has succeeded.
     is_open: bool,
 }
 
@@ -62,7 +63,7 @@ impl<R: Host> Write for Door<'_, R> {
     }
 }
 
-/// Whether the client got its answers, and then the end.
+/// Decides whether the client received its answers, and then the end.
 fn is_answered(client: Option<TcpStream>) -> bool {
     let Some(mut stream) = client else {
         return false;
@@ -73,7 +74,7 @@ fn is_answered(client: Option<TcpStream>) -> bool {
         && matches!(stream.read(&mut [0u8; 1]), Ok(0))
 }
 
-/// Whether the client, if there was one, got no byte.
+/// Decides whether the client, if there was one, received no byte.
 fn is_turned_away(client: Option<TcpStream>) -> bool {
     let Some(mut stream) = client else {
         return true;
@@ -81,13 +82,13 @@ fn is_turned_away(client: Option<TcpStream>) -> bool {
     matches!(stream.read(&mut [0u8; 9]), Ok(0) | Err(_))
 }
 
-/// The rest of a text after its first digits, and how many those are.
+/// Skips the digits at the start of a text; returns the rest and the number of digits.
 fn after_digits(text: &str) -> (&str, usize) {
     let rest = text.trim_start_matches(|letter: char| letter.is_ascii_digit());
     (rest, text.len().saturating_sub(rest.len()))
 }
 
-/// Whether the bytes are a front of the first line and of the text after it.
+/// Decides whether the bytes are a prefix of the first line and the text after it.
 fn is_front(bytes: &[u8], after: &str) -> Option<bool> {
     let text = std::str::from_utf8(bytes).ok()?;
     let Some(named) = text.strip_prefix(LISTENING) else {
@@ -100,13 +101,13 @@ fn is_front(bytes: &[u8], after: &str) -> Option<bool> {
     }
 }
 
-/// Whether the bytes are the first line and the text after it.
+/// Decides whether the bytes are the first line and the text after it.
 fn is_whole(bytes: &[u8], after: &str) -> Option<bool> {
     let ends = bytes.ends_with(after.as_bytes());
     Some(ends && is_front(bytes, after)?)
 }
 
-/// A server of one session whose output fails as planned, and whether it did.
+/// Runs a server of one session whose output has this plan. Returns whether a call on the output failed.
 fn output_fails<R: Host>(rt: &R, alloc: Global, plan: Plan) -> Result<bool, Fail> {
     let words = ["serve", "lazy", "1", "4", "0", "1"];
     let mut door = Door {
@@ -147,7 +148,8 @@ fn output_fails<R: Host>(rt: &R, alloc: Global, plan: Plan) -> Result<bool, Fail
     Ok(true)
 }
 
-/// How many runs there are in which the output fails, at each of its calls in turn, until a run ends without a failure.
+/// Runs a server with a failure at each call on its output in turn, until a run ends without a failure. Returns the
+/// number of runs that failed.
 fn each_call_fails<R: Host>(rt: &R, alloc: Global, way: Way) -> Result<usize, Fail> {
     for fails_at in 0..MOST_CALLS {
         if !output_fails(rt, alloc, planned(way, fails_at))? {
@@ -157,10 +159,11 @@ fn each_call_fails<R: Host>(rt: &R, alloc: Global, way: Way) -> Result<usize, Fa
     Err(Fail::new("no run ends without a failure"))
 }
 
-/// Each write and the flush in turn, until a run ends without a failure. If the first line is not out, whole and flushed,
-/// no client is accepted.
+/// If the first line is not completely written and flushed, the server accepts no client.
 #[test]
-fn each_call_on_the_output_fails_in_turn(rt: HostRuntime) -> Result<(), Fail> {
+fn a_server_accepts_no_client_before_its_first_line_is_written(
+    rt: HostRuntime,
+) -> Result<(), Fail> {
     for way in &WAYS {
         let runs = each_call_fails(&rt, rt.alloc(), *way)?;
         assert!(rt; runs.saturating_mul(way.1) > LISTENING.len());

@@ -1,4 +1,4 @@
-//! Each function of the libraries that can run out of memory, at each size from 0 to 200: it succeeds there, with the answer that is right.
+//! Functions of the libraries that allocate, at each size from 0 to 200: each succeeds, with the right answer.
 
 use crate::made::{in_turn, increasing_keys};
 use crate::prelude::*;
@@ -9,12 +9,12 @@ use lset_schedule::{programs, read_schedule, write_schedule};
 
 const MOST_SIZE: u32 = 200;
 
-/// So many threads of that many.
+/// Returns a number of threads, from 1 to `MOST_THREADS`, that varies with the size.
 fn threads_of(size: u32) -> u32 {
     1 + size % MOST_THREADS
 }
 
-/// The world of a list that opens with so many keys.
+/// Opens a list with `size` keys and checks its content.
 fn has_world<M: Machine, R: Abort>(rt: &R, alloc: Global, size: u32) -> Result<(), Fail> {
     let keys = increasing_keys(alloc, size)?;
     let layout = layout_opening(threads_of(size), size, size)?;
@@ -25,7 +25,7 @@ fn has_world<M: Machine, R: Abort>(rt: &R, alloc: Global, size: u32) -> Result<(
 }
 
 #[test]
-fn worlds_of_each_size(rt: HostRuntime) -> Result<(), Fail> {
+fn lists_open_at_each_size(rt: HostRuntime) -> Result<(), Fail> {
     let alloc = rt.alloc();
     for size in 0..=MOST_SIZE {
         has_world::<CoarseList, _>(&rt, alloc, size)?;
@@ -37,7 +37,8 @@ fn worlds_of_each_size(rt: HostRuntime) -> Result<(), Fail> {
     Ok(())
 }
 
-/// The text of a schedule is read and written as it is, and so is the report of its run, whose order explains it.
+/// Reads and writes a schedule and the report of its run. Both are unchanged, and the order explains the run. Returns
+/// the number of calls.
 fn is_replayed<R: Abort>(rt: &R, alloc: Global, text: &[u8]) -> Result<usize, Fail> {
     let schedule = read_schedule(alloc, text)?;
     assert!(rt; write_schedule(alloc, &schedule)?.as_slice() == text);
@@ -49,7 +50,7 @@ fn is_replayed<R: Abort>(rt: &R, alloc: Global, text: &[u8]) -> Result<usize, Fa
     Ok(read.history.calls().len())
 }
 
-/// A schedule of so many calls is drawn.
+/// Generates a schedule of up to `size` calls for each thread, and replays it.
 fn has_schedule<M: Machine, R: Abort>(rt: &R, alloc: Global, size: u32) -> Result<(), Fail> {
     let (threads, seed) = (threads_of(size), u64::from(size));
     let schedule = generate::<M>(alloc, threads, size, size, 1 + size, seed)?;
@@ -58,7 +59,8 @@ fn has_schedule<M: Machine, R: Abort>(rt: &R, alloc: Global, size: u32) -> Resul
     Ok(())
 }
 
-/// One thread looks for each of so many opening keys, which in a LazyList takes two steps more than for the key before.
+/// Returns a schedule in which one thread looks for each of `size` opening keys. In a LazyList this takes two more
+/// steps than for the previous key.
 fn looks_for_each(alloc: Global, size: u32) -> Result<String, Fail> {
     let mut text = String::from_str(alloc, "listset-schedule 2\nlist lazy\nthreads 1\nquota 0\n")?;
     for key in 0..size {
@@ -72,7 +74,7 @@ fn looks_for_each(alloc: Global, size: u32) -> Result<String, Fail> {
 }
 
 #[test]
-fn schedules_and_reports_of_each_size(rt: HostRuntime) -> Result<(), Fail> {
+fn schedules_and_reports_are_right_at_each_size(rt: HostRuntime) -> Result<(), Fail> {
     let alloc = rt.alloc();
     for size in 0..=MOST_SIZE {
         has_schedule::<CoarseList, _>(&rt, alloc, size)?;
@@ -92,7 +94,7 @@ fn schedules_and_reports_of_each_size(rt: HostRuntime) -> Result<(), Fail> {
     Ok(())
 }
 
-/// A set that opens with so many keys takes as many more, and is then full.
+/// Opens a sequential set with `size` keys and as many slots: it accepts that many more keys and is then full.
 fn has_oracle<R: Abort>(rt: &R, alloc: Global, size: u32) -> Result<(), Fail> {
     let mut oracle = Oracle::opened(alloc, 1, size, &increasing_keys(alloc, size)?)?;
     for key in size..2 * size {
@@ -115,7 +117,7 @@ fn has_oracle<R: Abort>(rt: &R, alloc: Global, size: u32) -> Result<(), Fail> {
     Ok(())
 }
 
-/// Threads in turn add so many keys.
+/// Returns a history in which threads in turn add `size` keys.
 fn adds(alloc: Global, size: u32) -> Result<History, Fail> {
     let mut calls = Vec::new(alloc);
     for key in 0..size {
@@ -125,19 +127,19 @@ fn adds(alloc: Global, size: u32) -> Result<History, Fail> {
     Ok(in_turn(history, &calls)?)
 }
 
-/// So many adds have an order that leaves their keys, and none that leaves nothing, which is shown.
+/// Judges a history of `size` adds: it has a linearization that leaves their keys, and none that leaves no key.
 fn is_judged<R: Abort>(rt: &R, alloc: Global, size: u32) -> Result<(), Fail> {
     let history = adds(alloc, size)?;
     let judged = judge(alloc, &history, &increasing_keys(alloc, size)?)?;
     assert!(rt; matches!(judged, Judged::Linearizable), "{size}");
     let judged = judge(alloc, &history, &[])?;
     let is_lost =
-        matches!(&judged, Judged::NotLinearizable(_, Some(window)) if window.calls.is_empty());
+        matches!(&judged, Judged::NotLinearizable(_, Some(clash)) if clash.second.is_none());
     assert!(rt; is_lost == (size > 0), "{size}");
     Ok(())
 }
 
-/// Each of so many threads has an add pending, and each took effect.
+/// Judges a history in which each thread has a pending add. All of them took effect.
 fn is_judged_pending<R: Abort>(rt: &R, alloc: Global, threads: u32) -> Result<(), Fail> {
     let mut history = History::new(alloc, threads, 1);
     for thread in 0..threads {
@@ -149,7 +151,9 @@ fn is_judged_pending<R: Abort>(rt: &R, alloc: Global, threads: u32) -> Result<()
 }
 
 #[test]
-fn sets_and_histories_of_each_size(rt: HostRuntime) -> Result<(), Fail> {
+fn sequential_sets_and_judged_histories_are_right_at_each_size(
+    rt: HostRuntime,
+) -> Result<(), Fail> {
     let alloc = rt.alloc();
     for size in 0..=MOST_SIZE {
         has_oracle(&rt, alloc, size)?;
@@ -159,7 +163,7 @@ fn sets_and_histories_of_each_size(rt: HostRuntime) -> Result<(), Fail> {
     Ok(())
 }
 
-/// The judge of so many calls that find a key each, and of as many adds that are pending.
+/// Returns a judge with `size` calls that find a key each, and `size` pending adds.
 fn judge_of(alloc: Global, size: u32) -> Result<Judge, Fail> {
     let mut judge = Judge::new(alloc, &increasing_keys(alloc, size)?)?;
     for number in 0..2 * size {
@@ -180,7 +184,7 @@ fn judge_of(alloc: Global, size: u32) -> Result<Judge, Fail> {
     Ok(judge)
 }
 
-/// A recording: so many opening keys, each of which is looked for, and is left.
+/// Returns a recording with `size` opening keys. Each key is looked for and remains.
 fn recording_of(alloc: Global, size: u32) -> Result<String, Fail> {
     let mut text = String::from_str(alloc, "listset-calls 1\n")?;
     for key in 0..size {
@@ -198,7 +202,7 @@ fn recording_of(alloc: Global, size: u32) -> Result<String, Fail> {
     Ok(text)
 }
 
-/// A recording of so many calls is read in pieces of one byte more.
+/// Reads a recording of `size` calls in pieces of `size + 1` bytes.
 fn is_read<R: Abort>(rt: &R, alloc: Global, size: u32) -> Result<(), Fail> {
     let text = recording_of(alloc, size)?;
     let mut reader = RecordingReader::new(alloc);
@@ -212,7 +216,7 @@ fn is_read<R: Abort>(rt: &R, alloc: Global, size: u32) -> Result<(), Fail> {
 }
 
 #[test]
-fn recordings_of_each_size(rt: HostRuntime) -> Result<(), Fail> {
+fn recordings_are_judged_at_each_size(rt: HostRuntime) -> Result<(), Fail> {
     let alloc = rt.alloc();
     for size in 0..=MOST_SIZE {
         let keys = increasing_keys(alloc, 2 * size)?;

@@ -1,19 +1,20 @@
-//! Sessions whose answers wait: all lines that were read are answered before the next read.
+//! Sessions whose answers are buffered: all lines that were read are answered before the next read.
 use crate::prelude::*;
 use crate::sessions::{end, held, held_buffered, one_seat, was_held};
 use std::cell::Cell;
 
-/// How many bytes of answers were written, and whether each read came after all of them.
+/// How many bytes of answers were written, and whether at each read all lines before it had been answered.
 #[derive(Drop)]
 struct Seen {
     written: Cell<u64>,
     in_time: Cell<bool>,
 }
 
-/// A text, and how many bytes the lines are answered by that it ends.
+/// A text, and the length of the answers to the lines that end in it.
 type Turn<'a> = (&'a [u8], u64);
 
-/// Gives texts, each in a read of its own, and looks at each read whether all lines that were read before are answered.
+/// A source that returns one text at each read. At each read it checks that all lines of earlier texts have been
+/// answered.
 #[derive(Drop)]
 struct Asking<'a> {
     turns: &'a [Turn<'a>],
@@ -41,7 +42,7 @@ impl Source for Asking<'_> {
     }
 }
 
-/// Takes all that it is given, and counts the bytes.
+/// A sink that counts the bytes.
 #[derive(Drop)]
 struct Counting<'a> {
     seen: &'a Seen,
@@ -59,7 +60,8 @@ impl Sink for Counting<'_> {
     }
 }
 
-/// The lines of each text are answered before the session reads the next text, and so many of them are calls.
+/// Asserts that the lines of each text are answered before the session reads the next text, and that the session makes
+/// this number of calls.
 fn are_answered_in_time<R: Host>(
     rt: &R,
     alloc: Global,
@@ -96,16 +98,16 @@ fn are_answered_in_both<R: Host>(rt: &R, alloc: Global, turns: &[Turn<'_>], call
     are_answered_in_time(rt, alloc, turns, calls, false);
 }
 
-/// A line, a read that has no room for more, and a read that ends within a line.
+/// A line, a read that fills the buffer, and a read that ends within a line.
 #[test]
-fn answers_leave_before_each_read(rt: HostRuntime) {
+fn answers_are_written_before_each_read(rt: HostRuntime) {
     let texts: &[Turn<'_>] = &[(b"\n", 4), (&[b'\n'; 4096], 4 * 4096), (b"\nA", 4)];
     for turn in texts {
         are_answered_in_both(&rt, rt.alloc(), &[*turn; 3], 0);
     }
 }
 
-/// Lines on a set with a quota of 4, by which each kind of answer is asked for; and how long the answers are.
+/// Lines that lead to each kind of answer, on a set with a quota of 4, and the lengths of the answers.
 const OF_EACH_ANSWER: [Turn<'static>; 9] = [
     (b"CEILING 0\n", 5),
     (b"ADD 4294967295\n", 5),
@@ -118,29 +120,29 @@ const OF_EACH_ANSWER: [Turn<'static>; 9] = [
     (b"MOVE 7\n", 4),
 ];
 
-/// A client that waits for its answer has it, whichever it is.
+/// A client that waits for its answer receives it, for each kind of answer.
 #[test]
-fn each_answer_leaves_alone(rt: HostRuntime) {
+fn each_kind_of_answer_is_written_before_the_next_read(rt: HostRuntime) {
     are_answered_in_both(&rt, rt.alloc(), &OF_EACH_ANSWER, 10);
 }
 
-/// The text is answered as without waiting, and the session ends so too.
+/// Asserts that a buffered session writes and returns what an unbuffered one does.
 fn is_answered_alike<R: Host>(rt: &R, alloc: Global, text: &[u8]) {
     let (plain, ended) = held(rt, alloc, &mut Device::new(text));
     let session = held_buffered(rt, alloc, Device::new(text));
     was_held(rt, &session, &plain, ended);
 }
 
-/// So many empty lines, and then these bytes.
+/// Returns a number of empty lines, followed by `last`.
 fn lines_then<R: Abort>(rt: &R, alloc: Global, empty: usize, last: &[u8]) -> Vec<u8> {
     let mut text = vec![in alloc; b'\n'; empty].expect(rt, "room");
     text.extend_from_slice(last).expect(rt, "room");
     text
 }
 
-/// The answers to the lines of one read are four times as many bytes as there is room for.
+/// The answers to the lines of one read are four times as long as the buffer.
 #[test]
-fn answers_that_have_no_room_leave(rt: HostRuntime) {
+fn answers_longer_than_the_buffer_are_written(rt: HostRuntime) {
     let lasts: &[&[u8]] = &[b"".as_slice(), b"QUIT\n", &[b'A'; 65]];
     for last in lasts {
         let text = lines_then(&rt, rt.alloc(), 5000, last);
@@ -148,9 +150,9 @@ fn answers_that_have_no_room_leave(rt: HostRuntime) {
     }
 }
 
-/// The longest answers, to the lines of one read: of some of them the front alone has room.
+/// The longest answers, to the lines of one read. Some of them fit the buffer only in part.
 #[test]
-fn answers_that_have_room_in_part_leave_whole(rt: HostRuntime) {
+fn answers_that_fit_the_buffer_in_part_are_written_whole(rt: HostRuntime) {
     let mut text = Vec::from_slice(rt.alloc(), b"ADD 4294967295\n").expect(&rt, "room");
     for _ in 0..1000 {
         text.extend_from_slice(b"CEILING 0\n").expect(&rt, "room");

@@ -1,20 +1,19 @@
-//! Readers and writers of the standard library: some that fail once and then go on, and some that give and take all they can.
+//! Readers and writers of the standard library: some fail at one call, some move as many bytes as they can.
 
 use crate::prelude::*;
 use std::io::ErrorKind;
 
-/// Gives the bytes of a text one by one. Its read with the number `fails_at`, counted from 1, fails, and
-/// the reads after it go on.
+/// A reader that returns one byte at a time. Read number `fails_at`, from 1, fails, and all reads after it succeed.
 #[derive(Drop)]
 pub struct FailingReader<'a> {
     text: &'a [u8],
-    /// How many reads were asked for, the failing one included.
+    /// The number of reads, including the one that failed.
     pub reads: u64,
     fails_at: u64,
 }
 
 impl<'a> FailingReader<'a> {
-    /// A reader of which no byte was read. If `fails_at` is 0 no read fails.
+    /// Starts at the begin of the text. If `fails_at` is 0, no read fails.
     pub fn new(text: &'a [u8], fails_at: u64) -> FailingReader<'a> {
         FailingReader {
             text,
@@ -39,19 +38,18 @@ impl Read for FailingReader<'_> {
     }
 }
 
-/// Takes a text byte by byte. Its write with the number `fails_at`, counted from 1, fails, and the writes
-/// after it go on.
+/// A writer that accepts one byte at a time. Write number `fails_at`, from 1, fails, and all writes after it succeed.
 #[derive(Drop)]
 pub struct FailingWriter {
-    /// The bytes that were taken.
+    /// The bytes that were written.
     pub text: Vec<u8>,
-    /// How many writes were asked for, the failing one included.
+    /// The number of writes, including the one that failed.
     pub writes: u64,
     fails_at: u64,
 }
 
 impl FailingWriter {
-    /// A writer that has taken no byte. If `fails_at` is 0 no write fails, unless memory for its byte is refused.
+    /// Starts without bytes. If `fails_at` is 0, no write fails unless an allocation does.
     pub fn new(alloc: Global, fails_at: u64) -> FailingWriter {
         FailingWriter {
             text: Vec::new(alloc),
@@ -60,7 +58,7 @@ impl FailingWriter {
         }
     }
 
-    /// Of these answers it took all up to the write that failed, which was the last.
+    /// Asserts that the failing write was the last one, and that all bytes of the answers before it were written.
     pub fn has_stopped<R: Abort>(&self, rt: &R, answers: &[u8]) {
         let at = self.fails_at;
         assert_eq!(rt; self.text.len() as u64 + 1, at);
@@ -87,7 +85,7 @@ impl Write for FailingWriter {
     }
 }
 
-/// Gives as many bytes at once as there is room for, and counts the reads.
+/// A reader that fills the buffer if it can, and counts the reads.
 #[derive(Drop)]
 pub struct GenerousReader<'a> {
     pub text: &'a [u8],
@@ -104,7 +102,7 @@ impl Read for GenerousReader<'_> {
     }
 }
 
-/// Takes all that it is given, and counts the bytes and the writes.
+/// A writer that accepts all bytes, and counts bytes and writes.
 #[derive(Drop)]
 pub struct GreedyWriter {
     pub bytes: u64,

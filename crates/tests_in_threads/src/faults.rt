@@ -1,9 +1,9 @@
-//! Sessions of which one read or one write fails, each in turn.
+//! Sessions in which one read or one write fails, each in turn.
 use crate::devices::{FailingReader, FailingWriter};
 use crate::prelude::*;
 use crate::sessions::{ANSWERS, CEILINGS, LINES, end, held, held_buffered, one_seat, was_held};
 
-/// Of the answers to these lines the write with this number fails.
+/// Asserts that a session ends at write number `at`, after `calls` calls.
 fn write_fails<R: Host>(rt: &R, alloc: Global, lines: &[u8], answers: &[u8], at: u64, calls: u64) {
     let (set, mut seat) = one_seat(rt, alloc);
     let mut writer = FailingWriter::new(alloc, at);
@@ -13,7 +13,8 @@ fn write_fails<R: Host>(rt: &R, alloc: Global, lines: &[u8], answers: &[u8], at:
     writer.has_stopped(rt, answers);
 }
 
-/// So do all writes of these rows in turn: the first and the last of some, and the calls before each of them.
+/// Asserts that a session ends at each write in turn. A row has the first and the last of some writes, and the number
+/// of calls before each of them.
 fn writes_fail<R: Host>(
     rt: &R,
     alloc: Global,
@@ -29,7 +30,7 @@ fn writes_fail<R: Host>(
 }
 
 #[test]
-fn a_write_that_fails_is_the_last(rt: HostRuntime) {
+fn a_failed_write_ends_the_session(rt: HostRuntime) {
     let rows = [(1, 5, 1), (6, 11, 2), (12, 20, 3), (21, 29, 4)];
     writes_fail(&rt, rt.alloc(), LINES, ANSWERS, &rows);
     let lines = b"ADD 4294967295\nCEILING 0\nQUIT\n".as_slice();
@@ -38,7 +39,8 @@ fn a_write_that_fails_is_the_last(rt: HostRuntime) {
     writes_fail(&rt, rt.alloc(), lines, answers, &rows);
 }
 
-/// The read with this number fails, also if answers wait: they have been written before.
+/// Asserts that a session ends at read number `at`, and that all earlier lines have been answered, even if answers are
+/// buffered.
 fn read_fails<R: Host>(rt: &R, alloc: Global, lines: &[u8], at: u64, answers: &[u8], calls: u64) {
     let ended = end(EndReason::ReadFault, calls);
     let mut reader = FailingReader::new(lines, at);
@@ -51,7 +53,8 @@ fn read_fails<R: Host>(rt: &R, alloc: Global, lines: &[u8], at: u64, answers: &[
     assert!(rt; reader.reads == at, "{at}, answers wait");
 }
 
-/// So do all reads of these rows in turn: the first and the last of some, the answers before each of them, and the calls.
+/// Asserts that a session ends at each read in turn. A row has the first and the last of some reads, the answers before
+/// each of them, and the number of calls.
 fn reads_fail<R: Host>(rt: &R, alloc: Global, lines: &[u8], rows: &[(u64, u64, &[u8], u64)]) {
     for &(from, to, answers, calls) in rows {
         for at in from..=to {
@@ -61,7 +64,7 @@ fn reads_fail<R: Host>(rt: &R, alloc: Global, lines: &[u8], rows: &[(u64, u64, &
 }
 
 #[test]
-fn a_read_that_fails_is_the_last(rt: HostRuntime) {
+fn a_failed_read_ends_the_session(rt: HostRuntime) {
     let rows: [(u64, u64, &[u8], u64); 6] = [
         (1, 6, b"", 0),
         (7, 12, b"TRUE\n", 1),
@@ -83,14 +86,15 @@ fn a_read_that_fails_is_the_last(rt: HostRuntime) {
 /// Lines, their answers, and how many calls they make.
 type Lines = (&'static [u8], &'static [u8], u64);
 
-/// Calls that end by `QUIT`; a line that is too long; and lines of which none makes a call.
+/// Lines that end in each way: calls and `QUIT`; a line that is too long; lines without a call.
 const OF_EACH_END: [Lines; 3] = [
     (LINES, ANSWERS, 4),
     (&[b'A'; 65], b"LONG\n", 0),
     (b"\nQUIT\n", b"BAD\nBYE\n", 0),
 ];
 
-/// All lines come in one read, answers wait, and of those the write with this number fails: all calls are made.
+/// Asserts that a session makes all calls if its lines come in one read, and write number `at` of the buffered answers
+/// fails.
 fn waiting_write_fails<R: Host>(rt: &R, alloc: Global, lines: Lines, at: u64) {
     let (text, answers, calls) = lines;
     let (set, mut seat) = one_seat(rt, alloc);
@@ -102,7 +106,7 @@ fn waiting_write_fails<R: Host>(rt: &R, alloc: Global, lines: Lines, at: u64) {
 }
 
 #[test]
-fn a_write_of_answers_that_waited_is_the_last_if_it_fails(rt: HostRuntime) {
+fn a_failed_write_of_buffered_answers_ends_the_session(rt: HostRuntime) {
     for lines in OF_EACH_END {
         for at in 1..=lines.1.len() as u64 {
             waiting_write_fails(&rt, rt.alloc(), lines, at);
@@ -110,9 +114,10 @@ fn a_write_of_answers_that_waited_is_the_last_if_it_fails(rt: HostRuntime) {
     }
 }
 
-/// All lines come in one read, and of their answers the front alone has room: the first write fails, and no call follows.
+/// All lines come in one read, and their answers fit the buffer only in part. After the first write fails, the session
+/// makes no further call.
 #[test]
-fn no_call_is_made_after_a_write_that_failed(rt: HostRuntime) {
+fn no_call_is_made_after_a_failed_write(rt: HostRuntime) {
     let mut text = Vec::from_slice(rt.alloc(), b"ADD 4294967295\n").expect(&rt, "room");
     for _ in 0..408 {
         text.extend_from_slice(b"CEILING 0\n").expect(&rt, "room");

@@ -1,7 +1,8 @@
-//! The tests that run threads or hold sessions: running sets, programs on threads, sessions over devices, servers on the loopback.
+//! The tests with threads or sessions: running sets, programs in threads, sessions over devices, servers on the
+//! loopback.
 #![tactic(auto)]
 
-/// Makes a check of each of the five lists.
+/// Runs a check for each of the five lists.
 macro_rules! at_each_list {
     ($check:ident, $rt:ident $(, $value:expr)*) => {
         $check::<lset_coarse::CoarseList, HostRuntime>(&$rt, $rt.alloc() $(, $value)*);

@@ -1,8 +1,8 @@
-//! The most lines of a session.
+//! The maximum number of lines of a session.
 use crate::prelude::*;
 use crate::sessions::{end, held, held_buffered, was_held};
 
-/// Gives empty lines, and then the last bytes.
+/// A source of empty lines, followed by the bytes `last`.
 #[derive(Drop)]
 struct Lines {
     empty: u32,
@@ -37,8 +37,8 @@ impl Source for Lines {
     }
 }
 
-/// So many empty lines and then these bytes: `BAD` to each of the lines, and then these answers, also of a session whose
-/// answers wait.
+/// Asserts that a session answers each of `empty` empty lines with `BAD`, and the bytes `last` with `answers`. A
+/// buffered session does the same.
 fn is_answered_after<R: Host>(
     rt: &R,
     alloc: Global,
@@ -57,7 +57,7 @@ fn is_answered_after<R: Host>(
 }
 
 #[test]
-fn a_session_has_a_million_lines(rt: HostRuntime) {
+fn a_session_ends_after_a_million_lines(rt: HostRuntime) {
     let (limit, one) = (end(EndReason::Limit, 0), end(EndReason::Limit, 1));
     is_answered_after(&rt, rt.alloc(), 1_000_000, b"", b"LIMIT\n", limit);
     let quit = end(EndReason::Quit, 0);

@@ -2,7 +2,7 @@
 
 use crate::prelude::*;
 
-/// Waits until the flag is set, for at most 10,000 turns of a sleep of one millisecond: whether it was.
+/// Waits until the flag is set, and returns whether it was. Polls every millisecond, at most 10,000 times.
 pub fn comes<R: Clock>(rt: &R, flag: &AtomicBool) -> bool {
     for _ in 0..10_000 {
         if flag.load(Ordering::SeqCst) {
@@ -13,7 +13,7 @@ pub fn comes<R: Clock>(rt: &R, flag: &AtomicBool) -> bool {
     false
 }
 
-/// Waits until a count is at a number, for as long: whether it is.
+/// Waits until the count is `number`, and returns whether it was. Polls every millisecond, at most 10,000 times.
 pub fn reaches<R: Clock>(rt: &R, count: &AtomicU64, number: u64) -> bool {
     for _ in 0..10_000 {
         if count.load(Ordering::SeqCst) == number {
@@ -24,7 +24,7 @@ pub fn reaches<R: Clock>(rt: &R, count: &AtomicU64, number: u64) -> bool {
     false
 }
 
-/// A seat makes a call once a flag is set, and sets another.
+/// Waits for the first flag, makes a call, and sets the second flag.
 pub fn calls<M: Running, R: Clock + Wait, P: Pause>(
     rt: &R,
     set: &LiveSet<M>,
@@ -39,8 +39,8 @@ pub fn calls<M: Running, R: Clock + Wait, P: Pause>(
     reply
 }
 
-/// Threads 0 to 63 at most, each of which waits for all others when it comes for the first time; and whether one of them has taken
-/// a lock that it waited for.
+/// A meeting of up to 64 threads. Each waits for all others when it arrives for the first time. `took` is whether one
+/// of them took a lock after it had waited for it.
 #[derive(Drop)]
 pub struct Meeting<'a, R> {
     rt: &'a R,
@@ -52,7 +52,7 @@ pub struct Meeting<'a, R> {
 }
 
 impl<'a, R: Clock> Meeting<'a, R> {
-    /// Of so many threads, of which none has come.
+    /// Begins a meeting of `threads` threads. None has arrived.
     pub fn new(rt: &'a R, threads: u64) -> Meeting<'a, R> {
         Meeting {
             rt,
@@ -64,7 +64,7 @@ impl<'a, R: Clock> Meeting<'a, R> {
         }
     }
 
-    /// The thread comes: whether all others do, or this one had come before.
+    /// Arrives, and waits for all others. Returns whether they arrive, or true if this thread has arrived before.
     pub fn come(&self, thread: u32) -> bool {
         if self.came[(thread % 64) as usize].swap(true, Ordering::SeqCst) {
             return true;
@@ -77,25 +77,25 @@ impl<'a, R: Clock> Meeting<'a, R> {
         has_met
     }
 
-    /// Whether all came, and none waited in vain.
+    /// Decides whether all threads arrived and none gave up waiting.
     pub fn was_held(&self) -> bool {
         self.count.load(Ordering::SeqCst) == self.threads && !self.missed.load(Ordering::SeqCst)
     }
 
-    /// Whether a thread has taken a lock that it waited for.
+    /// Decides whether a thread took a lock that it had waited for.
     pub fn has_waited(&self) -> bool {
         self.took.load(Ordering::SeqCst)
     }
 }
 
-/// Holds each seat at its second call until all are there.
+/// Holds each seat before its second call, until all have arrived.
 impl<'a, R: Clock> Gate for Meeting<'a, R> {
     fn pass(&self, seat: u32, call: u32) -> bool {
         call != 1 || self.come(seat)
     }
 }
 
-/// Holds each thread at its first step until all have made one.
+/// Holds each thread after its first step, until all have made one.
 impl<'a, R: Clock> Pause for Meeting<'a, R> {
     fn moved(&self, thread: u32) {
         let _has_met = self.come(thread);

@@ -1,4 +1,4 @@
-//! What the tests do with a running set: each stops the test if the set does anything else.
+//! Operations on a running set, for the tests. Each fails the test if the set does anything else than expected.
 
 use crate::prelude::*;
 
@@ -10,7 +10,7 @@ pub fn last_of<M: Machine, R: Abort>(
     seats.pop().expect(rt, "no seat is left")
 }
 
-/// A set that opens with these keys and has two seats with a quota of 4: it, and its seats 0 and 1.
+/// Opens a set with these keys and two seats with a quota of 4. Returns the set, seat 0 and seat 1.
 pub fn two_seats_on<M: Machine, R: Abort>(
     rt: &R,
     alloc: Global,
@@ -22,12 +22,12 @@ pub fn two_seats_on<M: Machine, R: Abort>(
     (set, zero, one)
 }
 
-/// A set that opens empty and has two seats with a quota of 4: it, and its seats 0 and 1.
+/// Opens an empty set with two seats with a quota of 4. Returns the set, seat 0 and seat 1.
 pub fn two_seats<M: Machine, R: Abort>(rt: &R, alloc: Global) -> (LiveSet<M>, Seat<M>, Seat<M>) {
     two_seats_on::<M, R>(rt, alloc, &[])
 }
 
-/// The reply of a call by the method of its name.
+/// Makes a call through the method of its name.
 fn reply<M: Running, R: Wait>(rt: &R, set: &LiveSet<M>, seat: &mut Seat<M>, call: Call) -> Reply {
     match call {
         Call::Add(key) => set.add(rt, seat, key),
@@ -37,7 +37,7 @@ fn reply<M: Running, R: Wait>(rt: &R, set: &LiveSet<M>, seat: &mut Seat<M>, call
     }
 }
 
-/// A seat makes calls in turn, each of which has its reply.
+/// Makes calls in turn and asserts their replies.
 pub fn make_calls<M: Running, R: Host>(
     rt: &R,
     set: &LiveSet<M>,
@@ -49,7 +49,7 @@ pub fn make_calls<M: Running, R: Host>(
     }
 }
 
-/// A seat that holds all of these.
+/// Gathers all seats into one; `None` if there is none.
 pub fn gathered<M: Machine>(set: &LiveSet<M>, mut seats: Vec<Seat<M>>) -> Option<Seat<M>> {
     let mut all = None;
     while let Some(seat) = seats.pop() {
@@ -58,7 +58,7 @@ pub fn gathered<M: Machine>(set: &LiveSet<M>, mut seats: Vec<Seat<M>>) -> Option
     all
 }
 
-/// The set is closed: the keys that it leaves.
+/// Closes the set and returns its final keys.
 pub fn keys_left<M: Machine, R: Abort>(rt: &R, set: LiveSet<M>, seat: Seat<M>) -> Vec<u32> {
     let Ok(closed) = set.close(seat) else {
         panic!(rt; "the set is not closed")
@@ -66,12 +66,12 @@ pub fn keys_left<M: Machine, R: Abort>(rt: &R, set: LiveSet<M>, seat: Seat<M>) -
     closed.keys().expect(rt, "the keys")
 }
 
-/// The set is closed, and has just these keys.
+/// Closes the set and asserts its final keys.
 pub fn close_with<M: Machine, R: Abort>(rt: &R, set: LiveSet<M>, seat: Seat<M>, keys: &[u32]) {
     assert_eq!(rt; keys_left(rt, set, seat).as_slice(), keys);
 }
 
-/// So many keys: multiples of `step`, from 0 on.
+/// Returns the first `count` multiples of `step`, from 0 on.
 pub fn increasing_keys<R: Abort>(rt: &R, alloc: Global, count: u32, step: u32) -> Vec<u32> {
     let mut keys = Vec::new(alloc);
     for number in 0..count {

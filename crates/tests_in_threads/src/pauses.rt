@@ -1,10 +1,10 @@
-//! How many steps a call makes, by the number of times that it asks its pause: once after each step that does not answer.
+//! The number of steps of a call. A call reports each step to its `Pause`, except the step with its reply.
 
 use crate::opened::two_seats;
 use crate::prelude::*;
 use std::cell::Cell;
 
-/// Counts the steps that do not answer, and those of them that are reported of another thread, as failed, or as the end of a wait.
+/// A pause that counts the reported steps. A step is wrong if it is of another thread, failed, or ended a wait.
 #[derive(Drop)]
 pub struct Count {
     thread: u32,
@@ -13,7 +13,7 @@ pub struct Count {
 }
 
 impl Count {
-    /// For the calls of a thread of whose exchanges none is to fail, so that it waits for no lock.
+    /// Counts the steps of a thread whose exchanges should all succeed, so that it waits for no lock.
     pub fn new(thread: u32) -> Count {
         Count {
             thread,
@@ -29,7 +29,7 @@ impl Count {
         }
     }
 
-    /// How many steps were reported so far that did not answer, and how many of those were wrong.
+    /// Returns how many steps were reported, and how many of them were wrong.
     pub fn so_far(&self) -> (u64, u64) {
         (self.steps.get(), self.wrong.get())
     }
@@ -49,7 +49,7 @@ impl Pause for Count {
     }
 }
 
-/// Seat 1 makes these calls in turn on an empty set, each with a reply and a number of steps.
+/// Makes calls in turn from seat 1 of an empty set, and asserts the reply and the number of steps of each.
 fn makes_steps<M: Running, R: Host>(rt: &R, alloc: Global, rows: &[(Call, Reply)], steps: &[u64]) {
     let (set, _zero, mut one) = two_seats::<M, R>(rt, alloc);
     assert!(rt; rows.len() == steps.len());
@@ -63,7 +63,7 @@ fn makes_steps<M: Running, R: Host>(rt: &R, alloc: Global, rows: &[(Call, Reply)
     }
 }
 
-/// By the list's loops, and by the interpreter on its table.
+/// Asserts replies and steps with the loops of the list, and with the interpreter of its table.
 fn both_make_steps<M: Running, R: Host>(
     rt: &R,
     alloc: Global,

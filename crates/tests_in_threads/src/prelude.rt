@@ -1,4 +1,4 @@
-//! What most of the tests use, and what they ask of the runtime.
+//! The imports of most tests, and their requirements on the runtime.
 pub use crate::stepped::Stepped;
 pub use lset_coarse::CoarseList;
 pub use lset_fine::FineList;
@@ -22,7 +22,7 @@ pub use std::sync::atomic::{AtomicBool, AtomicU64, Ordering};
 pub use std::thread::{self, Threads, join};
 pub use std::time::{Clock, Duration};
 
-/// May fail a test, wait, sleep, and start threads.
+/// A runtime that can fail a test, wait, sleep, and start threads.
 pub trait Host: Abort + Clock + Sync + Threads + Wait {}
 
 impl<R: Abort + Clock + Sync + Threads + Wait> Host for R {}

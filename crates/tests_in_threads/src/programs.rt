@@ -1,4 +1,4 @@
-//! Programs on threads, and the gates that they pass.
+//! Programs in threads, and the gates that they pass.
 
 use crate::meeting::Meeting;
 use crate::opened::{last_of, make_calls, two_seats};
@@ -8,7 +8,7 @@ use lset_schedule::programs;
 use lset_work::{Outcome, WorkCause, WorkFault, work};
 use std::sync::atomic::AtomicU32;
 
-/// The outcome, which must not be refused.
+/// Runs the programs and returns their outcome. Fails the test if `work` returns an error.
 pub fn worked<M: Running + Send + Sync, R: Host, G: Gate + Sync>(
     rt: &R,
     alloc: Global,
@@ -23,12 +23,12 @@ pub fn worked<M: Running + Send + Sync, R: Host, G: Gate + Sync>(
     }
 }
 
-/// A set that opens empty and has so many seats with a quota of 4.
+/// Opens an empty set with `seats` seats with a quota of 4.
 fn in_a_row<M: Running, R: Abort>(rt: &R, alloc: Global, seats: u32) -> (LiveSet<M>, Vec<Seat<M>>) {
     open::<M>(alloc, seats, 4).expect(rt, "not opened")
 }
 
-/// Why the programs are refused on the two seats of a set.
+/// Returns the error of `work` for these programs on a set with two seats.
 fn fault_of<R: Host, G: Gate + Sync>(
     rt: &R,
     alloc: Global,
@@ -76,11 +76,12 @@ fn answers<M: Running + Send + Sync, R: Host>(rt: &R, alloc: Global) {
 }
 
 #[test]
-fn two_programs_are_answered_and_leave_their_key(rt: HostRuntime) {
+fn two_programs_return_their_replies_and_the_final_key(rt: HostRuntime) {
     at_each_list!(answers, rt);
 }
 
-/// The programs did not fit the seats, and so many seats came back with the set, which has two.
+/// Asserts that the programs did not match the seats, and that the error contains the set, which has two seats, and
+/// `seats` seats.
 fn gave_all_back<R: Abort>(rt: &R, fault: WorkFault<LazyList>, seats: usize) {
     assert!(rt; fault.cause == WorkCause::Programs);
     let (set, back) = fault.back.expect(rt, "nothing came back");
@@ -89,7 +90,7 @@ fn gave_all_back<R: Abort>(rt: &R, fault: WorkFault<LazyList>, seats: usize) {
 }
 
 #[test]
-fn one_program_for_two_seats_gives_set_and_seats_back(rt: HostRuntime) {
+fn one_program_for_two_seats_returns_set_and_seats(rt: HostRuntime) {
     let mut programs = two_programs(&rt, rt.alloc());
     let _ = programs.pop();
     let fault = fault_of::<HostRuntime, Always>(&rt, rt.alloc(), programs, &Always);
@@ -108,7 +109,7 @@ fn alone<M: Running, R: Abort>(
 }
 
 #[test]
-fn a_missing_seat_gives_set_and_seat_back(rt: HostRuntime) {
+fn work_with_a_missing_seat_returns_set_and_seat(rt: HostRuntime) {
     let (set, zero, _one) = two_seats::<LazyList, HostRuntime>(&rt, rt.alloc());
     let (seats, programs) = alone(&rt, rt.alloc(), zero, &[Call::Add(Key(3))]);
     match work(&rt, rt.alloc(), set, seats, programs, &Always) {
@@ -129,19 +130,20 @@ fn works_when_gathered<M: Running + Send + Sync, R: Host>(rt: &R, alloc: Global)
 }
 
 #[test]
-fn a_gathered_seat_works(rt: HostRuntime) {
+fn a_gathered_seat_runs_a_program(rt: HostRuntime) {
     at_each_list!(works_when_gathered, rt);
 }
 
 #[test]
-fn a_program_may_be_empty(rt: HostRuntime) {
+fn a_program_can_be_empty(rt: HostRuntime) {
     let programs = pair(&rt, rt.alloc(), &[Call::Add(Key(5))], &[]);
     let (set, seats) = in_a_row::<LazyList, HostRuntime>(&rt, rt.alloc(), 2);
     let outcome = worked(&rt, rt.alloc(), set, seats, programs, &Always);
     assert!(rt; are_as_wanted(&outcome, &[&[Reply::True], &[]], &[5]));
 }
 
-/// Answers false at one call, and counts how often it is asked for each of the first three calls of three seats, and for other ones.
+/// A gate that refuses one call. It counts how often each of the first three calls of three seats asks, and in the last
+/// count all others.
 #[derive(Drop)]
 struct Shut {
     seat: u32,
@@ -158,7 +160,7 @@ impl Shut {
         }
     }
 
-    /// Whether it was asked so often.
+    /// Decides whether the calls asked this often.
     fn was_asked(&self, wanted: &[u32]) -> bool {
         self.counts
             .iter()
@@ -179,7 +181,8 @@ impl Gate for Shut {
     }
 }
 
-/// The seat and the call at which a gate answers false, and how often it is asked: for that program no more, for the other to its end.
+/// The seat and the call that a gate refuses, and how often each call asks. The refused program asks no more, the other
+/// asks to its end.
 const SHUT: [(u32, u32, [u32; 10]); 5] = [
     (0, 1, [1, 1, 0, 1, 1, 0, 0, 0, 0, 0]),
     (0, 0, [1, 0, 0, 1, 1, 0, 0, 0, 0, 0]),
@@ -189,7 +192,7 @@ const SHUT: [(u32, u32, [u32; 10]); 5] = [
 ];
 
 #[test]
-fn a_gate_that_answers_false_ends_its_program_alone(rt: HostRuntime) {
+fn a_gate_that_refuses_a_call_ends_only_its_program(rt: HostRuntime) {
     for (seat, call, wanted) in &SHUT {
         let shut = Shut::new(*seat, *call);
         let programs = two_programs(&rt, rt.alloc());
@@ -199,7 +202,7 @@ fn a_gate_that_answers_false_ends_its_program_alone(rt: HostRuntime) {
     }
 }
 
-/// The seat 2, which has taken the seat 1 in, before the seat 0.
+/// Opens a set with three seats. Returns seat 2, which has gathered seat 1, and then seat 0.
 fn two_before_zero<M: Running, R: Abort>(rt: &R, alloc: Global) -> (LiveSet<M>, Vec<Seat<M>>) {
     let (set, mut seats) = in_a_row::<M, R>(rt, alloc, 3);
     let mut two = last_of(rt, &set, &mut seats);
@@ -210,7 +213,7 @@ fn two_before_zero<M: Running, R: Abort>(rt: &R, alloc: Global) -> (LiveSet<M>, 
     (set, seats)
 }
 
-/// A gate is given the number of the seat's thread, and replies come in the order of the seats.
+/// A gate receives the number of the seat's thread. Replies are in the order of the seats.
 #[test]
 fn seats_work_in_any_order(rt: HostRuntime) {
     let (set, seats) = two_before_zero::<LazyList, HostRuntime>(&rt, rt.alloc());
@@ -226,7 +229,7 @@ fn seats_work_in_any_order(rt: HostRuntime) {
     assert!(rt; are_as_wanted(&outcome, &[&[Reply::True], &[Reply::False]], &[2]));
 }
 
-/// So many programs of two adds, of keys that no other has.
+/// Returns a program of two adds for each seat. No two programs have a key in common.
 fn two_adds_each<R: Abort>(rt: &R, alloc: Global, seats: u32) -> Vec<Vec<Call>> {
     let mut programs = Vec::new(alloc);
     for seat in 0..seats {
@@ -240,7 +243,7 @@ fn two_adds_each<R: Abort>(rt: &R, alloc: Global, seats: u32) -> Vec<Vec<Call>> 
     programs
 }
 
-/// No program waits for the end of another: all meet at their second calls.
+/// Asserts that no program waits for the end of another: all meet at their second calls.
 fn meet<M: Running + Send + Sync, R: Host>(rt: &R, alloc: Global, seats: u32) {
     let (set, row) = in_a_row::<M, R>(rt, alloc, seats);
     let meeting = Meeting::new(rt, u64::from(seats));
@@ -258,21 +261,21 @@ fn meet<M: Running + Send + Sync, R: Host>(rt: &R, alloc: Global, seats: u32) {
 }
 
 #[test]
-fn two_workers_meet(rt: HostRuntime) {
+fn two_programs_run_at_once(rt: HostRuntime) {
     at_each_list!(meet, rt, 2);
 }
 
 #[test]
-fn four_programs_meet(rt: HostRuntime) {
+fn four_programs_run_at_once(rt: HostRuntime) {
     at_each_list!(meet, rt, 4);
 }
 
 #[test]
-fn programs_of_all_seats_meet(rt: HostRuntime) {
+fn programs_of_all_seats_run_at_once(rt: HostRuntime) {
     meet::<LazyList, HostRuntime>(&rt, rt.alloc(), MOST_THREADS);
 }
 
-/// How often each of 50 keys was put in, less how often it was taken out.
+/// Returns for each of 50 keys how often it was added, minus how often it was removed.
 fn balance_of(programs: &[Vec<Call>], replies: &[Vec<Reply>]) -> [u64; 50] {
     let mut balance = [0u64; 50];
     for (program, replies) in programs.iter().zip(replies) {
@@ -288,7 +291,8 @@ fn balance_of(programs: &[Vec<Call>], replies: &[Vec<Reply>]) -> [u64; 50] {
     balance
 }
 
-/// Four threads call with the same 50 keys.
+/// Four threads call with the same 50 keys. Asserts that each key is present if it was added once more than removed,
+/// and absent if as often.
 fn add_up<M: Running + Send + Sync, R: Host>(rt: &R, alloc: Global) {
     let (set, seats) = open::<M>(alloc, 4, 2_000).expect(rt, "not opened");
     let drawn = programs(alloc, 4, 2_000, 50, 7).expect(rt, "not drawn");
@@ -303,6 +307,6 @@ fn add_up<M: Running + Send + Sync, R: Host>(rt: &R, alloc: Global) {
 }
 
 #[test]
-fn each_key_left_was_put_in_once_more_than_taken_out(rt: HostRuntime) {
+fn each_final_key_was_added_once_more_than_removed(rt: HostRuntime) {
     at_each_list!(add_up, rt);
 }

@@ -1,17 +1,17 @@
-//! A set that was closed is opened again with its keys, with other seats and slots, and as another list.
+//! Sets that open with the final keys of a closed set, with other seats and slots, and as another list.
 
 use crate::opened::{close_with, gathered, increasing_keys, keys_left, last_of, make_calls};
 use crate::prelude::*;
 use crate::sizes::{Draws, Sizes, runs_beside_models};
 
-/// Calls on a set that opened with the key 9 and without a slot.
+/// Calls on a set with the opening key 9 and without a slot.
 const CALLS_ON_A_KEY: [(Call, Reply); 3] = [
     (Call::Contains(Key(9)), Reply::True),
     (Call::Add(Key(4)), Reply::Full),
     (Call::Remove(Key(9)), Reply::True),
 ];
 
-/// Three seats without a slot, and the key 9: it takes no slot, and goes out as any other.
+/// Opens a set with three seats, no slot and the key 9. The key uses no slot, and is removed like any other key.
 fn opens_with_a_key<M: Running, R: Host>(rt: &R, alloc: Global) {
     let (set, mut seats) = open_with::<M>(alloc, 3, 0, &[9]).expect(rt, "not opened");
     let mut last = last_of(rt, &set, &mut seats);
@@ -22,11 +22,11 @@ fn opens_with_a_key<M: Running, R: Host>(rt: &R, alloc: Global) {
 }
 
 #[test]
-fn a_closed_set_opens_again(rt: HostRuntime) {
+fn a_set_opens_with_a_key_and_no_slot(rt: HostRuntime) {
     at_each_list!(opens_with_a_key, rt);
 }
 
-/// Calls on a set that opened with the keys 0, 7 and the largest, and has two slots.
+/// Calls on a set with two slots and the opening keys 0, 7 and the largest key.
 const CALLS_ON_KEYS: [(Call, Reply); 7] = [
     (Call::Add(Key(7)), Reply::False),
     (Call::Remove(Key(0)), Reply::True),
@@ -46,11 +46,11 @@ fn keeps_its_keys<M: Running, R: Host>(rt: &R, alloc: Global) {
 }
 
 #[test]
-fn the_smallest_and_the_largest_key_open_a_set_and_go_out(rt: HostRuntime) {
+fn the_smallest_and_the_largest_key_can_be_opening_keys(rt: HostRuntime) {
     at_each_list!(keeps_its_keys, rt);
 }
 
-/// Seats, a quota, keys, and why no set is opened with them.
+/// A number of seats, a quota, opening keys, and the error that `open_with` returns for them.
 const REFUSED: [(u32, u32, [u32; 2], OpenFault); 4] = [
     (0, 16_385, [5, 5], OpenFault::Seats),
     (1, 16_385, [5, 5], OpenFault::Quota),
@@ -66,7 +66,7 @@ fn open_with_refuses_seats_then_quota_then_keys_that_do_not_increase(rt: HostRun
     }
 }
 
-/// A life of a set: it opens with these keys, threads run their programs, and it is closed. The keys that are left.
+/// Opens a set with these keys, runs programs in threads, closes the set, and returns its final keys.
 fn life<R: Host>(
     rt: &R,
     alloc: Global,
@@ -84,7 +84,7 @@ fn life<R: Host>(
     }
 }
 
-/// The lists, with other numbers of seats and quotas each.
+/// The lists, each with another number of seats and another quota.
 const LIVES: [(Kind, u32, u32); 5] = [
     (Kind::Coarse, 6, 40),
     (Kind::Fine, 4, 30),
@@ -94,7 +94,7 @@ const LIVES: [(Kind, u32, u32); 5] = [
 ];
 
 #[test]
-fn each_list_opens_with_the_keys_that_each_list_left(rt: HostRuntime) {
+fn each_list_opens_with_the_final_keys_of_each_list(rt: HostRuntime) {
     let mut draws = Draws::new(7);
     let mut left = 0usize;
     for (first, _, _) in LIVES {
@@ -110,7 +110,7 @@ fn each_list_opens_with_the_keys_that_each_list_left(rt: HostRuntime) {
     assert!(rt; left > 0);
 }
 
-/// Calls on a set that opened with so many even keys as may be, and has one slot.
+/// Calls on a set with one slot and the largest number of opening keys, which are even.
 const CALLS_ON_A_MILLION: [(Call, Reply); 3] = [
     (Call::Contains(Key(2_097_150)), Reply::True),
     (Call::Add(Key(1)), Reply::True),
@@ -118,7 +118,7 @@ const CALLS_ON_A_MILLION: [(Call, Reply); 3] = [
 ];
 
 #[test]
-fn a_million_keys_open_a_set_and_no_more(rt: HostRuntime) {
+fn a_set_opens_with_a_million_keys_and_no_more(rt: HostRuntime) {
     let keys = increasing_keys(&rt, rt.alloc(), MOST_OPENING, 2);
     let opened = open_with::<LockFreeList>(rt.alloc(), 1, 1, &keys);
     let (set, mut seats) = opened.expect(&rt, "not opened");

@@ -1,28 +1,29 @@
-//! Calls with few rounds: the walk of each loop is as long as is known here, and a lock that is held is not waited for.
+//! Calls with a bound on rounds: the walk of each loop has the known length, and a call gives up at a lock that is
+//! held.
 
 use crate::opened::two_seats_on;
 use crate::pauses::Count;
 use crate::prelude::*;
 use lset_live::Rounds;
 
-/// So many rounds.
+/// A bound of `N` rounds.
 struct UpTo<const N: u64>;
 
 impl<const N: u64> Rounds for UpTo<N> {
     const MOST: u64 = N;
 }
 
-/// A walk to a key looks at each key below it and at the first that is not.
+/// The opening keys. A walk to a key compares each smaller key and the first that is not smaller.
 const KEYS: [u32; 5] = [10, 20, 30, 40, 50];
 
-/// The reply of a call in a set that was just opened, in so many rounds.
+/// Opens a set and returns the reply of a call with at most `N` rounds; `None` if they are too few.
 fn reply_of<M: Bounded, R: Abort, N: Rounds>(rt: &R, alloc: Global, call: Call) -> Option<Reply> {
     let (set, zero, _one) = two_seats_on::<M, R>(rt, alloc, &KEYS);
     let (_zero, reply) = set.call_within::<Spin, N>(zero, call, &Spin::new())?;
     Some(reply)
 }
 
-/// The walks to 25 and to 30 have three rounds: two are too few.
+/// Asserts that the walks to 25 and to 30 need three rounds.
 fn has_rounds<M: Bounded, R: Abort>(rt: &R, alloc: Global) {
     for call in [Call::Add(Key(25)), Call::Remove(Key(30))] {
         assert!(rt; reply_of::<M, R, UpTo<2>>(rt, alloc, call).is_none());
@@ -39,7 +40,7 @@ fn a_call_gives_up_after_its_rounds_and_not_before(rt: HostRuntime) {
     at_each_list!(has_rounds, rt);
 }
 
-/// A `contains` walks past the last key under any bound.
+/// Asserts that `contains` reaches and passes the last key under a bound of one round.
 fn walks_on<M: Bounded, R: Abort>(rt: &R, alloc: Global) {
     let (last, none) = (Call::Contains(Key(50)), Call::Contains(Key(55)));
     assert!(rt; reply_of::<M, R, UpTo<1>>(rt, alloc, last) == Some(Reply::True));
@@ -47,12 +48,12 @@ fn walks_on<M: Bounded, R: Abort>(rt: &R, alloc: Global) {
 }
 
 #[test]
-fn a_contains_of_a_list_that_marks_has_no_rounds(rt: HostRuntime) {
+fn contains_of_a_marking_list_ignores_the_bound(rt: HostRuntime) {
     walks_on::<LazyList, HostRuntime>(&rt, rt.alloc());
     walks_on::<LockFreeList, HostRuntime>(&rt, rt.alloc());
 }
 
-/// A set in which a call had too few rounds and keeps its locks, and its other seat.
+/// Returns a set in which a call had too few rounds and still holds its locks, and the other seat.
 fn stuck<M: Bounded, R: Abort>(rt: &R, alloc: Global) -> (LiveSet<M>, Seat<M>) {
     let (set, zero, one) = two_seats_on::<M, R>(rt, alloc, &KEYS);
     let made = set.call_within::<Spin, UpTo<2>>(one, Call::Add(Key(25)), &Spin::new());
@@ -60,7 +61,7 @@ fn stuck<M: Bounded, R: Abort>(rt: &R, alloc: Global) -> (LiveSet<M>, Seat<M>) {
     (set, zero)
 }
 
-/// Another call that comes to such a lock fails there once, and as often again as it has rounds, and gives up then.
+/// Asserts that a call that reaches such a lock fails 101 times under a bound of 100 rounds, and then gives up.
 fn gives_up_at_a_lock<M: Bounded, R: Abort>(rt: &R, alloc: Global, call: Call) {
     let (set, zero) = stuck::<M, R>(rt, alloc);
     let count = Count::new(0);
@@ -70,7 +71,7 @@ fn gives_up_at_a_lock<M: Bounded, R: Abort>(rt: &R, alloc: Global, call: Call) {
 }
 
 #[test]
-fn a_lock_is_tried_as_often_as_there_are_rounds(rt: HostRuntime) {
+fn a_call_gives_up_at_a_lock_after_its_rounds(rt: HostRuntime) {
     gives_up_at_a_lock::<CoarseList, HostRuntime>(&rt, rt.alloc(), Call::Contains(Key(10)));
     gives_up_at_a_lock::<FineList, HostRuntime>(&rt, rt.alloc(), Call::Contains(Key(30)));
 }

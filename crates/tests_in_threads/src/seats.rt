@@ -7,14 +7,14 @@ use lset_live::Receipt;
 use lset_rule::TableSeat;
 use std::mem::size_of;
 
-/// What a seat does with the key 9.
+/// The calls of a seat with the key 9, and their replies.
 pub const ADDS: [(Call, Reply); 1] = [(Call::Add(Key(9)), Reply::True)];
 
 pub const FINDS: [(Call, Reply); 1] = [(Call::Contains(Key(9)), Reply::True)];
 
 const FINDS_NOTHING: [(Call, Reply); 1] = [(Call::Contains(Key(9)), Reply::False)];
 
-/// Seats, a quota, and why no set is opened with them.
+/// A number of seats, a quota, and the error that `open` returns for them.
 const LIMITS: [(u32, u32, Option<OpenFault>); 5] = [
     (0, 4, Some(OpenFault::Seats)),
     (65, 4, Some(OpenFault::Seats)),
@@ -31,7 +31,7 @@ fn open_refuses_seats_and_then_a_quota_outside_their_limits(rt: HostRuntime) {
     }
 }
 
-/// The seat 0 takes the seat 1 in, finds 9, and closes the set, which has the key 9 alone.
+/// Gathers seat 1 into seat 0, finds 9, and closes the set. Asserts that 9 is the only final key.
 fn gathers_and_closes<M: Running, R: Host>(
     rt: &R,
     set: LiveSet<M>,
@@ -85,11 +85,12 @@ fn comes_back<M: Running, R: Host>(rt: &R, alloc: Global) {
 }
 
 #[test]
-fn close_before_gathering_gives_set_and_seat_back_to_go_on(rt: HostRuntime) {
+fn close_with_a_missing_seat_returns_set_and_seat(rt: HostRuntime) {
     at_each_list!(comes_back, rt);
 }
 
-/// Of four receipts one is dropped, one is taken by the other seat, one by its own, and one is left when the set is closed.
+/// Copies a receipt three times. One is dropped, one is taken by the other seat, one by its own seat, and one still
+/// exists when the set is closed.
 fn are_passed_on<M: Running, R: Host>(rt: &R, alloc: Global) {
     let (set, mut zero, mut one) = two_seats::<M, R>(rt, alloc);
     make_calls(rt, &set, &mut one, &ADDS);
@@ -105,11 +106,11 @@ fn are_passed_on<M: Running, R: Host>(rt: &R, alloc: Global) {
 }
 
 #[test]
-fn receipts_are_passed_on(rt: HostRuntime) {
+fn receipts_can_be_copied_dropped_and_taken(rt: HostRuntime) {
     at_each_list!(are_passed_on, rt);
 }
 
-/// A receipt of a seat that has seen less leaves a seat as it is, and one given early counts late.
+/// A receipt of a seat that has seen less changes nothing. A receipt covers what its seat had seen when it was made.
 fn may_be_old<M: Running, R: Host>(rt: &R, alloc: Global) {
     let (set, mut zero, mut one) = two_seats::<M, R>(rt, alloc);
     let early = set.receipt(&mut zero);
@@ -122,18 +123,18 @@ fn may_be_old<M: Running, R: Host>(rt: &R, alloc: Global) {
 }
 
 #[test]
-fn a_receipt_may_be_old(rt: HostRuntime) {
+fn an_old_receipt_changes_nothing(rt: HostRuntime) {
     at_each_list!(may_be_old, rt);
 }
 
-/// A message takes no more bytes for the receipt that comes with it.
+/// A receipt adds no bytes to a message.
 #[test]
 fn a_receipt_has_no_bytes(rt: HostRuntime) {
     assert!(rt; size_of::<Receipt<LazyList>>() == 0);
     assert!(rt; size_of::<TableSeat>() == 0);
 }
 
-/// Calls of each kind of seats 0 and 1, on a set that has 3 and 4.
+/// A call of seat 0 and a call of seat 1, for each kind of call. The set has the keys 3 and 4.
 const OF_EACH_KIND: [(Call, Call); 4] = [
     (Call::Add(Key(1)), Call::Add(Key(2))),
     (Call::Remove(Key(3)), Call::Remove(Key(4))),
@@ -141,7 +142,7 @@ const OF_EACH_KIND: [(Call, Call); 4] = [
     (Call::Ceiling(Key(3)), Call::Ceiling(Key(4))),
 ];
 
-/// Seats 0 and 1 make a call each, in two threads with one pause.
+/// Makes a call from each of two seats, in two threads with one pause.
 fn at_once<M: Running + Send + Sync, R: Host, P: Pause + Sync>(
     rt: &R,
     set: &LiveSet<M>,
@@ -159,7 +160,7 @@ fn at_once<M: Running + Send + Sync, R: Host, P: Pause + Sync>(
     )
 }
 
-/// Two calls meet at their first step: whether one of them reported to its pause that it took a lock for which it had waited.
+/// Makes two calls that meet at their first step. Returns whether one of them took a lock after it had waited for it.
 fn calls_meet<M: Running + Send + Sync, R: Host>(
     rt: &R,
     alloc: Global,
@@ -176,9 +177,9 @@ fn calls_meet<M: Running + Send + Sync, R: Host>(
     meeting.has_waited()
 }
 
-/// If the first step takes a lock, one of two threads waits for it.
+/// If the first step takes a lock, one of the two threads waits for it.
 #[test]
-fn two_calls_meet(rt: HostRuntime) {
+fn one_of_two_calls_waits_if_the_first_step_takes_a_lock(rt: HostRuntime) {
     for both in OF_EACH_KIND {
         assert!(rt; calls_meet::<CoarseList, HostRuntime>(&rt, rt.alloc(), both));
         assert!(rt; calls_meet::<FineList, HostRuntime>(&rt, rt.alloc(), both));

@@ -6,10 +6,10 @@ use crate::prelude::*;
 use crate::sessions::{ANSWERS, CEILINGS, FOUND, LINES};
 use lset_server::{ServeCause, Served, serve};
 
-/// The list on which the tests serve.
+/// The sets of these tests.
 type Set = LiveSet<LazyList>;
 
-/// A set that opens empty, with a quota of 4, and its seats.
+/// Opens an empty set with a quota of 4 and `seats` seats.
 fn opened<R: Abort>(rt: &R, alloc: Global, seats: u32) -> (Set, Vec<Seat<LazyList>>) {
     open::<LazyList>(alloc, seats, 4).expect(rt, "not opened")
 }
@@ -18,7 +18,8 @@ fn listening<R: Host + Net<Listener = TcpListener, Stream = TcpStream>>(rt: &R) 
     TcpListener::bind(rt, "127.0.0.1:0").expect(rt, "no port")
 }
 
-/// What a server makes of so many sessions on these seats, while clients ask at its port, and find what they want.
+/// Serves a number of sessions on these seats, while `ask` calls the server at its port. Fails the test if `ask`
+/// returns false.
 fn served_on<
     R: Host + Net<Listener = TcpListener, Stream = TcpStream>,
     F: FnOnce(u16) -> bool + Send,
@@ -37,7 +38,7 @@ fn served_on<
     }
 }
 
-/// So does a server with so many seats.
+/// Serves a number of sessions on a new set with `seats` seats, while `ask` calls the server.
 fn served_while<
     R: Host + Net<Listener = TcpListener, Stream = TcpStream>,
     F: FnOnce(u16) -> bool + Send,
@@ -52,7 +53,7 @@ fn made<R: Abort>(rt: &R, served: &Served, sessions: u64, calls: u64, keys: &[u3
 }
 
 #[test]
-fn a_client_gets_its_six_lines(rt: HostRuntime) {
+fn a_client_receives_six_answers(rt: HostRuntime) {
     let ask = |port: u16| asks(&rt, port, LINES, ANSWERS);
     let served = served_while(&rt, rt.alloc(), 1, 1, ask);
     made(&rt, &served, 1, 4, &[]);
@@ -65,7 +66,7 @@ fn no_session_leaves_no_keys(rt: HostRuntime) {
 }
 
 #[test]
-fn serve_with_a_missing_seat_gives_set_and_seats_back(rt: HostRuntime) {
+fn serve_with_a_missing_seat_returns_set_and_seats(rt: HostRuntime) {
     let (set, mut seats) = opened(&rt, rt.alloc(), 2);
     let _ = seats.pop();
     let Err(fault) = serve(&rt, rt.alloc(), listening(&rt), set, seats, 1) else {
@@ -74,7 +75,7 @@ fn serve_with_a_missing_seat_gives_set_and_seats_back(rt: HostRuntime) {
     assert!(rt; fault.cause == ServeCause::Seats && fault.back.is_some());
 }
 
-/// Two clients, of which none goes away before both have their answers.
+/// Runs two clients. Neither disconnects before both have their answers.
 fn both_meet<R: Host + Net<Listener = TcpListener, Stream = TcpStream>>(rt: &R, port: u16) -> bool {
     let met = AtomicU64::new(0);
     let both = join(
@@ -86,12 +87,12 @@ fn both_meet<R: Host + Net<Listener = TcpListener, Stream = TcpStream>>(rt: &R, 
 }
 
 #[test]
-fn two_sessions_meet(rt: HostRuntime) {
+fn two_sessions_are_served_at_once(rt: HostRuntime) {
     let served = served_while(&rt, rt.alloc(), 2, 2, |port: u16| both_meet(&rt, port));
     made(&rt, &served, 2, 2, &[1, 2]);
 }
 
-/// On each of these seats a session is held at once, as long as there are sessions; and then those that are left.
+/// Asserts that as many sessions as seats are served at once, and then the remaining ones.
 fn meets_on_each_seat<R: Host + Net<Listener = TcpListener, Stream = TcpStream>>(
     rt: &R,
     alloc: Global,
@@ -106,15 +107,15 @@ fn meets_on_each_seat<R: Host + Net<Listener = TcpListener, Stream = TcpStream>>
     made(rt, &served, u64::from(sessions), u64::from(sessions), &[]);
 }
 
-/// Fewer sessions than seats, as many, and more.
+/// Fewer sessions than seats, as many as seats, and more.
 #[test]
-fn as_many_sessions_meet_as_there_are_seats(rt: HostRuntime) {
+fn as_many_sessions_as_seats_are_served_at_once(rt: HostRuntime) {
     for (seats, sessions) in [(2, 1), (3, 3), (5, 7), (64, 65)] {
         meets_on_each_seat(&rt, rt.alloc(), seats, sessions);
     }
 }
 
-/// A set with four seats, of which two hold two each.
+/// Opens a set with four seats, gathered into two pairs.
 fn two_pairs<R: Abort>(rt: &R, alloc: Global) -> (Set, Vec<Seat<LazyList>>) {
     let (set, mut seats) = opened(rt, alloc, 4);
     let three = last_of(rt, &set, &mut seats);
@@ -127,9 +128,9 @@ fn two_pairs<R: Abort>(rt: &R, alloc: Global) -> (Set, Vec<Seat<LazyList>>) {
     (set, pairs)
 }
 
-/// A worker for each of the gathered seats, and not for each seat of the set.
+/// The server has a worker for each gathered seat, not for each seat of the set.
 #[test]
-fn gathered_seats_serve(rt: HostRuntime) {
+fn each_gathered_seat_serves_a_session(rt: HostRuntime) {
     let (set, pairs) = two_pairs(&rt, rt.alloc());
     let ask = |port: u16| both_meet(&rt, port);
     let served = served_on(&rt, rt.alloc(), set, pairs, 2, ask);
@@ -137,7 +138,7 @@ fn gathered_seats_serve(rt: HostRuntime) {
 }
 
 #[test]
-fn a_client_that_leaves_ends_its_session_alone(rt: HostRuntime) {
+fn a_client_that_disconnects_ends_only_its_session(rt: HostRuntime) {
     let ask = |port: u16| {
         leaves(&rt, port, b"ADD 7\nADD") && asks(&rt, port, b"CONTAINS 7\nQUIT\n", b"TRUE\nBYE\n")
     };

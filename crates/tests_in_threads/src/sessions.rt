@@ -4,7 +4,7 @@ use crate::devices::{FailingReader, GenerousReader, GreedyWriter};
 use crate::opened::{last_of, two_seats};
 use crate::prelude::*;
 
-/// The six lines of the first session, and their answers.
+/// The six lines of a first session, and their answers.
 pub const LINES: &[u8] = b"ADD 7\nADD 7\nCONTAINS 7\nMOVE 7\nREMOVE 7\nQUIT\n";
 
 pub const ANSWERS: &[u8] = b"TRUE\nFALSE\nTRUE\nBAD\nTRUE\nBYE\n";
@@ -14,14 +14,14 @@ pub const CEILINGS: &[u8] = b"CEILING 7\nADD 9\nCEILING 7\nQUIT\n";
 
 pub const FOUND: &[u8] = b"NONE\nTRUE\nAT 9\nBYE\n";
 
-/// A set that opens empty, with one seat and a quota of 4.
+/// Opens an empty set with one seat and a quota of 4.
 pub fn one_seat<R: Abort>(rt: &R, alloc: Global) -> (LiveSet<LazyList>, Seat<LazyList>) {
     let (set, mut seats) = open::<LazyList>(alloc, 1, 4).expect(rt, "not opened");
     let seat = last_of(rt, &set, &mut seats);
     (set, seat)
 }
 
-/// What a session on a fresh set writes, and how it ends.
+/// Holds a session on a new set. Returns what it writes, and how it ends.
 pub fn held<R: Host, I: Source>(rt: &R, alloc: Global, reader: &mut I) -> (Vec<u8>, Ended) {
     let (set, mut seat) = one_seat(rt, alloc);
     let mut written = Vec::new(alloc);
@@ -29,7 +29,7 @@ pub fn held<R: Host, I: Source>(rt: &R, alloc: Global, reader: &mut I) -> (Vec<u
     (written, ended)
 }
 
-/// A session whose answers wait.
+/// Holds a session with buffered answers on a new set. Returns what it writes, and how it ends.
 pub fn held_buffered<R: Host, I: Source + Drop>(
     rt: &R,
     alloc: Global,
@@ -41,21 +41,22 @@ pub fn held_buffered<R: Host, I: Source + Drop>(
     (written, ended)
 }
 
-/// A session that ended for this reason, after so many calls.
+/// Returns the end of a session with this reason and number of calls.
 pub fn end(why: EndReason, calls: u64) -> Ended {
     Ended { why, calls }
 }
 
-/// A session wrote these answers, and ended so.
+/// Asserts the answers of a session and its end.
 pub fn was_held<R: Abort>(rt: &R, session: &(Vec<u8>, Ended), answers: &[u8], ended: Ended) {
     assert!(rt; session.0.as_slice() == answers);
     assert_eq!(rt; session.1, ended);
 }
 
-/// A text, its answers, and how the session ends.
+/// A text, its answers, the reason of the end and the number of calls.
 type Row = (&'static [u8], &'static [u8], EndReason, u64);
 
-/// The texts are answered so, each on a set of its own, in whatever pieces they come, and also by a session whose answers wait.
+/// Asserts the answers to each text, each on a set of its own. They are the same for a buffered session, and for any
+/// pieces in which the text arrives.
 fn are_answered<R: Host>(rt: &R, alloc: Global, rows: &[Row]) {
     for &(text, answers, why, calls) in rows {
         let ended = end(why, calls);
@@ -76,7 +77,7 @@ fn are_answered<R: Host>(rt: &R, alloc: Global, rows: &[Row]) {
     }
 }
 
-/// 65 letters and a newline.
+/// A line of 65 letters.
 const LONG: &[u8; 66] = b"AAAAAAAAAAAAAAAAAAAAAAAAAAAAAAAAAAAAAAAAAAAAAAAAAAAAAAAAAAAAAAAAA\n";
 
 #[test]
@@ -167,7 +168,7 @@ fn a_key_too_large_an_empty_line_and_other_words_are_bad(rt: HostRuntime) {
 }
 
 #[test]
-fn a_gathered_seat_is_asked(rt: HostRuntime) {
+fn a_session_calls_from_a_gathered_seat(rt: HostRuntime) {
     let (set, mut zero, mut one) = two_seats::<LazyList, HostRuntime>(&rt, rt.alloc());
     assert!(rt; set.add(&rt, &mut one, Key(9)) == Reply::True);
     set.gather(&mut zero, one);
@@ -188,10 +189,10 @@ fn a_gathered_seat_is_asked(rt: HostRuntime) {
     );
 }
 
-/// How many lines there are, each of which is `CONTAINS 7`, and is answered by `FALSE`.
+/// The number of lines. Each is `CONTAINS 7`, with the answer `FALSE`.
 const MANY: u64 = 6_000;
 
-/// A session makes one write for each answer; if answers wait, many of them leave in one write.
+/// Asserts that a session makes at most one write for each answer, and that a buffered session makes few.
 fn makes_few<R: Host>(rt: &R, alloc: Global, text: &[u8], waits: bool) {
     let (set, mut seat) = one_seat(rt, alloc);
     let mut reader = GenerousReader { text, reads: 0 };
@@ -222,9 +223,9 @@ fn a_session_makes_few_reads_and_writes(rt: HostRuntime) {
     makes_few(&rt, rt.alloc(), &text, true);
 }
 
-/// A device that is given nothing to write has not failed.
+/// A write of nothing succeeds.
 #[test]
-fn a_device_takes_an_empty_text(rt: HostRuntime) {
+fn a_write_of_nothing_succeeds(rt: HostRuntime) {
     let mut device = Device::new(GreedyWriter {
         bytes: 0,
         writes: 0,

@@ -1,12 +1,15 @@
-//! Programs on threads, of log-uniform sizes up to each limit, beside a model. Each thread has keys of its own, those that leave its number
-//! when they are divided by the number of threads, and a sequential set of them: so its replies do not hang on what the others do.
+//! Programs in threads, of log-uniform sizes up to each limit, compared with a model.
+//!
+//! Thread `t` of `n` has the keys with the remainder `t` modulo `n`, and a sequential set of these keys. Therefore its
+//! replies do not depend on other threads.
 
 use crate::opened::{increasing_keys, keys_left, last_of, make_calls};
 use crate::prelude::*;
 use crate::programs::worked;
 use std::collections::BTreeSet;
 
-/// What a set is opened with, and the programs on it: keys up to `last`, and so many calls of all threads together.
+/// The sizes of a set and of its programs. `last` is the largest key, `calls` the number of calls of all threads
+/// together.
 #[derive(Clone, Copy, Debug)]
 pub struct Sizes {
     threads: u32,
@@ -16,7 +19,7 @@ pub struct Sizes {
     last: u32,
 }
 
-/// Numbers that are drawn (Knuth's linear congruence).
+/// A generator of random numbers (Knuth's linear congruence).
 #[derive(Drop)]
 pub struct Draws {
     number: u64,
@@ -36,7 +39,8 @@ impl Draws {
         u32::try_from(drawn).unwrap_or(most)
     }
 
-    /// A number up to `most`: small ones as often as large ones, and `most` itself once in eight times.
+    /// Returns a number up to `most`. Small and large numbers are equally likely, and one number in eight is `most`
+    /// itself.
     fn log_uniform(&mut self, most: u32) -> u32 {
         if self.up_to(7) == 0 {
             return most;
@@ -66,7 +70,7 @@ impl Draws {
     }
 }
 
-/// About so many nodes are passed in a run at most, so that it ends in time.
+/// A rough upper bound for the nodes that all walks of a run pass. It keeps a run short.
 const MOST_PASSED: u64 = 5_000_000;
 
 impl Sizes {
@@ -80,7 +84,7 @@ impl Sizes {
         }
     }
 
-    /// How many calls a thread makes: fewer than it should where each may walk far.
+    /// Returns the number of calls of a thread. It is below its share if each call can walk far.
     fn calls_of(&self, thread: u32) -> u32 {
         let slots = u64::from(self.threads) * u64::from(self.quota);
         let added = slots.min(u64::from(self.last)).min(u64::from(self.calls));
@@ -90,7 +94,7 @@ impl Sizes {
         (calls / threads).saturating_add(u32::from(thread < calls % threads))
     }
 
-    /// The key of this thread next to a drawn one.
+    /// Returns the key of this thread that is next to a random key.
     fn own_key(&self, drawn: u32, thread: u32) -> Key {
         let others = drawn.checked_rem(self.threads).unwrap_or(0);
         let first = drawn.wrapping_sub(others);
@@ -101,9 +105,11 @@ impl Sizes {
         key.checked_rem(self.threads) == Some(thread)
     }
 
-    /// The programs of the threads. A `remove` of LockFreeList may leave its marked node in the chain, at which a `ceiling` starts again
-    /// until an `add` or a `remove` walks there: if all threads that are left are at such ceilings, none ever ends. So several threads
-    /// of that list make none.
+    /// Returns the programs of the threads.
+    ///
+    /// With several threads on a LockFreeList the programs have no `ceiling`. A `remove` can leave a marked node in the
+    /// chain, and a `ceiling` starts again at this node until an `add` or a `remove` walks there. If all remaining
+    /// threads were at such ceilings, none would end.
     fn programs<M: Machine, R: Abort>(
         &self,
         rt: &R,
@@ -131,7 +137,7 @@ fn truth(is_true: bool) -> Reply {
     if is_true { Reply::True } else { Reply::False }
 }
 
-/// The keys of a thread, and how many slots it has left.
+/// The keys of one thread, and its free slots.
 #[derive(Drop)]
 struct Model {
     sizes: Sizes,
@@ -156,7 +162,7 @@ impl Model {
         }
     }
 
-    /// Makes the call: whether the reply is right.
+    /// Makes the call on the model, and decides whether the reply is right.
     fn makes<R: Abort>(&mut self, rt: &R, call: Call, reply: Reply) -> bool {
         match call {
             Call::Add(key) => reply == self.add(rt, key.0),
@@ -178,7 +184,7 @@ impl Model {
         Reply::True
     }
 
-    /// A key of another thread may be found before the first own one.
+    /// Decides whether a `ceiling` can return `reply`: possibly a key of another thread, if no own key is before it.
     fn may_find(&self, key: u32, reply: Reply) -> bool {
         let own = self.keys.range(key..).next();
         match (reply, own) {
@@ -191,7 +197,8 @@ impl Model {
         }
     }
 
-    /// The program's replies are right; and of these keys its own are left, so many.
+    /// Decides whether all replies of a program are right, and whether the model's keys are exactly the thread's keys
+    /// in `left`.
     fn is_as_wanted<R: Abort>(
         &mut self,
         rt: &R,
@@ -214,7 +221,8 @@ impl Model {
     }
 }
 
-/// Threads run programs on a set that opens with these keys, and all is as the models have it: the keys that are left.
+/// Runs programs in threads on a set that opens with these keys, and asserts that the replies and the final keys are
+/// those of the models. Returns the final keys.
 pub fn runs_beside_models<M: Running + Send + Sync, R: Host>(
     rt: &R,
     alloc: Global,
@@ -237,7 +245,7 @@ pub fn runs_beside_models<M: Running + Send + Sync, R: Host>(
     outcome.keys
 }
 
-/// Each limit; and more calls than 65,536, by one thread and by three.
+/// Sizes at each limit, and more than 65,536 calls by one thread and by three.
 fn at_the_limits() -> [Sizes; 4] {
     [
         Sizes::new(MOST_THREADS, MOST_QUOTA, MOST_OPENING, 64, u32::MAX),
@@ -258,7 +266,7 @@ fn runs<M: Running + Send + Sync, R: Host>(rt: &R, alloc: Global, sizes: Sizes, 
     let _left = runs_beside_models::<M, R>(rt, alloc, sizes, &opening, draws);
 }
 
-/// How many runs of drawn sizes each list makes.
+/// The number of runs of random sizes for each list.
 const RUNS: u32 = 8;
 
 fn calls_succeed<M: Running + Send + Sync, R: Host>(rt: &R, alloc: Global, seed: u64) {
@@ -297,14 +305,15 @@ fn lock_free_calls_succeed_at_all_sizes(rt: HostRuntime) {
     calls_succeed::<LockFreeList, HostRuntime>(&rt, rt.alloc(), 5);
 }
 
-/// A seat adds keys from `first` up, one for each of its slots, in falling order: each stands right behind the head.
+/// Adds one key for each slot of the seat, from `first` up, in decreasing order. Each new node comes directly after the
+/// head.
 fn fill<M: Running, R: Wait>(rt: &R, set: &LiveSet<M>, seat: &mut Seat<M>, first: u32, count: u32) {
     for number in (0..count).rev() {
         let _reply = set.add(rt, seat, Key(first.saturating_add(number)));
     }
 }
 
-/// Each slot of each seat takes a key, below those with which the set opens.
+/// Opens a set of the largest size and adds a key for each slot of each seat. These keys are below the opening keys.
 fn filled<M: Running, R: Host>(rt: &R, alloc: Global, opening: &[u32]) -> (LiveSet<M>, Seat<M>) {
     let opened = open_with::<M>(alloc, MOST_THREADS, MOST_QUOTA, opening);
     let (set, mut seats) = opened.expect(rt, "not opened");
@@ -335,7 +344,7 @@ const PAST_ALL: [(Call, Reply); 5] = [
     (Call::Ceiling(LAST), Reply::Nothing),
 ];
 
-/// The largest set that there may be: every node has a key, and calls walk past all of them.
+/// Asserts that calls walk past all nodes of the largest set, in which every node has a key.
 fn is_filled<M: Running, R: Host>(rt: &R, alloc: Global) {
     let mut opening = Vec::new(alloc);
     for number in 0..MOST_OPENING {

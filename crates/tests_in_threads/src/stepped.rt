@@ -3,7 +3,8 @@ use lset_steps::{Action, Fed, Local, Machine, OpenReads};
 use lset_words::{Call, Key, Kind};
 use std::marker::PhantomData;
 
-/// The list `M` by its table alone, with which its plain loops are compared, by tests and by `bench/run`. Its calls on threads are the default bodies of `Bounded` and `Running`, the interpreter.
+/// The list `M`, run by the interpreter of its table. `Bounded` and `Running` have their default bodies here. Tests and
+/// `bench/run` compare it with the loops of the list.
 pub struct Stepped<M: Machine> {
     list: PhantomData<M>,
 }

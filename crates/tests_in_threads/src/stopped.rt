@@ -1,14 +1,15 @@
-//! Two calls, of which one stops between two of its steps until the other has ended or waits: rows of the tables, on running sets, by the
-//! loops of each list and by the interpreter on its table.
+//! Two calls on a running set. One stops between two of its steps until the other has ended or waits. Each case runs
+//! with the loops of the list and with the interpreter of its table.
 
 use crate::meeting::{calls, comes};
 use crate::opened::two_seats_on;
 use crate::prelude::*;
 
-/// No step of a call has this number.
+/// A step number that is never reached.
 const NEVER: u64 = u64::MAX;
 
-/// A thread: the number, from 0, of the step after which it stops, what was reported to its pauses, and how far its call is.
+/// A thread of a test: after which step it stops (from 0), the calls that its `Pause` has received, and the progress of
+/// its call.
 #[derive(Drop)]
 struct Told {
     stops_at: u64,
@@ -29,7 +30,7 @@ impl Told {
         }
     }
 
-    /// A step was made: whether the thread stops after it.
+    /// Counts a step, and returns whether the thread stops after it.
     fn stops(&self, failed: bool) -> bool {
         if failed {
             self.failed.fetch_add(1, Ordering::SeqCst);
@@ -45,14 +46,15 @@ impl Told {
         self.failed.load(Ordering::SeqCst) >= 3
     }
 
-    /// How many steps were made that did not answer, and how many of them have failed.
+    /// Returns how many steps were reported, and how many of them failed. The step with the reply is not reported.
     fn counts(&self) -> (u64, u64) {
         let steps = self.steps.load(Ordering::SeqCst);
         (steps, self.failed.load(Ordering::SeqCst))
     }
 }
 
-/// Thread 1 stops until thread 0 has ended its call, or has failed three times; thread 0 stops until thread 1 has stopped.
+/// A pause for two threads. Thread 1 stops until thread 0 has ended its call or has failed three times. Thread 0 stops
+/// until thread 1 has stopped.
 #[derive(Drop)]
 struct Stopping<'a, R> {
     rt: &'a R,
@@ -78,7 +80,7 @@ impl<'a, R: Clock> Stopping<'a, R> {
         }
     }
 
-    /// For at most 10,000 turns of a sleep of one millisecond.
+    /// Waits until the thread can continue. Polls every millisecond, at most 10,000 times.
     fn wait(&self, thread: u32) {
         for _ in 0..10_000 {
             if self.goes_on(thread) {
@@ -96,7 +98,7 @@ impl<'a, R: Clock> Stopping<'a, R> {
         }
     }
 
-    /// Each thread that was to stop did, and none waited in vain.
+    /// Decides whether each thread stopped that had to, and none gave up waiting.
     fn was_held(&self) -> bool {
         let zero = self.zero.stops_at == NEVER || self.zero.has_stopped.load(Ordering::SeqCst);
         zero && self.one.has_stopped.load(Ordering::SeqCst) && !self.missed.load(Ordering::SeqCst)
@@ -113,7 +115,8 @@ impl<'a, R: Clock> Pause for Stopping<'a, R> {
     }
 }
 
-/// Seats 0 and 1 make a call each, in two threads: the thread that stops first begins, and the other once it has stopped.
+/// Makes a call from each of two seats, in two threads. The thread that stops first begins, the other begins when the
+/// first has stopped.
 fn both_call<M: Running + Send + Sync, R: Host>(
     rt: &R,
     set: &LiveSet<M>,
@@ -137,7 +140,8 @@ fn both_call<M: Running + Send + Sync, R: Host>(
     )
 }
 
-/// A seat's call, the step after which it stops, its reply, how many of its steps do not answer, and how many of those fail.
+/// A seat's call, the step after which it stops, its reply, how many of its steps have no reply, and how many of these
+/// fail.
 type Part = (Call, u64, Reply, u64, u64);
 
 fn is_as_told<M: Running + Send + Sync, R: Host>(
@@ -156,7 +160,7 @@ fn is_as_told<M: Running + Send + Sync, R: Host>(
     assert_eq!(rt; stopping.one.counts(), (one.3, one.4), "seat 1");
 }
 
-/// So on a set with these keys: by the loops of the list, and by the interpreter.
+/// Asserts a case with the loops of the list, and with the interpreter of its table.
 fn both_are<M: Running + Send + Sync, R: Host>(
     rt: &R,
     alloc: Global,
@@ -181,25 +185,25 @@ fn remove(key: u32) -> Call {
 }
 
 #[test]
-fn coarse_tries_fail_while_the_lock_is_held(rt: HostRuntime) {
+fn attempts_fail_while_the_coarse_lock_is_held(rt: HostRuntime) {
     let both = [(add(5), 0, YES, 6, 0), (add(5), 2, NO, 6, 3)];
     both_are::<CoarseList, HostRuntime>(&rt, rt.alloc(), &[], both);
 }
 
 #[test]
-fn fine_calls_go_hand_over_hand(rt: HostRuntime) {
+fn fine_calls_lock_hand_over_hand(rt: HostRuntime) {
     let both = [(add(5), 3, YES, 8, 0), (remove(9), 1, YES, 13, 2)];
     both_are::<FineList, HostRuntime>(&rt, rt.alloc(), &[9], both);
 }
 
 #[test]
-fn optimistic_validation_fails_where_pred_is_unlinked_before_it_is_locked(rt: HostRuntime) {
+fn optimistic_validation_fails_if_pred_is_unlinked_before_it_is_locked(rt: HostRuntime) {
     let both = [(remove(3), NEVER, YES, 8, 0), (add(5), 3, YES, 19, 0)];
     both_are::<OptimisticList, HostRuntime>(&rt, rt.alloc(), &[3], both);
 }
 
 #[test]
-fn optimistic_validation_fails_where_pred_has_another_link(rt: HostRuntime) {
+fn optimistic_validation_fails_if_pred_has_another_link(rt: HostRuntime) {
     let both = [(add(4), NEVER, YES, 9, 0), (add(5), 1, YES, 20, 0)];
     both_are::<OptimisticList, HostRuntime>(&rt, rt.alloc(), &[], both);
 }
@@ -211,7 +215,7 @@ fn one_of_two_lazy_removes_finds_the_key_gone(rt: HostRuntime) {
 }
 
 #[test]
-fn lazy_validation_fails_where_pred_has_another_link(rt: HostRuntime) {
+fn lazy_validation_fails_if_pred_has_another_link(rt: HostRuntime) {
     let both = [(add(4), NEVER, YES, 12, 0), (add(5), 2, YES, 23, 0)];
     both_are::<LazyList, HostRuntime>(&rt, rt.alloc(), &[3], both);
 }
@@ -223,13 +227,13 @@ fn one_of_two_lock_free_removes_fails_to_mark(rt: HostRuntime) {
 }
 
 #[test]
-fn a_lock_free_add_fails_at_a_marked_pred_and_snips_it(rt: HostRuntime) {
+fn a_lock_free_add_fails_at_a_marked_pred_and_unlinks_it(rt: HostRuntime) {
     let both = [(add(5), 6, YES, 15, 1), (remove(3), 4, YES, 5, 0)];
     both_are::<LockFreeList, HostRuntime>(&rt, rt.alloc(), &[3], both);
 }
 
 #[test]
-fn a_lock_free_add_fails_where_its_link_has_changed(rt: HostRuntime) {
+fn a_lock_free_add_fails_if_its_link_has_changed(rt: HostRuntime) {
     let both = [(add(2), NEVER, YES, 5, 0), (add(1), 4, YES, 11, 1)];
     both_are::<LockFreeList, HostRuntime>(&rt, rt.alloc(), &[9], both);
 }
@@ -244,7 +248,7 @@ fn a_ceiling_starts_again_at_a_marked_key(rt: HostRuntime) {
 }
 
 #[test]
-fn a_ceiling_past_its_link_does_not_see_the_key_that_comes_before(rt: HostRuntime) {
+fn a_ceiling_misses_a_key_added_before_its_position(rt: HostRuntime) {
     let both = [
         (add(5), NEVER, YES, 5, 0),
         (Call::Ceiling(Key(3)), 0, Reply::At(Key(9)), 2, 0),
@@ -252,7 +256,8 @@ fn a_ceiling_past_its_link_does_not_see_the_key_that_comes_before(rt: HostRuntim
     both_are::<LockFreeList, HostRuntime>(&rt, rt.alloc(), &[9], both);
 }
 
-/// Seat 1 has a lock that seat 0 tries, three times at least: its step `locks_at` takes that of the list or of the head.
+/// Asserts that seat 0 attempts at least three times to take a lock that seat 1 holds. Step `locks_at` of seat 1 takes
+/// the lock of the list or of the head.
 fn waits_at_a_lock<M: Running + Send + Sync, R: Host>(rt: &R, alloc: Global, locks_at: u64) {
     let (set, zero, one) = two_seats_on::<M, R>(rt, alloc, &[]);
     let stopping = Stopping::new(rt, NEVER, locks_at);
@@ -263,14 +268,15 @@ fn waits_at_a_lock<M: Running + Send + Sync, R: Host>(rt: &R, alloc: Global, loc
 }
 
 #[test]
-fn a_call_waits_at_a_lock_that_another_seat_has(rt: HostRuntime) {
+fn a_call_waits_for_a_lock_that_another_seat_holds(rt: HostRuntime) {
     waits_at_a_lock::<CoarseList, HostRuntime>(&rt, rt.alloc(), 0);
     waits_at_a_lock::<FineList, HostRuntime>(&rt, rt.alloc(), 0);
     waits_at_a_lock::<OptimisticList, HostRuntime>(&rt, rt.alloc(), 2);
     waits_at_a_lock::<LazyList, HostRuntime>(&rt, rt.alloc(), 2);
 }
 
-/// Once the other has stopped, a seat looks for 10 in both ways, and for the first key behind it: what it finds.
+/// Waits until the other seat has stopped. Then looks for 10 with both `contains` functions and for the first key above
+/// 10, and returns the replies.
 fn reads<M: RunningReads, R: Clock + Wait>(
     rt: &R,
     set: &LiveSet<M>,
@@ -285,7 +291,8 @@ fn reads<M: RunningReads, R: Clock + Wait>(
     (looked, asked, sought)
 }
 
-/// Seat 1 takes 10 out, and stops after a step of that until seat 0 has looked for 10. The set has 20 too.
+/// Removes 10 from seat 1, which stops after step `stops_at` until seat 0 has looked for 10. The set also has the key
+/// 20.
 fn reads_beside<M: RunningReads + Send + Sync, R: Host>(
     rt: &R,
     alloc: Global,
@@ -305,7 +312,8 @@ fn reads_beside<M: RunningReads + Send + Sync, R: Host>(
     found
 }
 
-/// Before a mark is set 10 is there, and behind it not, while the other stands in its call.
+/// Asserts that seat 0 finds 10 if seat 1 stopped before it marked the node, and does not find 10 if seat 1 stopped
+/// after it.
 fn answers_beside<M: RunningReads + Send + Sync, R: Host>(
     rt: &R,
     alloc: Global,
@@ -318,13 +326,14 @@ fn answers_beside<M: RunningReads + Send + Sync, R: Host>(
     assert_eq!(rt; reads_beside::<M, R>(rt, alloc, behind), gone);
 }
 
-/// A LazyList's remove has both its locks after its fourth step, and marks by its seventh; a LockFreeList's marks by its fifth.
+/// A `remove` of a LazyList holds both its locks after its fourth step, and has marked after its seventh. A `remove` of
+/// a LockFreeList has marked after its fifth.
 #[test]
-fn contains_now_answers_while_another_thread_stands_with_a_lock(rt: HostRuntime) {
+fn contains_now_returns_while_another_thread_holds_locks(rt: HostRuntime) {
     answers_beside::<LazyList, HostRuntime>(&rt, rt.alloc(), 3, 6);
 }
 
 #[test]
-fn contains_now_answers_while_another_thread_stands_in_its_call(rt: HostRuntime) {
+fn contains_now_returns_while_another_call_is_pending(rt: HostRuntime) {
     answers_beside::<LockFreeList, HostRuntime>(&rt, rt.alloc(), 3, 4);
 }

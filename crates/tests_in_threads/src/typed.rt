@@ -1,4 +1,4 @@
-//! Typed calls: each value that one returns, at each list.
+//! Typed calls: each value that a typed call returns, for each list.
 
 use crate::opened::{close_with, two_seats};
 use crate::prelude::*;
@@ -23,7 +23,8 @@ fn makes<M: Running, R: Host>(rt: &R, set: &LiveSet<M>, seat: &mut Seat<M>, made
     }
 }
 
-/// The quota is 4: the fifth new key of a seat is refused, one that is there is not, and the other seat has slots of its own.
+/// Asserts that with a quota of 4 the fifth new key of a seat is refused as full, a present key is not, and the other
+/// seat still has its own slots.
 fn tells_full_from_already<M: Running, R: Host>(rt: &R, alloc: Global) {
     let (set, mut zero, mut one) = two_seats::<M, R>(rt, alloc);
     makes(rt, &set, &mut zero, Adds(7, Added::New));
@@ -41,7 +42,7 @@ fn tells_full_from_already<M: Running, R: Host>(rt: &R, alloc: Global) {
 }
 
 #[test]
-fn an_add_is_new_or_already_there_or_full(rt: HostRuntime) {
+fn add_returns_new_already_or_full(rt: HostRuntime) {
     at_each_list!(tells_full_from_already, rt);
 }
 
@@ -61,7 +62,7 @@ fn tells_whether_it_was_there<M: Running, R: Host>(rt: &R, alloc: Global) {
 }
 
 #[test]
-fn a_key_was_there_or_not(rt: HostRuntime) {
+fn remove_and_contains_return_whether_the_key_was_present(rt: HostRuntime) {
     at_each_list!(tells_whether_it_was_there, rt);
 }
 
@@ -79,17 +80,17 @@ fn tells_the_smallest_key<M: Running, R: Host>(rt: &R, alloc: Global) {
 }
 
 #[test]
-fn a_ceiling_is_a_key_or_none(rt: HostRuntime) {
+fn ceiling_returns_a_key_or_none(rt: HostRuntime) {
     at_each_list!(tells_the_smallest_key, rt);
 }
 
-/// Adds 9 from a seat of the set, and returns the seat with what the call did.
+/// Adds 9 from a seat. Returns the seat, and whether 9 was new.
 fn claim<M: Running, R: Wait>(rt: &R, set: &LiveSet<M>, mut seat: Seat<M>) -> (Seat<M>, Added) {
     let added = seat.add(rt, set, Key(9));
     (seat, added)
 }
 
-/// Adds 9 from two seats of the set at once, each in a thread of its own.
+/// Adds 9 from two seats at once, each in a thread of its own.
 fn claim_at_once<M: Running + Send + Sync, R: Threads + Wait + Sync>(
     rt: &R,
     set: &LiveSet<M>,
@@ -112,6 +113,6 @@ fn is_new_to_one_thread<M: Running + Send + Sync, R: Host>(rt: &R, alloc: Global
 }
 
 #[test]
-fn a_key_is_new_to_one_of_two_threads(rt: HostRuntime) {
+fn one_of_two_adds_at_once_is_new(rt: HostRuntime) {
     at_each_list!(is_new_to_one_thread, rt);
 }

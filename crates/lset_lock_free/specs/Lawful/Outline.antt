@@ -1,4 +1,4 @@
--- What is known at each place of the list without locks.
+-- The proof outline of the list without locks: what is known at each row.
 use Rattle.std.specs.Prelude.{◌≡◌, ◌≢◌, ℕ, suc, ◌+◌, ◌-◌, ◌*◌, ◌/◌, ◌%◌, ◌<◌, ◌≤◌, ◌⊎◌, Bool, true, false, Some, None, List, []}
 use Rattle.std.specs.Prelude.{slice_set, refl, ◌==◌, nat_lt}
 use Rattle.std.proofs.Common.{arith, inl, inr, sym, ◌∙◌, ap, subst}
@@ -35,7 +35,7 @@ use Rattle.lset_steps.proofs.Turns.{Turn, due_of, Follows, no_locks}
 use Rattle.lset_steps.proofs.Turns.Turn.{passes, changes, answers, ends}
 use Rattle.lset_lock_free.specs.LockFree.{lock_free, targets, decision_of, at_key, at_link, again, next_action, fed_by, effect_of}
 
--- at some moment from first to now a was in the chain, b came after it, and P held
+-- At some moment from `first` to `now`, a was in the chain, b was its next node, P held, and t had added `count` keys.
 pub record Was (vs : ℕ → View) (first now a b t count : ℕ) (P : View → Type 0) : Type 0 where
   pub at : ℕ
   pub from : first ≤ at
@@ -45,20 +45,20 @@ pub record Was (vs : ℕ → View) (first now a b t count : ℕ) (P : View → T
   pub holds : P (vs at)
   pub same_count : (vs at).used t ≡ count
 
--- pred was below the key; curr was without a mark
+-- At such a moment pred had a key below the call's; and below, curr had no mark.
 abbrev pub Link : (ℕ → View) → ℕ → ℕ → ℕ → ℕ → ℕ → ℕ → ℕ → Type 0
 Link vs first now key pred curr t count = Was vs first now pred curr t count (λ v. v.key pred < key)
 
 abbrev pub Open : (ℕ → View) → ℕ → ℕ → ℕ → ℕ → ℕ → ℕ → Type 0
 Open vs first now curr succ t count = Was vs first now curr succ t count (λ v. v.link curr % 2 ≡ 0)
 
--- one line for each place, and one for those of a contains or a ceiling
+-- The outline, one line for each row, and one for all rows of a contains or a ceiling.
 pub data At (q t : ℕ) (vs : ℕ → View) (first now : ℕ) (v : View) (done : Bool) (l : Local) : Type 0 where
   at0 : l.pc ≡ 0 → At q t vs first now v done l
   at1 : l.pc ≡ 1 → done ≡ false → At q t vs first now v done l
   at2 : l.pc ≡ 2 → done ≡ false → Spot v (target l.call) l.pred l.curr
       → Link vs first now (target l.call) l.pred l.curr t (v.used t) → At q t vs first now v done l
-  -- or curr comes after pred since the last step, its own
+  -- Or curr has been the next node of pred since the thread's last step, which unlinked the node between them.
   at2_now : l.pc ≡ 2 → done ≡ false → Spot v (target l.call) l.pred l.curr → first ≤ now → InChain v l.pred
       → v.link l.pred / 2 ≡ l.curr → At q t vs first now v done l
   at3 : l.pc ≡ 3 → done ≡ false → Spot v (target l.call) l.pred l.curr → v.published l.succ → v.link l.curr ≡ 2 * l.succ + 1
@@ -81,7 +81,7 @@ pub data At (q t : ℕ) (vs : ℕ → View) (first now : ℕ) (v : View) (done :
       → v.link l.curr ≡ 2 * l.succ + 1 → At q t vs first now v done l
   at_read : Reading vs first now done l → At q t vs first now v done l
 
--- WHAT STAYS
+-- The outline still holds at the next moment.
 was_on : {vs : ℕ → View} {first now a b t count count' : ℕ} {P : View → Type 0} → count' ≡ count
     → Was vs first now a b t count P → Was vs first (suc now) a b t count' P
 was_on {now = now} e x = record {
@@ -94,7 +94,7 @@ was_on {now = now} e x = record {
   same_count = x.same_count ∙ sym e;
 }
 
--- the present is a moment of the call
+-- The present moment is a moment of the call.
 is_now : {vs : ℕ → View} {first now a b t : ℕ} {v : View} (P : View → Type 0) → vs now ≡ v → first ≤ now → InChain v a
     → v.link a / 2 ≡ b → P v → Was vs first now a b t (v.used t) P
 is_now {vs} {first} {now} {a} {b} {t} {v} P e from i next holds = record {
@@ -107,7 +107,7 @@ is_now {vs} {first} {now} {a} {b} {t} {v} P e from i next holds = record {
   same_count = ap (λ x. x.used t) e;
 }
 
--- what the others leave of it
+-- The outline still holds after a step of another thread.
 module _ (q t : ℕ) (vs : ℕ → View) (first now : ℕ) (v w : View) (done : Bool) (l : Local) (present : vs now ≡ v)
     (r : Remains v w q t) where
   g : KeepsNodes v w
@@ -140,7 +140,7 @@ module _ (q t : ℕ) (vs : ℕ → View) (first now : ℕ) (v w : View) (done : 
   stays (at10 e d s a m) = at10 e d (spot_kept g s) (removing_kept g s.curr_published a) (marked_on s.curr_published m)
   stays (at_read a) = at_read (reading_on a)
 
--- its contains and its ceiling have the rows that take no lock
+-- The contains and the ceiling have the rows that take no lock.
 pub has_read_rows : HasReadRows lock_free
 has_read_rows = record {
   begins = λ call l. refl;
@@ -151,7 +151,7 @@ has_read_rows = record {
   tells = λ l seen. in_each_read_row (λ n. effect_of (record l { pc = n }) seen ≡ None) refl refl refl refl refl refl l.pc;
 }
 
--- THE ROWS
+-- ---- the rows
 module _ (sz : Sizes) (t : ℕ) (vs : ℕ → View) (first now : ℕ) (ws : List ℕ) (used : ℕ → ℕ) (done : Bool) (l : Local)
     (h : Here true sz vs now ws used) (th : Thread At sz t vs first now ws used done l) (tn : t < sz.threads) where
   abbrev Goal : Type 0
@@ -169,7 +169,7 @@ module _ (sz : Sizes) (t : ℕ) (vs : ℕ → View) (first now : ℕ) (ws : List
   own_is : own_slot l ≡ own_of sz.quota t used
   own_is = rw (th.registers.thread, th.registers.quota, th.counts) refl
 
-  -- a published node without a mark is in the chain
+  -- A published node without a mark is in the chain.
   live : (a : ℕ) → V.published a → node_link ws a % 2 ≡ 0 → InChain V a
   live a p e = M.marked a p e
 
@@ -179,12 +179,12 @@ module _ (sz : Sizes) (t : ℕ) (vs : ℕ → View) (first now : ℕ) (ws : List
   next_published : (a : ℕ) → V.published a → V.published (node_link ws a / 2)
   next_published a p = next_of true sz ws used M a p
 
-  -- an exchange that fails, and the walk starts again
+  -- An exchange that fails changes nothing.
   fails_at : (a old new : ℕ) → a < node_count sz → node_link ws a ≢ old
       → WordStep true sz t ws used (Exchange (link_index a) old new) ws used None
   fails_at a old new inn d = fails (link_index a) old new (omega arith) d (λ k. absurd (not_link a k))
 
-  -- one that succeeds writes
+  -- An exchange that succeeds writes its new value.
   writes_at : (a old new : ℕ) → node_link ws a ≡ old → Writes ws (Exchange (link_index a) old new) (link_index a) new
   writes_at a old new e = inr (ap (λ x. Exchange (link_index a) x new) (sym e))
 
@@ -216,7 +216,7 @@ module _ (sz : Sizes) (t : ℕ) (vs : ℕ → View) (first now : ℕ) (ws : List
   abbrev Fitting : Reply → Type 0
   Fitting r = FitsSometime sz.quota (contents_of vs) (counts_of vs) first now t l.call r
 
-  -- the decision, at a moment of the call at which the key is known to be there, or not
+  -- The decision, correct at a moment of the call at which the key was known to be present or absent.
   decided_at : (s at : ℕ) → first ≤ at → at ≤ now → (vs at).used t ≡ used t
       → ((s == target l.call) ≡ true → InContent (vs at) (key_of l.call).0)
       → ((s == target l.call) ≡ false → InContent (vs at) (key_of l.call).0 → ⊥)
@@ -243,19 +243,19 @@ module _ (sz : Sizes) (t : ℕ) (vs : ℕ → View) (first now : ℕ) (ws : List
         ]
       ]
 
-  -- a node keeps its key from a moment at which it was in the chain
+  -- A node has the key that it had at a moment at which it was in the chain.
   key_then : (a at : ℕ) → at ≤ now → InChain (vs at) a → node_key ws a ≡ (vs at).key a
   key_then a at upto i =
       let e : (vs now).key a ≡ node_key ws a = ap (λ v. v.key a) h.present in
       sym e ∙ key_stays vs now a at now h.course upto (omega arith)
       (in_chain_published (vs at) (h.course.ordered at upto) a i)
 
-  -- head and tail keep theirs
+  -- A published node has the same key at all moments.
   end_then : (a at : ℕ) → at ≤ now → (vs at).published a → (vs at).key a ≡ node_key ws a
   end_then a at upto p =
       sym (key_stays vs now a at now h.course upto (omega arith) p) ∙ ap (λ v. v.key a) h.present
 
-  -- a ceiling of a key that is there
+  -- The reply of a ceiling whose own key is present.
   own_ceiling : (v : View) (s : ℕ) → s ≡ target l.call → target l.call < tail_word → InContent v (key_of l.call).0
       → FitsIn sz.quota v t (Ceiling (key_of l.call)) (ceiling_at s)
   own_ceiling v s e low c = subst (FitsIn sz.quota v t (Ceiling (key_of l.call)))
@@ -464,7 +464,7 @@ module _ (sz : Sizes) (t : ℕ) (vs : ℕ → View) (first now : ℕ) (ws : List
       reads_on lock_free (no_locks true) At sz t vs first now ws used done l h th has_read_rows (λ l' b. at_read b)
       (λ l' b. at0 b) a
 
--- what it says of a contains and of a ceiling
+-- The outline has the knowledge of a contains and of a ceiling.
 pub shows_reading : ShowsReading At
 shows_reading q t vs first now v done l row (at_read a) = a
 shows_reading q t vs first now v done l row at = grind arith

@@ -8,16 +8,16 @@ use lset_history::History;
 use lset_words::CallRecord;
 use std::alloc::{AllocError, Global};
 
-/// The calls of a report that were read so far, and what decides whether a call may follow them.
+/// The calls of a report that were read so far, and the fields that decide whether a call can follow them.
 #[derive(Drop)]
 pub(crate) struct CallsSoFar {
-    /// The calls, of a set that opens empty.
+    /// The history of the calls, for a set that opens empty.
     pub history: History,
-    /// When the last call began; 0 before the first one.
+    /// The begin of the last call; 0 before the first call.
     pub last_begun: u32,
-    /// For each thread, when its last call ended; 0 before its first one, and while a call is open.
+    /// For each thread, the end of its last call; 0 before its first call, and while a call is pending.
     pub last_ends: Vec<u32>,
-    /// For each thread, whether its last call is open.
+    /// For each thread, whether its last call is pending.
     pub busy: Vec<bool>,
 }
 
@@ -40,7 +40,7 @@ fn is_open(made: CallRecord) -> bool
 }
 
 impl CallsSoFar {
-    /// Returns no calls, of `threads` threads with a quota of `quota` each. Allocates.
+    /// Returns a value without calls, for `threads` threads with a quota of `quota` each. Allocates.
     pub fn new(alloc: Global, threads: u32, quota: u32) -> Result<CallsSoFar, AllocError>
         requires { IsWithin (record { threads = threads; quota = quota; opening = 0 }) }
         ensures tracks { IfOk result (λ s. Tracks s) }
@@ -54,7 +54,7 @@ impl CallsSoFar {
         })
     }
 
-    /// Whether the last call of a thread ended at this moment, which is not 0.
+    /// Returns whether the last call of some thread ended at this moment, which is not 0.
     fn is_last_end(&self, moment: u32) -> bool
         ensures { result ≡ is_last_end self.now.last_ends.items moment }
     {
@@ -70,8 +70,8 @@ impl CallsSoFar {
         }
     }
 
-    /// Whether a call may follow these calls. A moment above the last begin is taken only if a thread's last call ended at
-    /// it: so these ends are looked at, and no set of moments is kept.
+    /// Returns whether a call can follow these calls. A moment after the last begin is taken only if it is the end of a
+    /// thread's last call. The function compares these ends, so no set of moments is needed.
     pub fn may_follow(&self, made: CallRecord) -> bool
         requires { Tracks self.now }
         ensures { result ≡ may_follow (threads_of self.now) self.now.history.calls made }
@@ -87,7 +87,7 @@ impl CallsSoFar {
             && self.last_ends[thread] < made.begun
     }
 
-    /// Adds a call that may follow. May allocate.
+    /// Appends a call that can follow these calls. Can allocate.
     pub fn push(&mut self, made: CallRecord) -> Result<(), AllocError>
         requires tracks { Tracks self.old }
         requires may { may_follow (threads_of self.old) self.old.history.calls made ≡ true }

@@ -25,5 +25,6 @@ returns c =
     let gen = c.and_subcommand-program-8.ensures _ _ example c.gen_command.ensures in
     let run = c.and_subcommand-program-9.ensures _ _ gen c.run_command.ensures in
     let serve = c.and_subcommand-program-10.ensures _ _ run c.serve_command.ensures in
-    let faults = c.and_subcommand.ensures _ _ serve c.faults_command.ensures in
-    IfOk-weaker c.and_subcommand.result _ _ (λ r is. is.0) faults
+    let faults = c.and_subcommand-program-11.ensures _ _ serve c.faults_command.ensures in
+    let explain = c.and_subcommand.ensures _ _ faults c.explain_command.ensures in
+    IfOk-weaker c.and_subcommand.result _ _ (λ r is. is.0) explain

@@ -1,6 +1,6 @@
-use Rattle.std.proofs.Common.{Err, None, Ok, Some, refl, inl, inr}
-use Rattle.tool_base.specs.declared.trouble.Trouble.TheVariants.{Bad, CannotRead}
-use Rattle.lset_dispatch.proofs.Endings.{ended}
+use Rattle.std.proofs.Common.{Err, None, Ok, Some, refl, inl}
+use Rattle.tool_base.specs.declared.trouble.Trouble.TheVariants.{Bad}
+use Rattle.lset_dispatch.proofs.Endings.{ended, unsaid}
 use Rattle.lset_dispatch.proofs.dispatching.run_words.Goals as goal
 
 pub returns-in-Err-read_request : goal.returns-in-Err-read_request
@@ -19,12 +19,11 @@ returns-in_default g c =
           c.in-Ok-read_request.ensures.asked c.in_default.ensures c.run_request.ensures,
     )
 
-pub returns-in-Ok-open : goal.returns-in-Ok-open
-returns-in-Ok-open g c =
+pub returns-then-asks_to_explain : goal.returns-then-asks_to_explain
+returns-then-asks_to_explain g c =
     inl (
       c.in-Ok.ensures.refused,
-      ended _ _ _ _ _ _ _ _ _ (Ok c.in-Ok-read_request.request) (Some _) c.in-Ok.ensures.taken
-          c.in-Ok-read_request.ensures.asked c.in-Some.ensures (inr (_, (_, refl), c.run_request-in-Ok-open.ensures)),
+      unsaid _ _ _ _ _ _ _ _ _ c.in-Ok.ensures.taken (c.asks_to_explain.ensures c.if-asks_to_explain.true),
     )
 
 pub returns : goal.returns
@@ -32,5 +31,5 @@ returns g c =
     inl (
       c.in-Ok.ensures.refused,
       ended _ _ _ _ _ _ _ _ _ (Ok c.in-Ok-read_request.request) (Some _) c.in-Ok.ensures.taken
-          c.in-Ok-read_request.ensures.asked c.in-Some.ensures (inl (Err CannotRead, refl, c.deliver-in-Err-open.ensures)),
+          c.in-Ok-read_request.ensures.asked c.in-Some.ensures c.run_on_file.ensures,
     )

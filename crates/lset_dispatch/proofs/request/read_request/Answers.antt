@@ -7,7 +7,7 @@ pub returns-in-Replay-clause-asked : goal.returns-in-Replay-clause-asked
 returns-in-Replay-clause-asked c = at_command _ command.Replay _ _ _ c.in-Replay.is c.read_replay.ensures.asked
 
 pub returns-in-Judge-clause-asked : goal.returns-in-Judge-clause-asked
-returns-in-Judge-clause-asked c = at_command _ command.Judge _ _ _ c.in-Judge.is refl
+returns-in-Judge-clause-asked c = at_command _ command.Judge _ _ _ c.in-Judge.is c.read_judge.ensures.asked
 
 pub returns-in-Check-clause-asked : goal.returns-in-Check-clause-asked
 returns-in-Check-clause-asked c = at_command _ command.Check _ _ _ c.in-Check.is refl
@@ -26,3 +26,6 @@ returns-in-Serve-clause-asked c = at_command _ command.Serve _ _ _ c.in-Serve.is
 
 pub returns-in-Faults-clause-asked : goal.returns-in-Faults-clause-asked
 returns-in-Faults-clause-asked c = at_command _ command.Faults _ _ _ c.in-Faults.is tt
+
+pub returns-in-Explain-clause-asked : goal.returns-in-Explain-clause-asked
+returns-in-Explain-clause-asked c = at_command _ command.Explain _ _ _ c.in-Explain.is tt

@@ -1,4 +1,5 @@
--- Where a load shows that they are no neighbours, both locks are given back (row 13); else the call goes on: row 7, decision.
+-- If a load shows that the nodes are not neighbours, both locks are released (row 13). Else the call continues: at row 7, then
+-- with the decision.
 use Rattle.std.proofs.Common.{◌*◌, ◌%◌, None, refl, ap, sym}
 use Rattle.lset_words.proofs.Numbers.{if_same, if_other}
 use Rattle.lset_steps.specs.Rows.{decided_on}

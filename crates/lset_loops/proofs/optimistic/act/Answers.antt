@@ -1,4 +1,5 @@
--- `deed` says to which row the decision leads (9, 12 or 14), and `moved` that the thread is there; the steps from it compute.
+-- `deed` states to which row the decision leads (9, 12 or 14), and `moved` that the thread is there. The steps from there
+-- compute.
 use Rattle.std.proofs.Common.{◌*◌, refl, ap}
 use Rattle.lset_words.specs.Words.{link_index}
 use Rattle.lset_steps.specs.declared.Action.TheVariants.{Store}

@@ -1,4 +1,4 @@
-use Rattle.std.proofs.Common.{◌≡◌, ℕ, ◌≤◌, List, Option, length, sym, ap, subst, ◌∙◌, arith}
+use Rattle.std.proofs.Common.{◌≡◌, ℕ, ◌≤◌, List, Option, length, sym, ap, subst, arith}
 use Rattle.std.specs.List.{sum_by}
 use Rattle.std.proofs.lemmas.Result.{err_from_is_err_and}
 use Rattle.lset_words.specs.Words.{Opening}
@@ -7,17 +7,16 @@ use Rattle.lset_schedule.specs.declared.value.Line.{Line}
 use Rattle.lset_schedule.specs.Plan.{Plan, view, event_count, first_event_line, opening_in}
 use Rattle.lset_replay.specs.declared.events.LineEvent.{LineEvent}
 use Rattle.lset_replay.specs.declared.places.Linearized.{Linearized}
-use Rattle.lset_replay.specs.Blocks.{StandUpTo, blocks_upto}
 use Rattle.lset_replay.specs.Events.{events_of, events_from}
 use Rattle.lset_replay.specs.Follows.{HasFollowed}
 use Rattle.lset_replay.specs.Reports.{IsRefusal, Replays}
 use Rattle.lset_replay.proofs.FollowedRuns.{tells_keys}
 use Rattle.lset_replay.proofs.EventLists.{length_of_events}
-use Rattle.lset_replay.proofs.FinalReport.{few_places, places_upto, replay_is, explained_is}
+use Rattle.lset_replay.proofs.FinalReport.{few_places, replay_is, explained_is}
 use Rattle.lset_replay.proofs.WordsOfVersion.{words_of_version}
 use Rattle.lset_replay.proofs.replaying.replay_on.Goals as goal
 
--- what holds of an opening and lines that are those of a schedule holds of the schedule's
+-- A fact of an opening and lines that equal those of a schedule is a fact of the schedule's.
 of_schedule : (P : Opening → List LineEvent → Type 0) (p : Plan) (op : Opening) (n : ℕ) (ls : List Line)
     → op ≡ opening_in p → n ≡ first_event_line p → ls ≡ p.lines → P op (events_from n ls) → P (opening_in p) (events_of p)
 of_schedule P p op n ls opening first lines h = rw (opening, first, lines) at h
@@ -52,8 +51,7 @@ returns-clause-replays g c =
     (view c.args.schedule.now) _ _ _ c.in_ok-recorder.ensures.opening c.first_event_line.ensures c.deref.ensures.value
     c.in_ok-follow.ensures.followed in
     replay_is g.M.Machine.table accounts (view c.args.schedule.now) _ _ _ _ followed
-    (c.in_ok-order.ensures n (subst (λ xs. StandUpTo n xs) (sym c.deref-2.ensures.value)
-    (places_upto g.M.Machine.table accounts _ _ _ _ _ followed)) ∙ ap (λ xs. blocks_upto xs n) c.deref-2.ensures.value)
+    (rw c.deref-2.ensures.value at c.in_ok-order.ensures)
     c.in_ok-keys.ensures
 
 pub returns-clause-explained : goal.returns-clause-explained

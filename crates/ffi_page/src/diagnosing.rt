@@ -1,0 +1,78 @@
+use crate::host::HostInput;
+use std::alloc::{AllocError, Global};
+use std::io::Read;
+use tool_base::{Answer, Trouble};
+use tool_judge::{judge_bytes, with_count};
+use tool_why::{Diagnosis, Explained, RunReader, diagnose, diagnosis_record, explain};
+
+/// Returns an answer without a text.
+fn nothing(alloc: Global) -> Answer {
+    Answer {
+        text: Vec::new(alloc),
+        status: 0,
+    }
+}
+
+/// Returns the diagnosis of a recording. `None` if the text is no recording or some order explains its calls.
+fn diagnosis_of(alloc: Global, text: &[u8]) -> Result<Option<Diagnosis>, AllocError> {
+    let mut reader = RunReader::new(alloc);
+    reader.feed(text)?;
+    match reader.finish() {
+        Some(recorded) => diagnose(alloc, &recorded),
+        None => Ok(None),
+    }
+}
+
+/// Returns the record of the diagnosis of a recording, with status 1. Returns an answer without a text, with status 0, if the text is no
+/// recording or some order explains its calls.
+pub fn diagnose_recording(alloc: Global, text: &[u8]) -> Result<Answer, Trouble> {
+    match diagnosis_of(alloc, text)? {
+        Some(diagnosis) => Ok(Answer {
+            text: diagnosis_record(alloc, &diagnosis)?.into_bytes(),
+            status: 1,
+        }),
+        None => Ok(nothing(alloc)),
+    }
+}
+
+/// Returns the lines of `judge FILE` below a verdict of `used` lines, with status 1.
+fn explain_below<R: Read>(alloc: Global, input: &mut R, used: usize) -> Result<Answer, Trouble> {
+    match explain(alloc, input, used)? {
+        Some(Explained { count, text }) => Ok(Answer {
+            text: with_count(alloc, &count, text.as_str())?.into_bytes(),
+            status: 1,
+        }),
+        None => Ok(nothing(alloc)),
+    }
+}
+
+/// Returns the number of lines of a refusal; 0 of any other answer.
+fn refused_lines(verdict: &Answer) -> usize {
+    if verdict.status == 0 {
+        return 0;
+    }
+    let ends = verdict.text.iter().filter(|byte| **byte == b'\n');
+    ends.count()
+}
+
+/// Returns the lines of `judge FILE` below the verdict on a recording, with status 1. Returns an answer without a text, with status 0, if the
+/// text is no recording or some order explains its calls.
+pub fn diagnose_text(alloc: Global, text: &[u8]) -> Result<Answer, Trouble> {
+    let used = match judge_bytes(alloc, text) {
+        Ok(verdict) => refused_lines(&verdict),
+        Err(Trouble::Memory) => return Err(Trouble::Memory),
+        Err(_) => 0,
+    };
+    if used == 0 {
+        return Ok(nothing(alloc));
+    }
+    let mut input = text;
+    explain_below(alloc, &mut input, used)
+}
+
+/// Returns the lines of `judge FILE` below a verdict of `used` lines on the recording in the file with this number, with status 1. Returns
+/// an answer without a text, with status 0, if the file cannot be read, has no recording, or some order explains the calls.
+pub fn diagnose_file(alloc: Global, file: i32, used: usize) -> Result<Answer, Trouble> {
+    let mut input = HostInput { file };
+    explain_below(alloc, &mut input, used)
+}

@@ -1,0 +1,44 @@
+//! `judge --only KEY`: the recording of one key.
+
+use lset_recording::RecordingReader;
+use std::alloc::Global;
+use std::io::Read;
+use tool_base::{Answer, READ_SIZE, Trouble, ValueName};
+use tool_why::{RunReader, recording_of_key};
+
+/// Returns the recording of the calls of a key in the recording on an input, or of the few that show its refusal. Allocates; blocks as the
+/// input does.
+///
+/// # Errors
+///
+/// Those of `judge_input`; `Bad(ValueName::Key)` if no call is of the key.
+pub(crate) fn print_key<R: Read>(
+    alloc: Global,
+    input: &mut R,
+    key: u32,
+) -> Result<Answer, Trouble> {
+    let mut judge = RecordingReader::new(alloc);
+    let mut run = RunReader::new(alloc);
+    let mut buffer = [0u8; READ_SIZE];
+    for _ in 0..u64::MAX {
+        let Ok(count) = input.read(&mut buffer) else {
+            return Err(Trouble::CannotRead);
+        };
+        if count == 0 {
+            break;
+        }
+        judge.feed(&buffer[..count])?;
+        run.feed(&buffer[..count])?;
+    }
+    let _judged = judge.finish()?;
+    let Some(recorded) = run.finish() else {
+        return Err(Trouble::CannotRead);
+    };
+    match recording_of_key(alloc, &recorded, key)? {
+        Some(text) => Ok(Answer {
+            text: text.into_bytes(),
+            status: 0,
+        }),
+        None => Err(Trouble::Bad(ValueName::Key)),
+    }
+}
