@@ -1,5 +1,6 @@
-"""The benches: programs in Rattle that the gate does not prove. They are proved and built in a tree of their own, beside the
-libraries below them; here their files end in `_`, since rt takes no .rt or .antt that is not a crate's of the tree."""
+"""Builds the benches: programs in Rattle that the gate does not prove. They are proved and built in a
+separate tree, beside the libraries below them. Their files here end in `_`, since rt accepts .rt and .antt
+only in crates."""
 
 import pathlib
 import shutil
@@ -15,17 +16,17 @@ import toolchain  # noqa: E402
 import unproved_programs  # noqa: E402
 
 SOURCES = BENCH / "crates"
-BUILT = BENCH / "out"  # git does not track it
+BUILT = BENCH / "out"  # not tracked by git
 NAMES = sorted(it.name for it in SOURCES.iterdir() if it.is_dir())
 
 
 def lines_with_benches():
-    """The lines of crates.txt and those of the benches, by the crate's name."""
+    """Returns the lines of crates.txt and those of the benches, by crate."""
     return crates_txt.lines_of() | crates_txt.lines_by_crate((SOURCES / "rows.txt").read_text())
 
 
 def lay_out(room, names):
-    """Makes a tree of these benches and the libraries below them in a folder."""
+    """Creates a tree of these benches and the libraries below them in a folder."""
     wanted = crates_txt.below(names, lines=lines_with_benches())
     (room / "crates.txt").write_text("".join(f"{lines_with_benches()[it]}\n" for it in wanted))
     shutil.copy2(TOP / "HANDLES", room)
@@ -37,7 +38,8 @@ def lay_out(room, names):
 
 
 def program_of(name):
-    """The program of a bench; where one is missing, all are proved and built first, by `rt ci`. (Remove bench/out after a change.)"""
+    """Returns the program of a bench. If one is missing, first proves and builds all of them with `rt ci`.
+    (Delete bench/out after a change.)"""
     if not (BUILT / name).exists():
         print(f"bench: proving and building {', '.join(NAMES)}, once", file=sys.stderr)
         toolchain.folder()
@@ -52,7 +54,7 @@ def program_of(name):
 
 
 def by_rustc(source, room):
-    """The program of a Rust file of bench/, built by rustc."""
+    """Builds a Rust file of bench/ with rustc and returns the program."""
     if not shutil.which("rustc"):
         sys.exit(f"bench: the command rustc is missing: {toolchain.NEEDS['rustc']}")
     program = f"{room}/{source.removesuffix('.rs')}"
@@ -61,7 +63,8 @@ def by_rustc(source, room):
 
 
 def read():
-    """Reads each bench with the libraries below it, without a proof: that names and types still fit. Gives the status."""
+    """Reads each bench with the libraries below it, without a proof, to check that names and types still
+    match. Returns the status."""
     failed = 0
     with tempfile.TemporaryDirectory(prefix="bench-") as room:
         lay_out(pathlib.Path(room), NAMES)

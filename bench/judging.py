@@ -1,4 +1,4 @@
-"""What judge of a recording costs beside the judge written by hand (peer_judge.rs)."""
+"""Measures judge on recordings, beside a judge written by hand (peer_judge.rs)."""
 
 import collections
 import os
@@ -12,19 +12,29 @@ MILLION = 1_000_000
 THREADS, KEYS = 16, 64
 RUNS = 3
 
-# Each recording: what it is called, how many calls it has, of how many threads on how many keys, and whether one more call spans all
+# The recordings: name, number of calls, threads and keys, and whether one more call overlaps all others
 RECORDINGS = {
-    "1,000,000 calls": (MILLION, THREADS, KEYS, False),
-    "10,000,000 calls": (10 * MILLION, THREADS, KEYS, False),
+    "2 threads": (MILLION, 2, KEYS, False),
+    "8 threads": (MILLION, 8, KEYS, False),
+    "16 threads": (MILLION, THREADS, KEYS, False),
+    "16 threads, 10,000,000 calls": (10 * MILLION, THREADS, KEYS, False),
+    "64 threads": (MILLION, 64, KEYS, False),
     "512 threads": (MILLION, 512, KEYS, False),
-    "a million keys": (MILLION, THREADS, MILLION, False),
-    "one call spans all": (MILLION, THREADS, KEYS, True),
+    "4,096 threads": (MILLION, 4_096, KEYS, False),
     "100,000 calls pending at once": (MILLION, 200_000, KEYS, False),
+    "100,000 calls pending, of one key": (MILLION, 200_000, 1, False),
+    "one call spans all": (MILLION, THREADS, KEYS, True),
+    "512 keys": (MILLION, THREADS, 512, False),
+    "2,000 keys": (MILLION, THREADS, 2_000, False),
+    "8,000 keys": (MILLION, THREADS, 8_000, False),
+    "20,000 keys": (MILLION, THREADS, 20_000, False),
+    "100,000 keys": (MILLION, THREADS, 100_000, False),
+    "a million keys": (MILLION, THREADS, MILLION, False),
 }
 
 
 def judge():
-    """The table of recordings: the least seconds of some runs, in turn."""
+    """Prints the table of recordings: the minimum of the seconds of several alternating runs."""
     heading("Recording", "`judge`, s", "KB", "by hand, s", "KB", "ratio")
     with tempfile.TemporaryDirectory(prefix="bench-") as room:
         programs = [built("listset"), "judge"], [by_rustc("peer_judge.rs", room)]
@@ -37,7 +47,8 @@ def judge():
 
 
 def lines_of(calls, threads, keys, has_spanning):
-    """The lines of a recording: threads draw which begins a call or ends its own; one takes effect as it begins or as it ends."""
+    """Yields the lines of a recording. Random threads begin a call or end their own. A call takes effect at
+    its begin or at its end."""
     yield "listset-calls 1\n"
     if has_spanning:
         yield f"call {threads} add {keys} 1 {2 * calls + 2} true\n"
@@ -52,7 +63,7 @@ def lines_of(calls, threads, keys, has_spanning):
 
 
 def overlapping(draw, calls, threads, keys, there):
-    """Each call as it begins, and None as one has ended; the set is changed as they take effect."""
+    """Yields each call when it begins, and None when one has ended. The set changes when calls take effect."""
     pending, left, moment = {}, calls, 1
     while left or pending:
         thread = draw.randrange(threads) if left else next(iter(pending))
@@ -69,7 +80,7 @@ def overlapping(draw, calls, threads, keys, there):
 
 
 def effect_of(made, there):
-    """The reply of a call that takes effect."""
+    """Returns the reply of a call that takes effect."""
     word, key = made[1:3]
     is_true = (key in there) != (word == "add")
     if is_true and word != "contains":

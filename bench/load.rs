@@ -1,9 +1,10 @@
-//! Loads a set server on the loopback, and tells how fast it answers.
+//! Loads a set server on the loopback, and measures how fast it answers.
 //!   rustc -O load.rs;  load PROTOCOL PORT CLIENTS AT_ONCE REQUESTS KEYS
-//! PROTOCOL is `listset`, or `redis`, whose set is called `s`. Each client has a thread, a connection and REQUESTS requests, made before
-//! the first is sent: a third each of adds, removes and looks, on KEYS keys. It sends AT_ONCE of them in one write, and the next ones when
-//! it has their answers. The output is requests per second, from the first client's first write to the last one's last answer, and the
-//! median and the 99th of 100 of the microseconds from a write to the last of its answers. No read takes longer than ten seconds.
+//! PROTOCOL is `listset`, or `redis` with a set named `s`. Each client has a thread, a connection and REQUESTS requests, which are made
+//! before the first one is sent: a third each of add, remove and contains, on KEYS keys. A client sends AT_ONCE requests in one write, and
+//! the next ones when it has their answers. The output is the requests per second, from the first write to the last answer of all clients,
+//! and the median and the 99th percentile of the microseconds from a write to the last of its answers. Each read ends within ten
+//! seconds.
 
 use std::io::{Read, Write};
 use std::net::TcpStream;
@@ -35,7 +36,7 @@ impl Protocol {
         }
     }
 
-    /// Whether an answer may begin so: of listset with TRUE or FALSE, of redis with a number.
+    /// Decides whether an answer can begin with this byte: TRUE or FALSE of listset, a number of redis.
     fn begins(self, byte: u8) -> bool {
         match self {
             Protocol::Listset => b"TF".contains(&byte),
@@ -62,7 +63,7 @@ impl Wanted {
         Wanted { protocol, port: port as u16, clients, at_once: at_once as usize, requests: requests as usize, keys }
     }
 
-    /// What a client writes, write by write.
+    /// Returns the writes of a client.
     fn writes(&self, client: u64) -> Vec<Vec<u8>> {
         let mut drawn = 0x2545_f491_4f6c_dd1d ^ ((client + 1) << 32);
         let mut request = |_| {
@@ -75,7 +76,7 @@ impl Wanted {
     }
 }
 
-/// Reads so many answers.
+/// Reads a number of answers.
 fn read_answers(stream: &mut TcpStream, protocol: Protocol, many: usize) {
     let mut buffer = [0; 65_536];
     let (mut left, mut begins) = (many, true);
@@ -90,7 +91,7 @@ fn read_answers(stream: &mut TcpStream, protocol: Protocol, many: usize) {
     }
 }
 
-/// What a client saw: when it began and ended, and the time of each of its writes.
+/// The times of a client: when it began and ended, and how long each write took.
 struct Seen {
     began: Instant,
     ended: Instant,

@@ -1,4 +1,4 @@
-"""What the parts of bench/run share: programs that are built; the processor seconds and the peak memory of runs; rows of tables."""
+"""The common parts of bench/run: programs, processor seconds and peak memory of runs, and rows of tables."""
 
 import datetime
 import os
@@ -20,7 +20,7 @@ KINDS = [it.word for it in lists.lists()]
 
 
 def measured_on():
-    """The date, the machine and what it had to do when a table was begun."""
+    """Returns the date, the machine and its load when a table was begun."""
     with open("/proc/cpuinfo") as it:
         model = re.search(r"model name\s*: (.*)", it.read())
     named = " ".join(re.sub(r"\(R\)|\(TM\)|CPU|Processor|@", " ", model[1] if model else "").split()) or "processors"
@@ -29,7 +29,7 @@ def measured_on():
 
 
 def built(name):
-    """The program of this name, which is proved and built where it is missing."""
+    """Returns the program with this name, which is proved and built if it is missing."""
     if name in build_benches.NAMES:
         return build_benches.program_of(name)
     program = f"{TOP}/crates/{name}/out/{name}"
@@ -41,14 +41,14 @@ def built(name):
 
 
 def processor_seconds(process):
-    """The processor seconds of a process, once it has ended; its status is then in `returncode`."""
+    """Waits for a process and returns its processor seconds. Its status is then in `returncode`."""
     _, status, used = os.wait4(process.pid, 0)
     process.returncode = os.waitstatus_to_exitcode(status)
     return used.ru_utime + used.ru_stime
 
 
 def seconds_of(words, given, written, wanted):
-    """Processor seconds of one run, which has to end with the status that is wanted."""
+    """Runs a command that must end with this status, and returns its processor seconds."""
     with open(given) as source, open(written, "w") as sink:
         run = subprocess.Popen(words, stdin=source, stdout=sink, stderr=subprocess.DEVNULL)
         used = processor_seconds(run)
@@ -58,7 +58,8 @@ def seconds_of(words, given, written, wanted):
 
 
 def memory_of(words, given):
-    """Peak kilobytes of one run, by the program `time`, or None where it is not installed."""
+    """Runs a command and returns its peak kilobytes, as the program `time` measures them; None if `time` is
+    not installed."""
     if not os.access(TIME, os.X_OK):
         return None
     with open(given) as source, tempfile.NamedTemporaryFile("r") as told:
@@ -79,5 +80,5 @@ def row(*cells):
 
 
 def least(rows):
-    """The least of each column."""
+    """Returns the minimum of each column."""
     return [min(column) for column in zip(*rows)]

@@ -1,11 +1,11 @@
-//! What running sets are measured against: the lists of `lists.rs`, and std's tree under one lock.
+//! The baseline for running sets: the lists of `lists.rs`, and std's tree under one lock.
 //!   rustc -O peer.rs
 //!   peer each KIND THREADS QUOTA CALLS KEYS SEED     times each call, as `bench_calls KIND each ..` does
 //!   peer whole KIND ..                               times rounds of all calls, as `bench_calls KIND whole ..` does; KIND may be
 //!                                                    `mutex-tree` here, which has no quota
-//! The times stand on standard error: of `each`, for each kind of call, nanoseconds over all threads, and how many calls are left out of
-//! them since they took more than `LONGEST`, as where the processor was taken away; of `whole`, nanoseconds by the clock. The output
-//! tells how many calls there were.
+//! Standard error has the times. For `each`: the nanoseconds of all threads for each kind of call, and how many calls are left out because
+//! they took more than `LONGEST`, for example because the processor was taken away. For `whole`: the nanoseconds of the clock. The output
+//! has the number of calls.
 
 mod lists;
 
@@ -16,11 +16,11 @@ use std::sync::Mutex;
 use std::time::{Duration, Instant};
 
 const LONGEST: u64 = 200_000;
-/// Rounds go on until they have taken so long.
+/// More rounds are made until they have taken this long.
 const ENOUGH: Duration = Duration::from_millis(100);
 const OPS: [(Op, &str); 3] = [(Op::Add, "add"), (Op::Remove, "remove"), (Op::Contains, "contains")];
 
-/// The generator of the library's programs, PCG32.
+/// The generator of the library's random programs, PCG32.
 struct Pcg {
     state: u64,
     step: u64,
@@ -51,7 +51,7 @@ impl Pcg {
     }
 }
 
-/// What is asked for, as `listset run` has it.
+/// The arguments, as of `listset run`.
 struct Wanted {
     threads: u64,
     quota: u64,
@@ -67,7 +67,7 @@ impl Wanted {
         Wanted { threads, quota, calls, keys, seed }
     }
 
-    /// The calls of a thread.
+    /// Returns the calls of a thread.
     fn program(&self, thread: u64) -> Vec<Call> {
         let mut drawn = Pcg::seeded(self.seed.wrapping_add(thread));
         let call = |_| {
@@ -82,7 +82,7 @@ impl Wanted {
     }
 }
 
-/// Waits until so many threads are there.
+/// Waits until `many` threads have arrived.
 fn meet(there: &AtomicUsize, many: usize) {
     there.fetch_add(1, SeqCst);
     while there.load(SeqCst) < many {
@@ -90,7 +90,7 @@ fn meet(there: &AtomicUsize, many: usize) {
     }
 }
 
-/// Runs each thread's program by `run`, all at once.
+/// Runs each thread's program with `run`, all at once.
 fn at_once<T: Send>(programs: &[Vec<Call>], run: impl Fn(u64, &[Call]) -> T + Sync) -> Vec<T> {
     let run = &run;
     std::thread::scope(|scope| {
@@ -100,7 +100,7 @@ fn at_once<T: Send>(programs: &[Vec<Call>], run: impl Fn(u64, &[Call]) -> T + Sy
     })
 }
 
-/// The same, where none begins before all threads are there.
+/// Runs each thread's program with `run`; none begins before all threads have started.
 fn together<T: Send>(programs: &[Vec<Call>], run: impl Fn(u64, &[Call]) -> T + Sync) -> Vec<T> {
     let there = AtomicUsize::new(0);
     at_once(programs, |thread, calls| {
@@ -125,7 +125,7 @@ impl Spent {
         }
     }
 
-    /// A call more, or one that took too long to count.
+    /// Counts a call, or leaves it out if it took too long.
     fn call(self, nanoseconds: u64) -> Spent {
         let is_counted = nanoseconds <= LONGEST;
         self.and(Spent { calls: 1, nanoseconds: if is_counted { nanoseconds } else { 0 }, left_out: u64::from(!is_counted) })
@@ -137,7 +137,7 @@ fn tell(name: &str, spent: Spent) {
     eprintln!("{name} {} {}", spent.nanoseconds, spent.left_out);
 }
 
-/// One reading of the clock for each call.
+/// Times each call, with one reading of the clock per call.
 fn each(kind: Kind, wanted: &Wanted) {
     let set = Set::new(kind, wanted.threads, wanted.quota);
     let spent = together(&wanted.programs(), |thread, calls| {
@@ -158,7 +158,7 @@ fn each(kind: Kind, wanted: &Wanted) {
     }
 }
 
-/// Rounds of all calls, each on a new set, timed from the first thread's first call to the last one's last.
+/// Times rounds of all calls, each on a new set, from the first call of the first thread to the end of the last one.
 fn whole<S: Sync>(wanted: &Wanted, new: impl Fn() -> S, make_calls: impl Fn(&S, u64, &[Call]) + Sync) {
     let programs = wanted.programs();
     let (mut calls, mut spent) = (0, Duration::ZERO);
@@ -186,7 +186,7 @@ fn whole_of_list(kind: Kind, wanted: &Wanted) {
     });
 }
 
-/// What a call makes of a tree that it may change.
+/// Makes a call on a tree, and returns its reply.
 fn change(tree: &mut BTreeSet<u32>, call: &Call) -> bool {
     match call.op {
         Op::Add => tree.insert(call.key),

@@ -1,6 +1,7 @@
-// The judge of recordings by hand: `listset-calls 1` on standard input, `ok N calls` or `not linearizable` and the key. The rule is
-// that of crates/lset_judge/specs/Rule.antt: a key turns only if a call that ends asks for it, by the pending change whose end is nearest.
-// A peer to measure against, in one run. It checks what a text has to be (order of begins, moments apart is left out).
+// A judge of recordings written by hand, as a baseline. It reads `listset-calls 1` from standard input and prints `ok N
+// calls`, or `not linearizable` and the key. The rule is that of crates/lset_judge/specs/Rule.antt: a key changes only
+// if a call that ends requires it, by the pending change with the nearest end. It works in one pass and checks the
+// format of its input, but not the order of begins and that moments differ.
 use std::collections::{BinaryHeap, HashMap, HashSet};
 use std::cmp::Reverse;
 use std::io::Read;

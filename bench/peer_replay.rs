@@ -1,5 +1,5 @@
-// A replayer of schedules as one would write it by hand for speed, which knows the lines of opening keys too (and no ceiling):
-// what `listset replay` is measured against where a set opens with keys.
+// A replayer of schedules, written by hand for speed: the baseline for `listset replay`. It reads lines of opening keys too, but no
+// ceiling.
 //   rustc -O peer_replay.rs;  peer_replay replay < schedule > report;  peer_replay check < report
 use std::collections::{BTreeMap, BTreeSet, HashMap, HashSet};
 use std::fmt::Write as _;
@@ -18,7 +18,7 @@ struct L {
     node: u64,
     pkey: u64,
     ckey: u64,
-} // rep 0 none 1 true 2 false 3 full
+} // rep: 0 none, 1 true, 2 false, 3 full
 fn k(i: u64) -> usize {
     (3 + 3 * i) as usize
 }
@@ -72,7 +72,7 @@ impl W {
             false
         }
     }
-    // one step: (answer, change: 0 none 1 put 2 take)
+    // Makes one step. Returns the reply, and the change: 0 for none, 1 for an added key, 2 for a removed one.
     fn step(&mut self, t: u64, x: &mut L) -> (u8, u8) {
         let (key, me, own, q) = (x.key + 1, t + 1, 2 + t * self.q + x.used, self.q);
         macro_rules! ans {

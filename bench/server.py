@@ -1,4 +1,5 @@
-"""What the set server gives: requests a second, beside redis. It starts both servers, and reads the port of each."""
+"""Measures the requests per second of the set server, beside redis. Starts both servers and reads their
+ports."""
 
 import contextlib
 import shutil
@@ -15,13 +16,13 @@ from measuring import KINDS, built, heading, row
 ROUNDS = 5
 CLIENTS = (1, 8)
 KEYS = "64"
-REQUESTS = {1: "20000", 100: "90000"}  # of each client, by how many it sends at once; so many that no seat runs out of slots
+REQUESTS = {1: "20000", 100: "90000"}  # for each client, by how many it sends at once; few enough that no seat runs out of slots
 REDIS_STARTS_WITHIN = LOAD_ENDS_WITHIN = 60  # seconds
 
 
 @contextlib.contextmanager
 def ended(process):
-    """Ends the process, if it does not end by itself."""
+    """Kills the process at the end, if it has not ended by itself."""
     try:
         yield process
     finally:
@@ -31,14 +32,14 @@ def ended(process):
 
 @contextlib.contextmanager
 def listset(tool, kind, clients):
-    """The program as a server for so many clients: its port."""
+    """Starts the program as a server for this number of clients, and returns its port."""
     words = [tool, "serve", kind, str(clients), "16384", "0", str(clients)]
     with ended(subprocess.Popen(words, stdout=subprocess.PIPE, text=True)) as process:
         yield process.stdout.readline().rpartition(":")[2].strip()
 
 
 def answers(port):
-    """Whether something on the port takes a connection."""
+    """Decides whether a server on the port accepts a connection."""
     with contextlib.suppress(OSError), socket.create_connection(("127.0.0.1", port), timeout=1):
         return True
     return False
@@ -46,7 +47,7 @@ def answers(port):
 
 @contextlib.contextmanager
 def redis(program, _kind, _clients):
-    """A redis server that keeps nothing on disk: its port."""
+    """Starts a redis server that stores nothing on disk, and returns its port."""
     with socket.socket() as free:
         free.bind(("127.0.0.1", 0))
         port = free.getsockname()[1]
@@ -60,7 +61,7 @@ def redis(program, _kind, _clients):
 
 
 def loaded(load, protocol, server, clients, at_once):
-    """Requests a second, and the 99th of 100 of the microseconds of a write."""
+    """Returns the requests per second, and the 99th percentile of the microseconds of a write."""
     with server(clients) as port:
         words = [load, protocol, port, str(clients), str(at_once), REQUESTS[at_once], KEYS]
         told = subprocess.run(words, stdout=subprocess.PIPE, text=True, check=True, timeout=LOAD_ENDS_WITHIN).stdout
@@ -69,7 +70,8 @@ def loaded(load, protocol, server, clients, at_once):
 
 
 def server():
-    """Servers: thousand requests a second and the 99th of 100 of the microseconds of a write, the median of some rounds in turn."""
+    """Prints the table of servers: thousands of requests per second and the 99th percentile of the
+    microseconds of a write, the median of several alternating rounds."""
     tool = built("listset")
     servers = {kind: ("listset", lambda clients, kind=kind: listset(tool, kind, clients)) for kind in KINDS}
     program = shutil.which("redis-server")

@@ -1,4 +1,5 @@
-"""What running threads cost, beside lists by hand: calls by kind, and rounds of calls at several sizes of the set."""
+"""Measures running sets, beside lists written by hand: calls by kind, and rounds of calls on sets of several
+sizes."""
 
 import statistics
 import subprocess
@@ -15,7 +16,8 @@ MANY_RUNS = 25
 
 
 def calls():
-    """Calls by kind: their time beside that of the list by hand, the median of some runs in turn."""
+    """Prints the table of calls by kind: the ratio of their time to that of the list by hand, the median of
+    several alternating runs."""
     timer, kind_names = built("bench_calls"), ("add", "remove", "contains")
     heads = (f"`{call}`" + f", {named(many)}" * (call == "add") for many in THREADS for call in kind_names)
     heading("List", *heads)
@@ -32,8 +34,8 @@ def calls():
 
 
 def sizes():
-    """Millions of calls a second at several sizes, drawn from so many keys of which about half are in the set: the median of some runs
-    in turn."""
+    """Prints the table of sizes: millions of calls per second on random keys, with about half of them in the
+    set, the median of several alternating runs."""
     heading("Set", *(f"{size:,}" + f" keys, {named(many)}" * (size == SIZES[0]) for many in THREADS for size in SIZES))
     with tempfile.TemporaryDirectory() as room:
         timer, peer = built("bench_calls"), by_rustc("peer.rs", room)
@@ -57,8 +59,8 @@ def median_of(runs, call):
 
 
 def nanoseconds(words):
-    """Of each kind of call, or of all, the nanoseconds of one, as a run of bench_calls or of peer.rs tells them, which
-    leave out the calls in which the processor was taken away."""
+    """Runs bench_calls or peer.rs and returns the nanoseconds of one call, for each kind of call or for all.
+    Calls in which the processor was taken away are left out."""
     run = subprocess.run(words, stdin=subprocess.DEVNULL, capture_output=True, text=True, check=True)
     many = {kind: int(calls) for kind, calls in map(str.split, run.stdout.splitlines())}
     spent = {kind: (int(time), int(left)) for kind, time, left in map(str.split, run.stderr.splitlines())}
@@ -68,5 +70,5 @@ def nanoseconds(words):
 
 
 def rate(words, many, size):
-    """Calls a second of so many threads together, by rounds of 100 ms and more."""
+    """Returns the calls per second of a number of threads together, from rounds of 100 ms or more."""
     return 1e9 / nanoseconds([*words, str(many), MOST_QUOTA, MANY_CALLS, str(size), SEED])["all"]

@@ -1,34 +1,35 @@
-"""The crates of the repository, as crates.txt has them: which stand below which, and a repository of some."""
+"""The crates of the repository, from crates.txt: which crates are below which, and copies of the repository
+with some of them."""
 
 import pathlib
 import re
 import shutil
 
 TOP = pathlib.Path(__file__).resolve().parent.parent
-# The crates that are tests: ./gate builds them without a proof
+# The crates of tests: ./gate builds them without a proof
 TESTS = re.compile(r"tests_\w+|memory_calls")
-LEFT_OUT = shutil.ignore_patterns(".git", "out", "dist", "target", "__pycache__")
+LEFT_OUT = shutil.ignore_patterns(".git", "out", "dist", "target", "__pycache__", "must-fail")
 NO_EDITS = shutil.ignore_patterns("out", "must-fail")
 
 
 def lines_by_crate(text):
-    """The lines of a crates.txt by the crate's name, lowest first."""
+    """Returns the lines of a crates.txt by the name of the crate, lowest first."""
     lines = [line.partition("#")[0].strip() for line in text.splitlines()]
     return {line.partition(":")[0].split()[0]: line for line in lines if line}
 
 
 def lines_of(root=TOP):
-    """Those of crates.txt in a repository."""
+    """Returns the lines of the crates.txt of a repository."""
     return lines_by_crate((root / "crates.txt").read_text())
 
 
 def tests():
-    """The crates that are tests."""
+    """Returns the names of the crates of tests."""
     return [it for it in lines_of() if TESTS.fullmatch(it)]
 
 
 def below(names, root=TOP, lines=None):
-    """These crates and those of the repository, or of these lines, below them, lowest first."""
+    """Returns these crates and all crates below them, lowest first."""
     lines = lines or lines_of(root)
     libraries = {name: [it for it in line.partition(":")[2].split() if it in lines] for name, line in lines.items()}
     found = {}
@@ -45,8 +46,8 @@ def below(names, root=TOP, lines=None):
 
 
 def lay_out(to, names, is_whole=False):
-    """Makes a repository of these crates in a folder, without their must-fail edits. If it `is_whole`, it has these, and all that lies
-    beside the listed crates, so that rt ci looks at that."""
+    """Creates a repository with these crates in a folder, without their must-fail edits. With `is_whole` it
+    has these edits too, and all files beside the crates, so that rt ci checks them."""
     to.mkdir(parents=True, exist_ok=True)
     (to / ".git").mkdir()
     lines = lines_of()

@@ -1,4 +1,5 @@
-"""The verdict of the last whole gate here, for build/release, in git's folder; a gate over a tree with changes leaves none."""
+"""The verdict of the last whole gate here, stored in the git folder for build/release. A gate over
+uncommitted changes stores none."""
 
 import datetime
 import hashlib
@@ -12,18 +13,18 @@ TRIED = ["crates/listset/out/listset.o", "foreign/out/lib/liblistset.a", "foreig
 
 
 def git(*words):
-    """What git says, or nothing if it has nothing to say or is not there."""
+    """Returns the output of git; empty if git fails or is missing."""
     how = {"stdout": subprocess.PIPE, "stderr": subprocess.DEVNULL, "text": True}
     return subprocess.run(["git", "-C", TOP, *words], **how).stdout.strip() if shutil.which("git") else ""
 
 
 def changes():
-    """The lines of git about what is changed here, and not committed."""
+    """Returns git's lines about uncommitted changes."""
     return git("status", "--porcelain").splitlines()
 
 
 def clean_commit():
-    """The commit that is checked out, if nothing is changed; else None."""
+    """Returns the checked-out commit if nothing is changed, otherwise None."""
     return None if changes() else git("rev-parse", "HEAD") or None
 
 
@@ -36,7 +37,8 @@ def sum_of(file):
 
 
 def write(commit, passed, failed):
-    """Keeps the verdict of a gate that began over this commit, if it is the one here still; else removes the one before."""
+    """Stores the verdict of a gate that began at this commit, if it is still checked out. Otherwise deletes
+    the previous verdict."""
     place().unlink(missing_ok=True)
     if commit and commit == clean_commit():
         sums = {it: sum_of(it) for it in TRIED}
@@ -44,5 +46,5 @@ def write(commit, passed, failed):
 
 
 def read():
-    """The verdict, or None."""
+    """Returns the stored verdict, or None."""
     return json.loads(place().read_text()) if place().exists() else None

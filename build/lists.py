@@ -1,4 +1,4 @@
-"""The lists, as crates.txt has them: their names, and the places that name them outside their own crates."""
+"""The lists, from crates.txt: their names, and the places outside their crates that name them."""
 
 import os
 import re
@@ -16,17 +16,18 @@ class List:
         self.crate, self.type = f"lset_{self.table}", f"{self.kind}List"
 
     def has_reads(self, root=TOP):
-        """Whether its contains and its ceiling take no lock, in rows of their own."""
+        """Decides whether contains and ceiling of the list take no lock and have rows of their own."""
         return f"impl OpenReads for {self.type}" in (root / "crates" / self.crate / "src/lib.rt").read_text()
 
 
 def lists(root=TOP):
-    """The lists, in the order of crates.txt: a list's crate has a proof outline."""
+    """Returns the lists in the order of crates.txt. A list's crate has a proof outline."""
     found = [it for it in lines_of(root) if (root / "crates" / it / "specs/Lawful/Outline.antt").is_file()]
     return [List(it.removeprefix("lset_").replace("_", "-")) for it in found]
 
 
-# Where a list is named so that the program has it, and by which names. build/new_list writes these
+# The places that must name a list for the program to have it, and the names there. build/new_list writes
+# these
 CODE = {
     "crates/lset_words/src/lib.rt": ["    {kind},"],
     "crates/lset_text/src/words.rt": ['Kind::{kind} => "{word}"', "is_word_of(piece, Kind::{kind})"],
@@ -40,7 +41,7 @@ CODE = {
 }
 # The crates that use each list's crate, in crates.txt
 USERS = ["lset_lists", "lset_live", "tool_replay", "tool_threads"]
-# What is said of the lists in words: written by hand
+# The places that describe the lists in words. These are written by hand
 TEXTS = {
     "crates/tool_base/src/faults.rt": ["{word}"],
     "crates/lset_command/src/command_line.rt": ["{word}"],
@@ -51,17 +52,18 @@ TEXTS = {
 
 
 def add_exercises(root):
-    """Adds the crates of examples/lists to a copy of the repository: of each, the list that its page copies, with its patch."""
+    """Adds the crates of examples/lists to a copy of the repository. Each is the copied list that its page
+    names, with its patch."""
     for patch in sorted((root / "examples/lists").glob("*.patch")):
         words = re.search(r"build/new_list (\S+) (\S+)", patch.with_suffix(".md").read_text()).groups()
         subprocess.run([root / "build/new_list", *words], stdout=subprocess.DEVNULL, check=True)
-        # (not as a part of a repository of git that the copy may lie in)
+        # (not as a part of a git repository that the copy can be in)
         outside = {**os.environ, "GIT_CEILING_DIRECTORIES": str(root.parent)}
         subprocess.run(["git", "apply", "--whitespace=nowarn", patch], cwd=root, env=outside, check=True)
 
 
 def missing(one, places, root=TOP):
-    """The places that lack a list: each as its path, and what is not there."""
+    """Returns the places that lack a list: the path and the missing text."""
     texts = {path: (root / path).read_text() for path in places}
     wanted = [(path, form.format(**vars(one))) for path, forms in places.items() for form in forms]
     lacks = [f"{path}: {words}" for path, words in wanted if words not in texts[path]]

@@ -1,4 +1,5 @@
-"""The man page of the program and its completions for bash, zsh and fish, of what `listset --help` and `listset help WORD` print."""
+"""Generates the man page of the program, and its completions for bash, zsh and fish, from what `listset
+--help` and `listset help COMMAND` print."""
 
 import re
 import subprocess
@@ -12,7 +13,7 @@ OF_A_LIST = ["gen", "run", "serve"]  # their first value is a list
 
 
 class Help:
-    """What the program prints about itself: of the whole, and of each of its commands."""
+    """What the program prints about itself and about each of its commands."""
 
     def __init__(self, program):
         def said(*words):
@@ -22,26 +23,64 @@ class Help:
         self.about = dict(COMMAND.findall(self.whole.split("Commands:\n")[1].split("\n\n")[0]))
         self.pages = {name: said("help", name) for name in self.about if name != "help"}
 
+    def examples(self):
+        """Returns the examples at the ends of the helps."""
+        return [it for text in self.pages.values() for it in re.findall(r"^Example: (.*)$", text, re.M)]
+
+    def broken_lists(self):
+        """Returns the names that --lacks accepts."""
+        about = next(about for option, _, about in self.options("replay") if option == "lacks")
+        return re.findall(r"([\w-]+) \([\w-]+\)", about)
+
     def options(self, name):
-        """The options of a command but for --help: of each its name, that of its value or "", and what it does."""
+        """Returns the options of a command except --help: the name, the name of the value or "", and what the
+        option does."""
         return [it for it in OPTION.findall(self.pages[name]) if it[0] != "help"]
 
 
+STATUSES = {
+    "0": "The result was printed, or the help or the version that was asked for.",
+    "1": "The answer is not yes, as 'not linearizable' or 'refused'; or the input or the system has an error, which one line on standard error names.",
+    "2": "An argument, an option or the command line is wrong. Standard error says which.",
+    "3": "An allocation failed.",
+}
+ENTRY = re.compile(r"^ {2,8}(\S.*?)(?: {2,}(\S.*))?$")
+
+
 def man_page(said, version, date):
-    """The page of section 1, in roff: what is printed, as it is printed."""
-
-    def verbatim(text):
-        lines = text.rstrip("\n").replace("\\", "\\e").replace("-", "\\-").splitlines()
-        return ["\\&" + it for it in lines]
-
-    def heading(text):
-        return f'.SH "{text}"'
-
+    """Returns the man page of section 1, in roff."""
     first, rest = said.whole.split("\n\n", 1)
-    parts = [f'.TH LISTSET 1 "{date}" "listset {version}"', heading("NAME"), f"listset \\- {first[0].lower()}{first[1:]}"]
-    for name, text in {"synopsis": rest, **said.pages}.items():
-        parts += [heading(name.upper() if name == "synopsis" else f"listset {name}"), ".nf", *verbatim(text), ".fi"]
+    parts = [f'.TH LISTSET 1 "{date}" "listset {version}"', ".nh", ".ad l", ".SH NAME", f"listset \\- {first[0].lower()}{first[1:]}"]
+    parts += [".SH SYNOPSIS", *filled(rest)]
+    for name, text in said.pages.items():
+        parts += [f'.SH "listset {name}"', *filled(text)]
+    parts += ['.SH "EXIT STATUS"', *(line for it, text in STATUSES.items() for line in entry(it, text))]
+    parts += [".SH EXAMPLES", *(line for it in said.examples() for line in (".PP", ".nf", quoted(it), ".fi"))]
     return "\n".join(parts) + "\n"
+
+
+def quoted(text):
+    """Escapes a line for roff."""
+    return "\\&" + text.replace("\\", "\\e").replace("-", "\\-").replace("'", "\\(aq")
+
+
+def entry(name, text):
+    """Returns an entry of a list in roff: a name and its text. Further lines can follow."""
+    return [".TP", f"\\fB{quoted(name)}\\fR", *([quoted(text)] if text else [])]
+
+
+def filled(text):
+    """Returns the lines of a help in roff: paragraphs, and lists of names with texts. A text can continue in
+    further lines, which are indented more."""
+    for line in text.splitlines():
+        if not line:
+            yield ".PP"
+        elif line.startswith("          "):
+            yield quoted(line.strip())
+        elif (found := ENTRY.match(line)):
+            yield from entry(found[1], found[2])
+        elif not line.startswith("Example: "):
+            yield quoted(line)
 
 
 def for_bash(said):
@@ -54,7 +93,11 @@ _listset() {{
 {chr(10).join(rows)}
   esac
 {lists}
-  [ "${{COMP_WORDS[1]}}" != example ] || said="$said $(listset example | cut -d' ' -f1)"
+  case "${{COMP_WORDS[1]}}" in
+    example) said="$said $(listset example | cut -d' ' -f1)" ;;
+    help) said="{" ".join(said.pages)}" ;;
+  esac
+  [ "${{COMP_WORDS[COMP_CWORD - 1]}}" != --lacks ] || said="{" ".join(said.broken_lists())}"
   [ "$COMP_CWORD" -gt 1 ] || said="{" ".join(said.about)} --help --version"
   mapfile -t COMPREPLY < <(compgen -W "$said" -- "$2")
 }}
@@ -68,13 +111,15 @@ def for_zsh(said):
         return re.sub(r"[:\[\]'\\]", "", about[:70])
 
     def spec(name, value, about):
-        return f"'--{name}[{told(about)}]" + (f":{value}:'" if value else "'")
+        names = f"({' '.join(said.broken_lists())})" if name == "lacks" else ""
+        return f"'--{name}[{told(about)}]" + (f":{value}:{names}'" if value else "'")
 
     rows = []
     for name in said.pages:
         options = " ".join(spec(*it) for it in said.options(name))
         files = "'*:list:(" + LISTS + ")'" if name in OF_A_LIST else "'*:file:_files'"
         rows.append(f"  {name}) _arguments {options} {files} ;;")
+    rows.append(f"  help) _arguments '1:command:({' '.join(said.pages)})' ;;")
     words = [f"  '{name}:{told(about)}'" for name, about in said.about.items()]
     return f"""#compdef listset
 local -a words_of_listset
@@ -91,13 +136,16 @@ esac
 
 
 def for_fish(said):
-    def quoted(text):
+    def in_quotes(text):
         return "'" + text.replace("\\", "\\\\").replace("'", "\\'")[:70] + "'"
 
-    rows = [f"complete -c listset -n __fish_use_subcommand -f -a {name} -d {quoted(about)}" for name, about in said.about.items()]
+    rows = [f"complete -c listset -n __fish_use_subcommand -f -a {name} -d {in_quotes(about)}" for name, about in said.about.items()]
+    rows.append(f"complete -c listset -n '__fish_seen_subcommand_from help' -f -a '{' '.join(said.pages)}'")
     for name in said.pages:
         seen = f"-n '__fish_seen_subcommand_from {name}'"
-        rows += [f"complete -c listset {seen} -l {it}{' -x' * bool(value)} -d {quoted(about)}" for it, value, about in said.options(name)]
+        for it, value, about in said.options(name):
+            names = f" -a '{' '.join(said.broken_lists())}'" if it == "lacks" else ""
+            rows.append(f"complete -c listset {seen} -l {it}{' -x' * bool(value)}{names} -d {in_quotes(about)}")
         rows += [f"complete -c listset {seen} -a '{LISTS}'"] * (name in OF_A_LIST)
     examples = "complete -c listset -n '__fish_seen_subcommand_from example' -f -a \"(listset example | string split -f1 ' ')\""
     return "\n".join(["# completions of listset for fish", *rows, examples, ""])

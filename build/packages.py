@@ -1,5 +1,6 @@
-"""The packages of a release: files, by their names and bytes, as a .tar.gz, a .deb for dpkg, a wheel for pip, and SHA256SUMS. The
-same files make the same bytes, by no clock and no owner but those that are given."""
+"""The package formats of a release: a .tar.gz, a .deb for dpkg, a wheel for pip, and SHA256SUMS. The input is
+a dict of names and bytes. Equal files make equal packages: no clock or owner is used except the given
+ones."""
 
 import base64
 import gzip
@@ -11,11 +12,12 @@ import zipfile
 
 NO_LICENCE = "No licence is given: the owner has not chosen one. All rights are reserved."
 PROGRAMS = ("bin/", "usr/bin/")
-MEMBER = "{:<16}{:<12}{:<6}{:<6}{:<8}{:<10}`\n"  # the head of a member of an ar archive
+MEMBER = "{:<16}{:<12}{:<6}{:<6}{:<8}{:<10}`\n"  # the header of a member of an ar archive
 
 
 def files_below(folder, to="", leave=()):
-    """The files below a folder, named from `to` on, but for those in folders, or of names, in `leave`."""
+    """Returns the files below a folder, with names that begin with `to`, without the folders and names in
+    `leave`."""
     found = (it for it in sorted(folder.rglob("*")) if it.is_file() and it.suffix != ".pyc")
     return {f"{to}{it.relative_to(folder)}": it.read_bytes() for it in found if not set(it.relative_to(folder).parts) & set(leave)}
 
@@ -25,7 +27,7 @@ def packed(content):
 
 
 def tar(packed_files, root, when):
-    """A .tar.gz of the files below the folder `root`, all of the time `when`, in seconds."""
+    """Returns a .tar.gz of the files below the folder `root`, all with the time `when`, in seconds."""
     made = io.BytesIO()
     folders = {str(it) for name in packed_files for it in pathlib.PurePosixPath(root + name).parents} - {"."}
     with tarfile.open(fileobj=made, mode="w", format=tarfile.USTAR_FORMAT) as archive:
@@ -41,7 +43,8 @@ def tar(packed_files, root, when):
 
 
 def deb(packed_files, version, about, when):
-    """A package of Debian, for amd64: an ar archive of the version of its form, what dpkg is told, and the files below /."""
+    """Returns a Debian package for amd64: an ar archive with the format version, the control data, and the
+    files below /."""
     control = f"""Package: listset
 Version: {version}
 Architecture: amd64
@@ -68,7 +71,7 @@ Description: concurrent list sets, and a judge of recorded calls
 
 
 def wheel(packed_files, version, tag, about):
-    """A wheel of Python with these files, for the machines that `tag` names."""
+    """Returns a Python wheel with these files, for the machines of `tag`."""
     info = f"listset-{version}.dist-info"
     head = f"Metadata-Version: 2.1\nName: listset\nVersion: {version}\nSummary: Concurrent list sets and a judge of recorded calls\n"
     told = {
@@ -82,7 +85,7 @@ def wheel(packed_files, version, tag, about):
     made = io.BytesIO()
     with zipfile.ZipFile(made, "w", zipfile.ZIP_DEFLATED) as archive:
         for name, content in packed_files.items():
-            entry = zipfile.ZipInfo(name)  # of 1980, the first year that a zip file knows
+            entry = zipfile.ZipInfo(name)  # dated 1980, the first year of the zip format
             entry.external_attr, entry.compress_type = 0o100644 << 16, zipfile.ZIP_DEFLATED
             archive.writestr(entry, content)
     return made.getvalue()
@@ -93,5 +96,5 @@ def sum_in_wheel(content):
 
 
 def sums(packed_files):
-    """The file SHA256SUMS of these files, for `sha256sum -c`."""
+    """Returns the file SHA256SUMS of these files, for `sha256sum -c`."""
     return "".join(f"{hashlib.sha256(content).hexdigest()}  {name}\n" for name, content in sorted(packed_files.items())).encode()

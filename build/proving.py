@@ -1,9 +1,13 @@
-"""Proves crates by `rt ci`, in a copy of the repository, and brings the proved programs here."""
+"""Proves crates with `rt ci`, in a copy of the repository, and copies the proved programs here."""
 
+import contextlib
 import os
+import pathlib
 import re
 import shutil
 import subprocess
+import threading
+import time
 
 import crates_txt
 import lists
@@ -11,47 +15,94 @@ import processes
 import toolchain
 import version_stamp
 
-# What rt says of a crate that it is done with, and of what is not proved
+SECONDS_BETWEEN = 60  # between two lines about the crates in progress
+MINUTES_OF_A_CRATE = 2  # on one processor, on average
+# Patterns for the output of rt: a crate is done, and something is not proved
 IS_DONE = re.compile(r"rt: (\w+) (?:proved|is kept: .*)")
 IS_ERROR = re.compile(r"(^|: )error[:[]|it is not proved that|^rt: \w+ NOT PROVED|^rt: .*FAILED")
 
 
 def prove(room, names, tell, is_whole=False):
-    """Proves these crates in the folder `room`, and gives the status of rt ci. `tell` gets each of its lines as it comes, with this repository
-    in place of the copy. The libraries stay there. The whole repository has the lists of examples/lists, too."""
+    """Proves these crates in the folder `room` and returns the status of rt ci. `tell` receives each line of
+    output, with the folder of this repository in place of the copy's. The libraries remain in `room`. With
+    `is_whole` the copy also has the lists of examples/lists."""
     toolchain.folder()
     crates_txt.lay_out(room, names, is_whole)
     if is_whole:
         lists.add_exercises(room)
     how = {"stdin": subprocess.DEVNULL, "stdout": subprocess.PIPE, "stderr": subprocess.STDOUT, "text": True, "errors": "replace"}
-    with subprocess.Popen([*processes.guarded(), "rt", "ci"], cwd=room, **how) as running:
-        for line in running.stdout:
-            tell(line.rstrip("\n").replace(str(room), str(crates_txt.TOP)))
+    # (rt leaves its own temporary files if it is ended)
+    with processes.room("rt-ci") as temporary:
+        environment = {**os.environ, "TMPDIR": str(temporary)}
+        with subprocess.Popen([*processes.guarded(), "rt", "ci"], cwd=room, env=environment, **how) as running:
+            for line in running.stdout:
+                tell(line.rstrip("\n").replace(str(room), str(crates_txt.TOP)))
     return running.returncode
 
 
+def crates_in_work(room):
+    """Returns the crates for which processes in a folder are proving something now."""
+    found = set()
+    for process in pathlib.Path("/proc").glob("[0-9]*"):
+        with contextlib.suppress(OSError):
+            words = (process / "cmdline").read_text(errors="replace").split("\0")
+            if "--crate-name" in words[:-1] and os.readlink(process / "cwd").startswith(str(room)):
+                found.add(words[words.index("--crate-name") + 1])
+    return sorted(found)
+
+
+def minutes_since(began):
+    return f"{(time.monotonic() - began) / 60:.1f} min"
+
+
+@contextlib.contextmanager
+def telling_each_minute(room, tell, began):
+    """Prints the crates in progress once a minute, until the block ends."""
+    ended = threading.Event()
+
+    def tell_crates():
+        while not ended.wait(SECONDS_BETWEEN):
+            if names := crates_in_work(room):
+                tell(f"{minutes_since(began)}: at work on {', '.join(names)}")
+
+    thread = threading.Thread(target=tell_crates, daemon=True)
+    thread.start()
+    try:
+        yield
+    finally:
+        ended.set()
+        thread.join()
+
+
 def prove_below(room, names, tell):
-    """Proves these crates and those below them in the folder `room`, tells of each that it is done, and raises NotBuilt if one is not proved."""
-    names, lines, done = crates_txt.below(names), [], []
+    """Proves these crates and those below them in the folder `room`. Prints each crate that is done, and once
+    a minute those in progress. Raises NotBuilt if a crate is not proved."""
+    names, lines, done, began = crates_txt.below(names), [], [], time.monotonic()
+    processors = len(os.sched_getaffinity(0))
 
     def tell_done(line):
         lines.append(line)
         if found := IS_DONE.fullmatch(line):
             done.append(found[1])
-            tell(f"{found[1]} {'proved earlier' if 'is kept' in line else 'proved'}, {len(done)} of {len(names)}")
+            how = "proved earlier" if "is kept" in line else "proved"
+            tell(f"{minutes_since(began)}: {found[1]} {how}, {len(done)} of {len(names)}")
 
-    tell(f"proving {len(names)} crates by rt ci")
-    if prove(room, names, tell_done):
+    tell(f"proving {len(names)} crates by rt ci, about {max(1, round(MINUTES_OF_A_CRATE * len(names) / processors))} minutes if no other work needs the "
+         f"{processors} processors; Ctrl-C ends it and keeps what is proved")
+    with telling_each_minute(room, tell, began):
+        status = prove(room, names, tell_done)
+    if status:
         errors = [it for it in lines if IS_ERROR.search(it)] or lines
         raise toolchain.NotBuilt("\n".join(errors[-20:]))
 
 
 def take_program(name, room, began):
-    """Brings a proved program here, with its commit in it, as old as the sources that it is of."""
+    """Copies a proved program here and stamps it with its commit. Its time is that of the sources it was
+    built from."""
     made, program = room / "crates" / name / "out" / name, crates_txt.TOP / "crates" / name / "out" / name
     program.parent.mkdir(exist_ok=True)
     shutil.copy2(made, f"{program}.new")
     version_stamp.stamp(f"{program}.new", version_stamp.PROVED)
-    # (what was edited meanwhile is younger)
+    # (sources that were edited meanwhile are younger)
     os.utime(f"{program}.new", (began, began))
     os.replace(f"{program}.new", program)

@@ -1,5 +1,6 @@
-"""Reads sources of Rattle: the functions of a file with their contracts, and the blocks in which they stand. They lie in rt fmt's layout:
-an item that begins in a line ends in the next line of its own depth that is a bracket or ends with one."""
+"""Parses Rattle sources: the functions of a file with their contracts, and the blocks that contain them. The
+sources must be formatted by rt fmt: an item ends in the first line of the same indentation that is a
+bracket or ends with one."""
 
 import re
 from dataclasses import dataclass
@@ -7,13 +8,13 @@ from functools import cached_property
 
 FUNCTION = re.compile(r'( *)(pub(?:\(\w+\))? )?((?:const |unsafe |extern "C" )*)fn (\w+)')
 BLOCK = re.compile(r"^(?:pub )?(impl|trait)\b([^{;]*)(?=\{)", re.M)
-GHOST = re.compile(r"^\s+ghost (?!use\b|invariant\b)", re.M)  # (an invariant only narrows which values a type has)
+GHOST = re.compile(r"^\s+ghost (?!use\b|invariant\b)", re.M)  # (an invariant only restricts the values of a type)
 CLAUSES = re.compile(r"\s*(?:(?://[^\n]*)\s*)*(?:requires|ensures)\b")
 END_OF_SIGNATURE = re.compile(r"\n\s*(?:requires|ensures|//)|\s*\{|;(?![^\[\]\n]*\])")
 
 
 def braced(text, start):
-    """The end of the braces that open first after a place."""
+    """Returns the end of the first pair of braces after a place."""
     depth = 0
     for it in re.compile("[{}]").finditer(text, start):
         depth += 1 if it[0] == "{" else -1
@@ -24,7 +25,7 @@ def braced(text, start):
 
 @dataclass(frozen=True)
 class Block:
-    """An `impl` or a trait: which of both, its head, and its first and last line, from 1 on."""
+    """An `impl` or a trait: which of the two, its head, and its first and last line, from 1 on."""
 
     kind: str
     head: str
@@ -39,14 +40,14 @@ class Block:
 
     @property
     def ghosts(self):
-        """What it states beside its functions: views and laws."""
+        """Returns the views and laws in the block, which are not functions."""
         return "".join(self.text[it.start() : braced(self.text, it.start())] for it in GHOST.finditer(self.text))
 
 
 @dataclass(frozen=True)
 class Function:
-    """A function: the block that it stands in or None, and its lines: `top` is the first of its comment and attributes, and `first` to
-    `last` are those of the function itself, from 1 on."""
+    """A function: the block that contains it or None, and its lines, from 1 on. `top` is the first line of
+    its comment and attributes, `first` and `last` are those of the function itself."""
 
     block: Block
     name: str
@@ -58,7 +59,7 @@ class Function:
 
 
 class Source:
-    """A file, its blocks and its functions."""
+    """A file with its blocks and functions."""
 
     def __init__(self, text):
         self.text, self.lines = text, text.split("\n")
@@ -80,7 +81,7 @@ class Source:
         return Function(block, head[4], head[2] == "pub ", self.top_of(first, head[1]), first, self.last_of(first, head[1], contract), contract)
 
     def contract_at(self, first):
-        """The signature of a function that begins in a line, with the clauses after it."""
+        """Returns the signature of the function that begins in a line, with its clauses."""
         text = "\n".join(self.lines[first - 1 :])
         place = END_OF_SIGNATURE.search(text, text.index(")")).start()
         while CLAUSES.match(text, place):
@@ -88,7 +89,8 @@ class Source:
         return text[:place]
 
     def last_of(self, first, depth, contract):
-        """The last line of a function that begins in a line: that of its contract, if it has no body."""
+        """Returns the last line of the function that begins in a line: that of its contract, if it has no
+        body."""
         behind = first + contract.count("\n")
         if "\n".join(self.lines[first - 1 : behind]).removeprefix(contract).startswith(";"):
             return behind
@@ -96,7 +98,7 @@ class Source:
         return next((at for at, text in enumerate(self.lines[first - 1 :], first) if ends.match(text)), first)
 
     def top_of(self, first, depth):
-        """The first line of what stands above a function that begins at a line: comments and attributes."""
+        """Returns the first line of the comments and attributes above the function that begins in a line."""
         top = first
         while top > 1 and self.lines[top - 2].strip() and self.lines[top - 2] != depth + "}" and self.lines[top - 2].startswith(depth):
             top -= 1
@@ -104,6 +106,6 @@ class Source:
 
     @property
     def exports(self):
-        """The functions for C, each with the types of its parameters."""
+        """Returns the functions for C, each with the types of its parameters."""
         found = re.findall(r'extern "C" fn (\w+)\(([^)]*)\)', self.text)
         return {name: re.findall(r": ([^,\n]+)", parameters) for name, parameters in found}
