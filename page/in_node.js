@@ -12,8 +12,8 @@ const bundle = { names: null };
 
 // What some words mean in the page: a name that a module exports, or an expression of such names.
 function inPage(words) {
-  const file = path.join(__dirname, "page.js");
-  bundle.names ??= vm.runInThisContext(`${fs.readFileSync(file, "utf8")}\nlistsets`, { filename: file });
+  const textOf = (name) => fs.readFileSync(path.join(__dirname, name), "utf8");
+  bundle.names ??= vm.runInThisContext(`${textOf("page.js")}\n${textOf("more.js")}\nObject.assign(listsets.more, MORE), listsets`, { filename: "page.js" });
   const { names } = bundle;
   if (Object.hasOwn(names, words)) return names[words];
   return new Function(...Object.keys(names), `return (${words});`)(...Object.values(names));

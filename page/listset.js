@@ -1,32 +1,34 @@
 // The words of ./listset that need no proof and no toolchain, in node: the proved replayer as the module of this folder.
 //
 //     node page/listset.js replay [FILE]            node page/listset.js trace [--chain] [FILE]
-//     node page/listset.js judge [FILE]             node page/listset.js show [--svg] [--from M] [--to M] [--width N] [FILE]
+//     node page/listset.js judge [--brief] [--only KEY] [FILE]  node page/listset.js show [--svg] [--from M] [--to M] [--width N] [FILE]
 //     node page/listset.js check [FILE]             node page/listset.js example [--broken] [NAME]
 //     node page/listset.js draft [FILE]             node page/listset.js gen KIND THREADS QUOTA CALLS KEYS SEED
-//     node page/listset.js faults                   and of replay, trace and show [--lacks NAME]
-//     node page/listset.js --words                  the first words of these lines, one a line
+//     node page/listset.js explain [FILE]           node page/listset.js faults [CAUSE]
+//     node page/listset.js help [COMMAND]           and of replay, trace and show [--lacks NAME]; --help, --version
 //
-// FILE may be -, the word for the standard input. Output, line about a trouble and exit status are the program's
-// (docs/TEXTS.md), but that wrong words are one line. If node does not run the module it says so and ends with status 70, before
-// it reads anything.
+// FILE may be -, the word for the standard input. Output, line about an error and exit status are the program's (docs/TEXTS.md). At a
+// terminal a line below an error says what helps. If node does not run the module, or for run and serve, the script says so and ends with
+// status 70, before it reads anything; with LISTSET_ENGINE=other it ends so, and silently, wherever it would need the module.
 "use strict";
 
 const fs = require("fs");
-const { NO_ENGINE, NOT_RUN, inPage, startedEngine } = require("./in_node.js");
+const { NO_ENGINE, NOT_RUN, onlyKey, startedEngine } = parts();
 
 const LONGEST = 67108864; // bytes of an input that is no recording; what is longer is not read to its end
 const WRONG = 2; // the status of wrong words, and of a wrong value
-const USAGE =
-  "replay [--lacks NAME] [FILE], judge [FILE], check [FILE], trace [--chain] [--lacks NAME] [FILE], " +
-  "show [--svg] [--from M] [--to M] [--width N] [--lacks NAME] [FILE], draft [FILE], " +
-  "example [--broken] [NAME], gen KIND THREADS QUOTA CALLS KEYS SEED or faults";
+const MORE = "For more information, try '--help'.";
+
+// What the program prints of itself, by --help, --version and command.
+const HELP = require("./help.json");
+
+const ORIGIN = `commit ${"0".repeat(40)}\nproof unknown\n`; // as of a program of which neither is known
 
 // Of each command its flag and its options, the engine's function without the flag and with it, or that the judge reads the input in
 // pieces; whether its value is a file, and how many values it takes at most.
 const COMMANDS = {
   replay: { options: ["--lacks"], functions: ["listset_replay"], isOfFile: true },
-  judge: { isJudge: true },
+  judge: { flag: "--brief", options: ["--only"], isJudge: true, isOfFile: true },
   check: { functions: ["listset_check"], isOfFile: true },
   show: {
     flag: "--svg",
@@ -38,42 +40,127 @@ const COMMANDS = {
   draft: { functions: ["listset_draft"], isOfFile: true },
   example: { flag: "--broken", functions: ["listset_example", "listset_broken_example"] },
   gen: { functions: ["listset_gen"], most: 6 },
-  faults: { functions: ["listset_faults"], most: 0 },
+  run: { isBuilt: true, most: 7 },
+  serve: { isBuilt: true, most: 6 },
+  faults: { functions: ["listset_faults"] },
+  explain: { isExplain: true, isOfFile: true },
 };
 
-class WrongWords extends Error {}
+// What is printed instead of an answer of the engine: a text and a status.
+class Printed extends Error {
+  constructor(text, status) {
+    super(text);
+    this.status = status;
+  }
+}
+
+const usageOf = (name) => /^Usage: (.*)$/m.exec(HELP[name] ?? "")?.[1] ?? `listset ${name} [CAUSE]`;
+
+// Wrong words of a command, in the program's form.
+function wrongWords(error, usage, tip) {
+  const parts = [`error: ${error}`, ...(tip ? [`  tip: ${tip}`] : []), ...(usage ? [`Usage: ${usage}`] : []), MORE];
+  return new Printed(`${parts.join("\n\n")}\n`, WRONG);
+}
+
+const helpOf = (name) => new Printed(HELP[name] ?? HELP["--help"], 0);
+
+function parts() {
+  try {
+    return { ...require("./in_node.js"), ...require("./only.js") };
+  } catch (fault) {
+    if (fault.code !== "MODULE_NOT_FOUND") throw fault;
+    process.stderr.write("listset: in_node.js or only.js is not beside listset.js: take judge/listset.js, which needs no other file\n");
+    process.exit(1);
+  }
+}
 
 // What the words ask for: the command, whether its flag is on, the texts of its options by their names without hyphens, and its
 // values, which a word -- may stand before.
 function asked([name = "replay", ...words]) {
-  if (!Object.hasOwn(COMMANDS, name)) throw new WrongWords(`no command ${JSON.stringify(name)}`);
+  answerFirst(name, words);
+  if (!Object.hasOwn(COMMANDS, name)) throw unknownCommand(name);
   const found = { ...COMMANDS[name], name, isOn: false, texts: {}, values: [] };
   while (words.length > 0 && words[0] !== "--") take(found, words);
-  found.values.push(...words.slice(1));
-  const { values, most = 1 } = found;
-  if (values.length > most) throw new WrongWords(`${name} does not take ${JSON.stringify(values[most])}`);
+  words.slice(1).forEach((word) => addValue(found, word));
   return found;
 }
 
+// Answers what is asked of the program itself: help and the version.
+function answerFirst(name, words) {
+  if (name === "--help" || name === "-h") throw helpOf("--help");
+  if (name === "--version" || name === "-V") {
+    const isLong = name === "--version" && words.length === 1 && words[0] === "--long";
+    throw new Printed(HELP["--version"] + (isLong ? ORIGIN : ""), 0);
+  }
+  if (name === "help") {
+    if (words.length > 0 && words[0] !== "help" && !Object.hasOwn(COMMANDS, words[0])) throw unknownCommand(words[0]);
+    throw helpOf(words[0] ?? "--help");
+  }
+  if (name.startsWith("-") && name !== "-") throw wrongWords(`unexpected argument '${name.split("=")[0]}' found`, "listset [COMMAND]");
+}
+
+function unknownCommand(word) {
+  const alike = Object.keys(COMMANDS).filter((name) => distance(name, word) <= 2);
+  const tip = alike.length === 1 ? `a similar subcommand exists: '${alike[0]}'` : `some similar subcommands exist: ${alike.map((it) => `'${it}'`).join(", ")}`;
+  return wrongWords(`unrecognized subcommand '${word}'`, "listset [COMMAND]", alike.length > 0 ? tip : undefined);
+}
+
+// How many letters have to be changed, put in, left out or exchanged with the next one.
+function distance(one, other) {
+  const rows = Array.from({ length: one.length + 1 }, (_, at) => [at]);
+  for (let to = 1; to <= other.length; to += 1) rows[0][to] = to;
+  for (let from = 1; from <= one.length; from += 1) {
+    for (let to = 1; to <= other.length; to += 1) {
+      const isSame = one[from - 1] === other[to - 1];
+      rows[from][to] = Math.min(rows[from - 1][to] + 1, rows[from][to - 1] + 1, rows[from - 1][to - 1] + (isSame ? 0 : 1));
+      const isExchanged = from > 1 && to > 1 && one[from - 1] === other[to - 2] && one[from - 2] === other[to - 1];
+      if (isExchanged) rows[from][to] = Math.min(rows[from][to], rows[from - 2][to - 2] + 1);
+    }
+  }
+  return rows[one.length][other.length];
+}
+
 const isValue = (word) => word === "-" || !word.startsWith("-");
+
+function addValue(found, word) {
+  const { name, values, most = 1 } = found;
+  if (values.length === most) throw unexpected(name, word);
+  values.push(word);
+}
+
+const unexpected = (name, word) => wrongWords(`unexpected argument '${word}' found`, usageOf(name));
+
+const VALUE_NAMES = { "--lacks": "NAME", "--only": "KEY", "--from": "M", "--to": "M", "--width": "N" };
 
 // Takes the first of the words, and with an option its text.
 function take(found, words) {
   const word = words.shift();
   const [name, ...behind] = word.split("=");
   if (isValue(word)) {
-    found.values.push(word);
-  } else if (word === found.flag && !found.isOn) {
-    found.isOn = true;
-  } else if (found.options?.includes(name) && found.texts[name.slice(2)] === undefined) {
-    found.texts[name.slice(2)] = behind.length > 0 ? behind.join("=") : textBehind(name, words);
+    addValue(found, word);
+  } else if (word === "--help" || word === "-h") {
+    throw helpOf(found.name);
+  } else if (name === found.flag) {
+    takeFlag(found, word, behind);
+  } else if (found.options?.includes(name)) {
+    const shown = `${name} <${VALUE_NAMES[name]}>`;
+    const text = behind.length > 0 ? behind.join("=") : textBehind(shown, words, found.name);
+    if (found.texts[name.slice(2)] !== undefined) throw wrongWords(`the argument '${shown}' cannot be used multiple times`, usageOf(found.name));
+    found.texts[name.slice(2)] = text;
   } else {
-    throw new WrongWords(`${found.name} does not take ${JSON.stringify(word)}`);
+    throw unexpected(found.name, name.startsWith("--") ? name : word.slice(0, 2));
   }
 }
 
-function textBehind(name, words) {
-  if (words.length === 0 || !isValue(words[0])) throw new WrongWords(`${name} has nothing behind it`);
+function takeFlag(found, word, behind) {
+  if (behind.length > 0) throw wrongWords(`unexpected value '${behind.join("=")}' for '${found.flag}' found; no more were expected`, usageOf(found.name));
+  if (found.isOn) throw wrongWords(`the argument '${word}' cannot be used multiple times`, usageOf(found.name));
+  found.isOn = true;
+}
+
+function textBehind(shown, words, name) {
+  if (/^-[0-9]/.test(words[0] ?? "")) throw unexpected(name, words[0].slice(0, 2));
+  if (words.length === 0 || !isValue(words[0])) throw wrongWords(`a value is required for '${shown}' but none was supplied`);
   return words.shift();
 }
 
@@ -115,10 +202,58 @@ function readForEngine(input, piece) {
   }
 }
 
+// The few calls of one key of a recording that show its refusal.
+function keyed(engine, only, file) {
+  const bad = { status: WRONG, bytes: Buffer.from("listset: bad KEY\n") };
+  if (!/^(0|[1-9][0-9]{0,9})$/.test(only) || Number(only) >= 2 ** 32) return bad;
+  const bytes = bytesOf(opened(file));
+  if (bytes.length > LONGEST) return { status: 1, bytes: Buffer.from("listset: too long\n") };
+  const whole = engine.askBytes("listset_judge", bytes);
+  if (whole.text.startsWith("listset: ")) return whole;
+  const found = onlyKey(bytes.toString("latin1"), only, (text) => engine.ask("listset_judge", text).text);
+  return found === null ? bad : { status: 0, bytes: Buffer.from(found) };
+}
+
+const REFUSED = "not linearizable\n";
+const OF_A_FILE = "\nlistset judge FILE, with a file, also says what is wrong\n";
+const NOT_TOLD = "\nwhat is wrong is not told: memory ran out, or the file has changed since it was judged\n";
+
+// The lines of a verdict without advice and without a clash.
+const BRIEF = /^(ok |\d+ of them |the recording was cut off|not linearizable|no order explains )/;
+
+function briefly(verdict) {
+  const lines = Buffer.from(verdict.bytes).toString().split("\n");
+  if (!BRIEF.test(lines[0])) return verdict;
+  return { ...verdict, bytes: Buffer.from(lines.filter((line) => line === "" || BRIEF.test(line)).join("\n")) };
+}
+
+// The verdict on a recording, or the calls of one key; and, of a refusal, what is wrong: a file is read once more for that, and a pipe is not.
+function judged(engine, isBrief, only, file = "-") {
+  if (only !== undefined) return keyed(engine, only, file);
+  const verdict = engine.judgeFrom(opened(file));
+  if (isBrief) return briefly(verdict);
+  if (!Buffer.from(verdict.bytes).toString().startsWith(REFUSED)) return verdict;
+  const more = file === "-" ? Buffer.from(OF_A_FILE) : whatIsWrong(engine, file, verdict.bytes.filter((byte) => byte === 10).length);
+  return { ...verdict, bytes: Buffer.concat([verdict.bytes, more]) };
+}
+
+// What is wrong in the recording in a file, below so many lines; one line if that fails, which changes no verdict.
+function whatIsWrong(engine, file, used) {
+  try {
+    const { status, bytes } = engine.whyFrom(opened(file), used);
+    if (status === 1) return bytes;
+  } catch {
+    // (the line below says so)
+  }
+  return Buffer.from(NOT_TOLD);
+}
+
 // What the engine answers to the words. Options are looked at before the file is opened.
-function answerTo(engine, { name, functions, isJudge, isOn, texts: { lacks, ...texts }, isOfFile, values }) {
-  if (isJudge) return engine.judgeFrom(opened(values[0]));
+function answerTo(engine, { name, functions, isJudge, isExplain, isOn, texts: { lacks, only, ...texts }, isOfFile, values }) {
+  if (isJudge) return judged(engine, isOn, only, values[0]);
+  if (isExplain) return explained(engine, values[0]);
   const wanted = functions[Number(isOn)];
+  if (name === "faults" && values.length > 0) return engine.ask("listset_fault", values[0]);
   if (name === "example") return values.length > 0 ? engine.ask(wanted, values[0]) : engine.ask("listset_examples");
   if (!isOfFile) return engine.ask(wanted, values.join("\0"));
   const options = ["from", "to", "width"].map((name) => (texts[name] === undefined ? "" : `=${texts[name]}`)).join("\0");
@@ -127,6 +262,25 @@ function answerTo(engine, { name, functions, isJudge, isOn, texts: { lacks, ...t
   const tried = ask(Buffer.alloc(0));
   return tried.status === WRONG ? tried : ask(bytesOf(opened(values[0])));
 }
+
+// What explain prints of a file, also of one that is not read.
+function explained(engine, file = "-") {
+  const name = file === "-" ? "FILE" : file;
+  try {
+    return engine.askBytes("listset_explain", Buffer.from(name), bytesOf(opened(file)));
+  } catch (fault) {
+    if (fault.syscall === undefined) throw fault;
+    return { status: 0, bytes: Buffer.from(`${name}: ${NOT_READ[fault.code] ?? "the system did not read this file."}\n`) };
+  }
+}
+
+const NOT_READ = {
+  ENOENT: "there is no such file. Look at its name, and at the folder that you are in: ls",
+  EACCES: "you have no right to read this file. To see whose it is: ls -l",
+  EPERM: "you have no right to read this file. To see whose it is: ls -l",
+  EISDIR: "this is a folder. Name a file in it.",
+  ENOTDIR: "a part of this path is a file, and no folder.",
+};
 
 function answerOrTrouble(engine, words) {
   try {
@@ -149,35 +303,72 @@ function isOutputClosed() {
   }
 }
 
-// Writes the answer on standard output, or the line about a trouble, which begins as no answer does, on the other.
-function write({ status, bytes }) {
+// Writes the answer on standard output, or the line about an error, which begins as no answer does, on the other.
+function write({ status, bytes }, hint) {
   const text = Buffer.from(bytes);
   process.exitCode = status;
-  if (text.subarray(0, 9).toString("latin1") === "listset: ") {
-    process.stderr.write(text);
-    return;
-  }
-  if (text.length > 0 && isOutputClosed()) return tellCannotWrite();
-  process.stdout.on("error", tellCannotWrite);
+  if (status !== 0 && text.subarray(0, 9).toString("latin1") === "listset: ") return tellError(text, hint);
+  if (text.length > 0 && isOutputClosed()) return tellError("listset: cannot write\n");
+  process.stdout.on("error", () => tellError("listset: cannot write\n"));
   process.stdout.write(text);
 }
 
-function tellCannotWrite() {
-  process.exitCode = 1;
-  process.stderr.write("listset: cannot write\n");
+// Writes an error, and at a terminal what helps.
+function tellError(text, hint = () => "") {
+  if (process.exitCode === 0) process.exitCode = 1;
+  const more = process.stderr.isTTY ? hint(text.toString()) : "";
+  process.stderr.write(more ? `${text}${more}\n` : text);
+}
+
+// What helps with an error of these words.
+function hintOn(engine, words) {
+  return (said) => {
+    const { name, isOfFile, values } = words;
+    const [, value] = /^listset: bad (\w+)\n/.exec(said) ?? [];
+    const [, cause] = /^listset: line \d+: (\w+)/.exec(said) ?? [];
+    if (value) return valueHint(words, value);
+    if (isOfFile && values.length > 0 && values[0] !== "-") return lineAbout(explained(engine, values[0]).bytes, cause);
+    if (cause) return `listset faults ${cause} explains it; of a text in a file, listset explain FILE says what is wrong there`;
+    return /cannot read/.test(said) ? `Standard input could not be read. Name a file: listset ${name} FILE` : "";
+  };
+}
+
+// The last line of an explanation: what is wrong, and what to do. If a command has another kind of text for its input, the kind comes first.
+function lineAbout(bytes, cause) {
+  const lines = Buffer.from(bytes).toString().trimEnd().split("\n");
+  const kind = cause === "Header" && !lines[0].includes("is no text of listset") ? /^(.*?), and /.exec(lines[0])?.[1] : undefined;
+  return kind ? `${kind}. ${lines.at(-1)}` : lines.at(-1);
+}
+
+// What an argument or an option has to be, by the help of its command.
+function valueHint({ name, texts, values }, value) {
+  const help = HELP[name] ?? "";
+  const ofOption = new RegExp(`--${value.toLowerCase()} <[MN]> +(.*)`).exec(help)?.[1];
+  if (ofOption) return `${value} '${texts[value.toLowerCase()]}' is wrong. ${ofOption}`;
+  const range = new RegExp(`^ +\\[${value}\\] +(.*)`, "m").exec(help)?.[1];
+  if (name === "example") return "listset example lists the names; with --broken not each of them has a report";
+  if (name === "faults") return "listset faults lists all causes";
+  if (value === "KEY") return "KEY is a number from 0 to 4294967295";
+  const given = values[usageOf(name).split(" ").indexOf(value) - 2];
+  return given === undefined ? `${value} is missing. Usage: ${usageOf(name)}` : `${value} '${given}' is wrong. ${range}`;
 }
 
 async function main(given) {
-  if (given[0] === "--words") return process.stdout.write(`${Object.keys(COMMANDS).join("\n")}\n`);
   const words = asked(given);
-  const engine = await startedEngine(readForEngine);
-  if (engine !== null) return write(answerOrTrouble(engine, words));
-  process.stderr.write(`listset: ${NOT_RUN}\n`);
+  const isOther = process.env.LISTSET_ENGINE === "other";
+  const engine = words.isBuilt || isOther ? null : await startedEngine(readForEngine);
+  if (engine !== null) return write(answerOrTrouble(engine, words), hintOn(engine, words));
+  const why = words.isBuilt ? `${words.name} needs a built program, which Node does not have (README.md, "Try it")` : NOT_RUN;
+  if (process.env.LISTSET_ENGINE === undefined) process.stderr.write(`listset: ${why}\n`);
   process.exitCode = NO_ENGINE;
 }
 
 main(process.argv.slice(2)).catch((fault) => {
-  const isWrong = fault instanceof WrongWords;
-  process.stderr.write(`listset: ${fault.message}${isWrong ? `; the words are ${USAGE}` : ""}\n`);
-  process.exitCode = isWrong ? WRONG : 1;
+  if (!(fault instanceof Printed)) {
+    process.exitCode = 1;
+    return process.stderr.write(`listset: ${fault.message}\n`);
+  }
+  process.exitCode = fault.status;
+  if (fault.status === 0) return write({ status: 0, bytes: Buffer.from(fault.message) });
+  process.stderr.write(fault.message);
 });

@@ -40,7 +40,7 @@ export const CLASSICS = {
  "same-gap": {
   "question": "Both threads have walked without locks to the gap between head and tail. Thread 1 adds its key first. What does thread 0 do once it has its two locks?",
   "turnsOn": "It looks at pred again: the head leads to the node of 7 now. So it releases its locks and walks again.",
-  "without": "A validation that only finds pred, and does not look where it leads, links 5 to the tail, and 7 is lost.",
+  "without": "If the validation finds pred, but does not compare its link, the add links 5 to the tail, and 7 is lost.",
   "turns": [
    12,
    17
@@ -73,9 +73,9 @@ export const CLASSICS = {
   ]
  },
  "marked-pred": {
-  "question": "As in stale-pred, but this list has no second walk. What warns thread 0?",
+  "question": "Thread 0's pred is removed, and no second walk follows. What warns thread 0?",
   "turnsOn": "The mark in the link of pred, which a remove sets before it unlinks the node. One load does the work of OptimisticList's second walk.",
-  "without": "5 is added behind the node of 3, which is unlinked (marks-in-validation).",
+  "without": "5 is added after the node of 3, which was unlinked (marks-in-validation).",
   "turns": [
    25,
    31

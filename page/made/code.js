@@ -4,7 +4,7 @@
 export const CODE = {
   "crates/lset_loops/src/coarse.rt": [
     { name: "walk", first: 15, steps: [{"line": 22, "rows": [2]}, {"line": 24, "rows": [3]}, {"line": 28, "rows": [4]}], calls: [], text: `
-/// Walks from the head to the first key that is not below that of the call.
+/// Walks from the head to the first key that is not below the call's.
 fn walk<P: Pause, N: Rounds>(caller: &Caller<CoarseList, P>, place: &mut TableSeat) -> Option<Found>
     requires { AtHead caller.now.origin caller.now.slots place.old }
     ensures { IfSome result (λ f. StopsAt caller.now.origin caller.now.slots f place.new) }
@@ -24,7 +24,7 @@ fn walk<P: Pause, N: Rounds>(caller: &Caller<CoarseList, P>, place: &mut TableSe
     None
 }` },
     { name: "act", first: 35, steps: [{"line": 46, "rows": [5, 6, 7]}, {"line": 50, "rows": [8]}, {"line": 51, "rows": [9]}], calls: [], text: `
-/// Does what the call does at the key that was found.
+/// Adds, removes or only replies, at the key that the walk has found.
 fn act<P: Pause>(
     caller: &Caller<CoarseList, P>,
     place: &mut TableSeat,
@@ -47,8 +47,8 @@ fn act<P: Pause>(
     }
 }` },
     { name: "coarse_within", first: 58, steps: [{"line": 71, "rows": [1]}, {"line": 74, "rows": [10]}], calls: [[72, "walk"], [73, "act"]], text: `
-/// Makes a whole call: it takes the lock, walks to its key, acts there, and releases the lock. (Herlihy and Shavit's
-/// coarse-grained list.) \`None\` where a loop of it has made \`N::MOST\` rounds.
+/// Makes a whole call: takes the lock, walks to the key, acts there, and releases the lock. (Herlihy and Shavit's coarse-grained
+/// list.) Returns \`None\` if one of its loops has made \`N::MOST\` rounds.
 pub fn coarse_within<P: Pause, N: Rounds>(
     table: &Words<CoarseList>,
     place: &mut TableSeat,
@@ -69,7 +69,7 @@ pub fn coarse_within<P: Pause, N: Rounds>(
   ],
   "crates/lset_loops/src/fine.rt": [
     { name: "walk", first: 16, steps: [{"line": 23, "rows": [2]}, {"line": 25, "rows": [3]}, {"line": 26, "rows": [4]}, {"line": 30, "rows": [5]}, {"line": 31, "rows": [6]}], calls: [], text: `
-/// Walks hand over hand from the head, which is locked, to the first key that is not below that of the call.
+/// Walks hand over hand from the locked head to the first key that is not below the call's.
 fn walk<P: Pause, N: Rounds>(caller: &Caller<FineList, P>, place: &mut TableSeat) -> Option<Found>
     requires { AtHead caller.now.origin caller.now.slots place.old }
     ensures { IfSome result (λ f. StopsAt caller.now.origin caller.now.slots f place.new) }
@@ -91,7 +91,7 @@ fn walk<P: Pause, N: Rounds>(caller: &Caller<FineList, P>, place: &mut TableSeat
     None
 }` },
     { name: "act", first: 38, steps: [{"line": 49, "rows": [7, 8, 9]}, {"line": 53, "rows": [10]}, {"line": 54, "rows": [11]}], calls: [], text: `
-/// Does what the call does at the key that was found, between two nodes that it has locked.
+/// Adds, removes or only replies, at the key that the walk has found, between two locked nodes.
 fn act<P: Pause>(
     caller: &Caller<FineList, P>,
     place: &mut TableSeat,
@@ -114,8 +114,8 @@ fn act<P: Pause>(
     }
 }` },
     { name: "fine_within", first: 61, steps: [{"line": 74, "rows": [1]}, {"line": 77, "rows": [12]}, {"line": 78, "rows": [13]}], calls: [[75, "walk"], [76, "act"]], text: `
-/// Makes a whole call: it walks to its key, locking each node before it gives up the one behind it, acts there, and gives
-/// both locks back. (Herlihy and Shavit's fine-grained list.) \`None\` where a loop of it has made \`N::MOST\` rounds.
+/// Makes a whole call: walks to the key, locking each node before it releases the one before, acts there, and releases both
+/// locks. (Herlihy and Shavit's fine-grained list.) Returns \`None\` if one of its loops has made \`N::MOST\` rounds.
 pub fn fine_within<P: Pause, N: Rounds>(
     table: &Words<FineList>,
     place: &mut TableSeat,
@@ -137,7 +137,7 @@ pub fn fine_within<P: Pause, N: Rounds>(
   ],
   "crates/lset_loops/src/optimistic.rt": [
     { name: "walk", first: 22, steps: [{"line": 37, "rows": [2]}, {"line": 42, "rows": [3]}], calls: [], text: `
-/// Walks from the head, whose link led to \`first\`, to the first key that is not below that of the call.
+/// Walks from the head, whose link led to \`first\`, to the first key that is not below the call's.
 #[inline(always)]
 fn walk<P: Pause, N: Rounds>(
     caller: &Caller<OptimisticList, P>,
@@ -165,8 +165,8 @@ fn walk<P: Pause, N: Rounds>(
     None
 }` },
     { name: "reaches", first: 50, steps: [{"line": 68, "rows": [6]}, {"line": 70, "rows": [7]}], calls: [], text: `
-/// Walks a second time from the head, as far as \`pred\`. Answers whether it came there: not where it saw a key above that of
-/// \`pred\`.
+/// Walks a second time from the head, up to \`pred\`. Returns whether the walk reached \`pred\`: it fails if it sees a key above that
+/// of \`pred\`.
 #[inline(always)]
 fn reaches<P: Pause, N: Rounds>(
     caller: &Caller<OptimisticList, P>,
@@ -196,7 +196,7 @@ fn reaches<P: Pause, N: Rounds>(
     None
 }` },
     { name: "validate", first: 81, steps: [{"line": 94, "rows": [8]}], calls: [[91, "reaches"]], text: `
-/// Whether \`pred\` is still in the list and leads to \`curr\`, both of which are locked.
+/// Checks that \`pred\` is still in the list and leads to \`curr\`. Both are locked.
 fn validate<P: Pause, N: Rounds>(
     caller: &Caller<OptimisticList, P>,
     place: &mut TableSeat,
@@ -216,7 +216,7 @@ fn validate<P: Pause, N: Rounds>(
     Some(true)
 }` },
     { name: "act", first: 101, steps: [{"line": 112, "rows": [9, 10, 11]}, {"line": 116, "rows": [12]}, {"line": 117, "rows": [13]}], calls: [], text: `
-/// Does what the call does at the key that was found, between two nodes that it has locked.
+/// Adds, removes or only replies, at the key that the walk has found, between two locked nodes.
 fn act<P: Pause>(
     caller: &Caller<OptimisticList, P>,
     place: &mut TableSeat,
@@ -239,9 +239,9 @@ fn act<P: Pause>(
     }
 }` },
     { name: "optimistic_within", first: 124, steps: [{"line": 138, "rows": [1], "begins": true, "answers": false}, {"line": 142, "rows": [4]}, {"line": 143, "rows": [5]}, {"line": 146, "rows": [14], "begins": false, "answers": true}, {"line": 147, "rows": [15], "begins": false, "answers": true}, {"line": 150, "rows": [14], "begins": false, "answers": false}, {"line": 151, "rows": [15], "begins": false, "answers": false}, {"line": 152, "rows": [1], "begins": false, "answers": false}], calls: [[140, "walk"], [144, "validate"], [145, "act"]], text: `
-/// Makes a whole call: it walks to its key without a lock, locks the two nodes there, looks by a second walk whether they
-/// are still neighbours in the list, and acts, or releases them and starts over. (Herlihy and Shavit's optimistic list.)
-/// \`None\` where a loop of it has made \`N::MOST\` rounds.
+/// Makes a whole call: walks to the key without a lock, locks the two nodes there, and checks by a second walk that they are
+/// still neighbours in the list. If they are, acts and releases them; else releases them and starts over. (Herlihy and Shavit's
+/// optimistic list.) Returns \`None\` if one of its loops has made \`N::MOST\` rounds.
 pub fn optimistic_within<P: Pause, N: Rounds>(
     table: &Words<OptimisticList>,
     place: &mut TableSeat,
@@ -274,7 +274,7 @@ pub fn optimistic_within<P: Pause, N: Rounds>(
   ],
   "crates/lset_loops/src/lazy.rt": [
     { name: "walk", first: 17, steps: [{"line": 31, "rows": [2]}, {"line": 35, "rows": [3]}], calls: [], text: `
-/// Walks from the head, whose link led to \`first\`, to the first key that is not below that of the call.
+/// Walks from the head, whose link led to \`first\`, to the first key that is not below the call's.
 #[inline(always)]
 fn walk<P: Pause, N: Rounds>(
     caller: &Caller<LazyList, P>,
@@ -299,7 +299,7 @@ fn walk<P: Pause, N: Rounds>(
     None
 }` },
     { name: "validate", first: 42, steps: [{"line": 51, "rows": [6]}, {"line": 55, "rows": [7]}], calls: [], text: `
-/// Whether \`pred\` leads to \`curr\`, and neither has a mark: then the answer is the node behind \`curr\`.
+/// Checks that \`pred\` leads to \`curr\` and that neither is marked. Returns the next node of \`curr\`; \`None\` if the check fails.
 fn validate<P: Pause>(
     caller: &Caller<LazyList, P>,
     place: &mut TableSeat,
@@ -319,7 +319,7 @@ fn validate<P: Pause>(
     Some(Node::behind(after))
 }` },
     { name: "act", first: 62, steps: [{"line": 74, "rows": [8, 9, 10]}, {"line": 78, "rows": [11]}, {"line": 79, "rows": [12]}], calls: [], text: `
-/// Does what the call does at the key that was found, between two nodes that it has locked.
+/// Adds, removes or only replies, at the key that the walk has found, between two locked nodes.
 fn act<P: Pause>(
     caller: &Caller<LazyList, P>,
     place: &mut TableSeat,
@@ -343,9 +343,9 @@ fn act<P: Pause>(
     }
 }` },
     { name: "lazy_change_within", first: 86, steps: [{"line": 101, "rows": [1], "begins": true, "answers": false}, {"line": 104, "rows": [4]}, {"line": 105, "rows": [5]}, {"line": 109, "rows": [13], "begins": false, "answers": true}, {"line": 110, "rows": [14], "begins": false, "answers": true}, {"line": 114, "rows": [13], "begins": false, "answers": false}, {"line": 115, "rows": [14], "begins": false, "answers": false}, {"line": 116, "rows": [1], "begins": false, "answers": false}], calls: [[103, "walk"], [106, "validate"], [108, "act"]], text: `
-/// Makes a whole \`add\` or \`remove\` on a LazyList: it walks to its place without a lock, locks the two nodes there, looks
-/// whether they are still neighbours in the list, and acts, or releases them and starts over. (Herlihy and Shavit's lazy
-/// list, after Heller and others.) \`None\` where a loop of it has made \`N::MOST\` rounds.
+/// Makes a whole \`add\` or \`remove\` on a LazyList: walks to the key without a lock, locks the two nodes there, and checks that
+/// they are still neighbours in the list. If they are, acts and releases them; else releases them and starts over. (Herlihy and
+/// Shavit's lazy list, after Heller and others.) Returns \`None\` if one of its loops has made \`N::MOST\` rounds.
 pub fn lazy_change_within<P: Pause, N: Rounds>(
     table: &Words<LazyList>,
     place: &mut TableSeat,
@@ -382,11 +382,11 @@ pub fn lazy_change_within<P: Pause, N: Rounds>(
   ],
   "crates/lset_loops/src/reads.rt": [
     { name: "contains_on", first: 42, steps: [{"line": 59, "rows": [20], "begins": true, "answers": false}, {"line": 61, "rows": [21]}, {"line": 67, "rows": [22]}, {"line": 70, "rows": [20], "begins": false, "answers": false}], calls: [], text: `
-/// Makes a whole \`contains\` of \`key\`: it goes on to the first key that is not below its own, and asks for the mark of a node
-/// that has it. (Herlihy and Shavit's wait-free \`contains\`.)
+/// Makes a whole \`contains\` of \`key\`: walks to the first key that is not below its own, and checks the mark of the node that has
+/// it. (Herlihy and Shavit's wait-free \`contains\`.)
 ///
-/// \`place\` is the place of an idle seat of these words, and \`slots\` are those of its thread. The answer is the slots and the
-/// reply. \`pause\` is asked after each step that does not answer. It does not block, and returns.
+/// \`place\` is an idle seat of these words, and \`slots\` are the slots of its thread. Returns the slots and the reply. \`pause\` is
+/// called after each step that does not end the call. Does not block, and always returns.
 pub fn contains_on<M: ReadsByRows, P: Pause>(
     table: &Words<M>,
     place: &mut TableSeat,
@@ -418,8 +418,8 @@ pub fn contains_on<M: ReadsByRows, P: Pause>(
   ],
   "crates/lset_loops/src/lock_free.rt": [
     { name: "find", first: 16, steps: [{"line": 30, "rows": [2]}, {"line": 33, "rows": [3]}, {"line": 39, "rows": [1], "begins": false, "answers": false}, {"line": 42, "rows": [4]}], calls: [], text: `
-/// Walks from the head, whose link led to \`first\`, to the first key that is not below that of the call, and takes marked
-/// nodes out on its way (Herlihy and Shavit's \`find\`).
+/// Walks from the head, whose link led to \`first\`, to the first key that is not below the call's, and unlinks marked nodes on the
+/// way (Herlihy and Shavit's \`find\`).
 fn find<P: Pause, N: Rounds>(
     caller: &Caller<LockFreeList, P>,
     place: &mut TableSeat,
@@ -455,7 +455,7 @@ fn find<P: Pause, N: Rounds>(
     None
 }` },
     { name: "attempt", first: 53, steps: [{"line": 65, "rows": [5, 6]}, {"line": 66, "rows": [7]}, {"line": 73, "rows": [8]}, {"line": 74, "rows": [9]}, {"line": 78, "rows": [10]}], calls: [], text: `
-/// Does what the call does at the key that was found. \`None\` where a link was another by then.
+/// Adds, removes or only replies, at the key that the walk has found. Returns \`None\` if a link has changed in the meantime.
 fn attempt<P: Pause>(
     caller: &Caller<LockFreeList, P>,
     place: &mut TableSeat,
@@ -487,9 +487,9 @@ fn attempt<P: Pause>(
     }
 }` },
     { name: "lock_free_change_within", first: 85, steps: [{"line": 100, "rows": [1], "begins": true, "answers": false}, {"line": 105, "rows": [1], "begins": false, "answers": false}], calls: [[102, "find"], [103, "attempt"]], text: `
-/// Makes a whole \`add\` or \`remove\` on a LockFreeList: it walks to its place, and puts its next slot in there, or marks the
-/// node and tries once to take it out; or starts over where a link has changed. (Herlihy and Shavit's lock-free list.)
-/// \`None\` where a loop of it has made \`N::MOST\` rounds.
+/// Makes a whole \`add\` or \`remove\` on a LockFreeList: walks to the key, and links in its next slot there, or marks the node and
+/// attempts once to unlink it. Starts over if a link has changed. (Herlihy and Shavit's lock-free list.) Returns \`None\` if one of
+/// its loops has made \`N::MOST\` rounds.
 pub fn lock_free_change_within<P: Pause, N: Rounds>(
     table: &Words<LockFreeList>,
     place: &mut TableSeat,

@@ -5,7 +5,8 @@ import { compareView } from "./activities/compare.js";
 import { drawJudging, listenToJudging } from "./activities/judging.js";
 import { MAPS } from "./activities/maps.js";
 import { followAddress, openCourseFile, openFirst, openRecorded, showBeforehand } from "./activities/open.js";
-import { Engine } from "./engine/engine.js";
+import { startEngine } from "./engine/engine.js";
+import { loadMore } from "./engine/more.js";
 import { fillExamples, fillWorks, listenToBar, listenToFiles, listenToSettings, listenToWork, placeParts, showQuestion, stopUnable } from "./page/controls.js";
 import { byId } from "./page/dom.js";
 import { showHeader, showMarks } from "./page/work.js";
@@ -20,6 +21,7 @@ import { assignmentView } from "./story/assignment.js";
 import { breakView } from "./story/break_view.js";
 import { codeView } from "./story/code_view.js";
 import { learnView } from "./story/learn_view.js";
+import { handoutView, notesView } from "./story/notes_view.js";
 import { pathView } from "./story/path_view.js";
 import { isScene, leaveScene, listenToScene, renderScene, VIEWS } from "./story/scene.js";
 import { goOnSlide, pressInScene } from "./story/slide.js";
@@ -30,6 +32,7 @@ const EMPTY_TRACE = "listset-trace 1\nlist lazy\nthreads 2\nquota 4\nend\n";
 /** @type {Record<string, import("./story/scene.js").View>} */
 const SCENES = {
   story: pathView, ask: askView, break: breakView, learn: learnView, code: codeView, teachers: teachView, assignment: assignmentView, compare: compareView,
+  notes: notesView, handout: handoutView,
 };
 
 const LISTEN = [listenToBar, listenToBench, listenToWork, listenToFiles, listenToSettings, listenToJudging, listenToCourses, listenToScene, placeParts];
@@ -70,14 +73,15 @@ function takeEmpty() {
   held.render = render;
 }
 
-async function startEngine() {
+async function takeEngine() {
   try {
     if (typeof WebAssembly === "undefined") throw new Error("WebAssembly is turned off in it");
-    held.engine = await Engine.start();
+    held.engine = await startEngine();
   } catch (fault) {
     services.hasEngine = false;
     byId("no-engine-cause").textContent = fault.message; // what needs the engine is not there; the page says so, and why
     byId("schedule").readOnly = true;
+    await loadMore();
   }
 }
 
@@ -86,8 +90,9 @@ async function startPage() {
   Object.assign(VIEWS, SCENES, MAPS);
   connect();
   listen();
-  if (!showBeforehand()) takeEmpty();
-  await startEngine();
+  takeEmpty();
+  await showBeforehand();
+  await takeEngine();
   fillExamples();
   document.body.dataset.ready = "soon";
   try {

@@ -1,5 +1,6 @@
 // What the checker of types does not know: newer parts of browsers, and the module of the page that is opened as a file.
 declare const ENGINE: string;
+declare const MORE: any;
 declare class CompressionStream extends TransformStream {
   constructor(format: string);
 }

@@ -23,7 +23,7 @@ const startOf = inPage("startOfLacking");
 const LOST = /^(\d+) was added once and never removed, and at the end the set does not have it$/; // as docs/CLASSIC.md tells it in short
 const isTask = (name) => name !== inPage("NO_TASK");
 
-// The schedule breaks the list, as docs/CLASSIC.md says it, or is refused by its points alone; and never before its last call.
+// The schedule breaks the list, as docs/CLASSIC.md says, or only its points are refused. It never breaks the list before its last call.
 function checkBroken(ask, name) {
   const schedule = scheduleOf(name);
   const { kind, says } = verdictOnLacking(ask, name, schedule);
@@ -42,14 +42,14 @@ function checkBroken(ask, name) {
   check(`${name} is a list of one kind`, verdictOnLacking(ask, name, ofOther).kind === "refused");
 }
 
-// Each event has its sentence and its picture, and the whole list departs at one of them: up to it both make the same.
+// Each event has a sentence and a picture. The correct list makes the same events up to one at which it departs.
 function checkDeparture(ask, name) {
   const trace = new Trace(ask("listset_lacking", name, scheduleOf(name), "trace").text, 2);
   check(`${name} stands in its trace`, trace.lacks === name && trace.kind === LACKING[name]);
   const state = new (inPage("State"))(trace);
   for (let count = 0; count <= trace.total; count++) {
     const moment = inPage("momentAt")(state, count);
-    const isDrawn = inPage("drawList")(state, moment.event, inPage("arranged")(state, moment.event, inPage("shapeFor")(900))).startsWith("<svg");
+    const isDrawn = inPage("drawStage")(state, moment.event, { wide: 900, high: 300, slots: 5, lock: "nodes", hides: [] }).startsWith("<svg");
     check(`${name}: event ${count} is told and drawn`, inPage("sentenceOf")(moment) !== "" && isDrawn);
   }
   checkContents(trace);
@@ -59,7 +59,7 @@ function checkDeparture(ask, name) {
   check(`${name}: up to event ${event} they agree`, agree === event - 1 && common.total === event - 1);
 }
 
-// The row of the history says that it is the set by the points: the list may have other keys.
+// The row of the history says that it shows the set by the points. The list can have other keys.
 function checkContents(trace) {
   for (let count = 0; count <= trace.total; count++) {
     const drawn = inPage("drawContents")(trace, inPage("scaleOf")(trace, count, 860, true));
@@ -69,19 +69,19 @@ function checkContents(trace) {
   }
 }
 
-// Its trace as a file: by the grammar, compared with the engine's; and another name in it is none.
+// The trace as a file: it follows the grammar and equals the engine's. With another name in it, it is refused.
 function checkFile(ask, name) {
   const { text } = ask("listset_lacking", name, scheduleOf(name), "trace");
   check(`${name}: its trace is one: ${inPage("faultOfTrace")(text)}`, inPage("faultOfTrace")(text) === null);
   const compared = (given) => inPage("comparedTrace")(ask, new Trace(given, 2));
-  check(`${name}: ${compared(text)}`, compared(text) === "a trace from a file, and the engine gives the same for its schedule");
+  check(`${name}: ${compared(text)}`, compared(text) === "trace from a file; the engine gives the same trace for its schedule");
   const whole = compared(text.replace(/^lacks .*\n/m, "")); // as if the whole list had made it
   const event = departureOf(ask, new Trace(text, 2));
   check(`${name}: as one of the whole list: ${whole}`, whole.endsWith(`the proved replayer gives another, from its event ${event} on`));
   check(`${name}: a check that is none`, inPage("faultOfTrace")(text.replace(`lacks ${name}`, "lacks luck"))?.startsWith("line 3: "));
 }
 
-// An answer that is no verdict, and no trace, is shown as it stands.
+// An answer that is neither a verdict nor a trace is shown as it is.
 function checkTroubles(ask) {
   const stopped = (name) => (one, ...texts) => (one === name ? { status: 1, text: "the engine stopped: unreachable" } : ask(one, ...texts));
   const unchecked = verdictOnLacking(stopped("listset_check_record"), "lock", scheduleOf("lock"));
@@ -97,14 +97,14 @@ function checkTroubles(ask) {
   check(`a trace of no schedule: ${compared}`, inPage("faultOfTrace")(long) === null && compared === refused);
 }
 
-// What is told are the calls that have no order.
+// The page names the calls that have no order.
 function checkReasons(ask) {
   const { text } = inPage("scheduleOfDraft")(ask, `${scheduleOf("mark-at-key")}begin 1 add 7\ngo 1 out\n`, "mark-at-key");
   const later = verdictOnLacking(ask, "mark-at-key", text).says;
-  check(`what comes later is not told: ${later}`, later.includes("7 is not there after event 18, and then contains(7) of A answers true."));
+  check(`what comes later is not told: ${later}`, later.includes("remove(7) of B answers true, which leaves 7 not there, and contains(7) of A answers true."));
 }
 
-// A draft's line stands for the steps of the broken list, and is refused as the engine refuses that of a whole list.
+// A draft's line becomes steps of the broken list. It is refused as the engine refuses one of a correct list.
 function checkDrafts(ask) {
   const drafted = (name, lines) => inPage("scheduleOfDraft")(ask, `${startOf(name)}${lines.join("\n")}\n`, name);
   const lock = drafted("lock", ["begin 0 add 5", "go 0 to 7", "begin 1 add 4", "go 1 out", "go 0 out"]);
@@ -122,7 +122,7 @@ function checkDrafts(ask) {
   }
 }
 
-// What is handed in is judged by the list that its line names; an order that is refused alone is no solution.
+// A hand-in is judged by the list that its line names. A run is no solution if only its own order is refused.
 function checkHandedIn(ask) {
   const judge = (line) => inPage("judgedPart")(ask, [], line);
   for (const name of NAMES) {
@@ -143,7 +143,7 @@ function checkHandedIn(ask) {
   check("and that is no solution", !judge(`break mark-at-key ${points}`).isSolved);
 }
 
-// The sentences about a claim: right if no order explains the report.
+// The sentences about a claim. The claim is right if no order explains the report.
 function checkClaims(ask, name) {
   const { report } = verdictOnLacking(ask, name, scheduleOf(name));
   const claim = Object.assign(new (inPage("OwnAnswer"))(inPage("exerciseOf")(report, "claim", false)), { isNone: true });
@@ -171,7 +171,7 @@ answer
   go 1 out
 `;
 
-// A lesson on a broken list is solved where the list is broken; its goal may ask for more.
+// A lesson on a broken list is solved by breaking the list. Its goal can ask for more.
 function checkLesson(ask) {
   const tried = (text) => inPage("triedCourse")(ask, text);
   const { lessons, faults } = tried(LESSON);

@@ -1,4 +1,4 @@
-// Compares what the engine answers with what the program answered: in node and in a browser.
+// Compares the engine's answers with the program's, in node and in a browser.
 "use strict";
 
 const bytesOf = (base64) => Uint8Array.from(atob(base64), (letter) => letter.charCodeAt(0));
@@ -8,7 +8,7 @@ async function sumOf(bytes) {
   return [...sum].map((byte) => byte.toString(16).padStart(2, "0")).join("");
 }
 
-// How many cases passed, and a line for each that failed.
+// Returns how many cases passed, and a line for each that failed.
 async function compared(engine, cases) {
   const result = { passed: 0, failed: [] };
   for (const wanted of cases) {

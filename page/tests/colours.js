@@ -1,4 +1,4 @@
-// The contrasts of the colours of style/page.css: of texts on the grounds on which they stand, and of edges that are to be seen.
+// Checks the contrasts of the colours in style/page.css: texts on their backgrounds, and visible edges.
 "use strict";
 
 const TEXT = 4.5;
@@ -12,7 +12,7 @@ const GROUNDS_OF = {
   paper: ["ink"],
 };
 const THREADS = [0, 1, 2, 3, 4, 5, 6, 7];
-// The texts in the bars of the history, with the share of the thread's colour in the bar: of begun ones, and of those to come.
+// The texts in the bars of the history, with the share of the thread's colour in the bar, for begun and for later calls.
 const BARS = [
   { share: /\.bar rect \{[^}]*fill-opacity: ([.0-9]+)/, texts: ["ink", "soft"] },
   { share: /\.bar\.later rect \{[^}]*fill-opacity: ([.0-9]+)/, texts: ["pale"] },
@@ -43,7 +43,7 @@ function contrastOf(one, other) {
   return (light + 0.05) / (dark + 0.05);
 }
 
-// The colours that a part of the sheet names, and those of the threads.
+// Returns the colours that a part of the style sheet defines, with those of the threads.
 function coloursIn(part) {
   const colours = {};
   for (const [, name, colour] of part.matchAll(/--([a-z-]+): (#[0-9a-f]{3,6});/g)) if (name !== "thread") colours[name] = colour;
@@ -51,7 +51,7 @@ function coloursIn(part) {
   return colours;
 }
 
-// Each pair with its contrast and the least that is due.
+// Returns each pair with its contrast and the required minimum.
 function contrastsOf(sheet) {
   const [light, dark] = sheet.split("@media (prefers-color-scheme: dark)").slice(0, 2);
   const schemes = { light: coloursIn(light), dark: coloursIn(dark.split("\n}")[0]) };

@@ -4,7 +4,7 @@
 const fs = require("fs");
 const path = require("path");
 const vm = require("vm");
-const { inPage } = require("../in_node.js");
+const { inPage, startedEngine } = require("../in_node.js");
 
 const folder = path.dirname(__dirname);
 const run = (file) => vm.runInThisContext(fs.readFileSync(path.join(folder, file), "utf8"), { filename: file });
@@ -42,7 +42,7 @@ function checkTraces(result, engine, cases) {
 
 async function main() {
   const cases = JSON.parse(fs.readFileSync(process.argv[2], "utf8"));
-  const engine = await inPage("Engine").start();
+  const engine = await startedEngine();
   const result = await vm.runInThisContext("compared")(engine, cases);
   const module = fs.readFileSync(path.join(folder, "listset.wasm")).toString("base64");
   check(result, "engine.js has the bytes of listset.wasm", vm.runInThisContext("ENGINE") === module);

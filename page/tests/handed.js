@@ -29,7 +29,7 @@ const folded = (text, width) => text.replace(new RegExp(`(\\S{${width}})(?=\\S)`
 const atSpaces = (text) => text.replace(/^(?!student|course|listset).*$/gm, (line) => line.replaceAll(" ", "\n"));
 const coded = (text) => text.replaceAll("=", "=3D").replace(/(.{60}[^=]{3})(?=.)/g, "$1=\n");
 
-// What mail does to a text, and what stands around it.
+// The changes that mail makes to a text, and lines that surround it.
 const MAILED = {
   "as it is": (text) => text,
   "with CRLF": (text) => text.replaceAll("\n", "\r\n"),
@@ -70,7 +70,7 @@ function checkMail(course) {
   check("the course as it stands", class_[1].text === fs.readFileSync(BOOK, "utf8").replace(/\n$/, ""));
 }
 
-// What the teacher's tool prints of these files, and its status.
+// Returns the output and the status of the teacher's tool for these files.
 function said(folder, ...texts) {
   const files = texts.map((text, index) => {
     const file = path.join(folder, `${index}.txt`);
@@ -105,26 +105,29 @@ function checkTeacher(course, folder) {
   check(`two of one name: ${named.lines}`, named.status === 1 && named.lines.filter((line) => line.startsWith("Max: 2 rows with this name")).length === 2);
 }
 
-// The tasks of an assignment alone, a folder, UTF-16, the table; and a link that is none.
+// The tasks of one assignment only, a folder, UTF-16, the table, and a wrong link.
 function checkAssignment(course, folder) {
   const link = "https://lists.example/page/#assignment=Week+3&learn=one-lock";
   const [answer, other] = course.lessons.map(({ name, solution }) => ({ name, schedule: solution }));
   const inner = fs.mkdtempSync(path.join(folder, "class-"));
-  const text = handInText(NAME, "Jörg (1)", [answer, other], [], "Week 2");
+  const text = handInText(NAME, "Jörg (1)", [answer, other], [], "Week 3");
   fs.writeFileSync(path.join(inner, "utf-16.txt"), Buffer.from(`\ufeff${text}`, "utf16le"));
   const table = path.join(folder, "table.csv");
   const { status, lines } = told("--assignment", link, "--csv", table, inner);
-  const due = ["Jörg (1): 1 of 1 solved", "Jörg (1): handed in for “Week 2”", "Jörg (1): 1 solution of tasks not asked: Hand over hand"];
+  const due = ["Jörg (1): 1 of 1 solved", "Jörg (1): 1 solution of tasks not asked: Hand over hand"];
   check(`an assignment: ${lines}`, status === 0 && due.every((line) => lines.includes(line)));
   const csv = fs.readFileSync(table, "utf8").split("\r\n");
   check(`its table: ${csv}`, csv[1].startsWith("Jörg,1,1,1,1,") && csv[0].includes("The one lock"));
+  fs.writeFileSync(path.join(inner, "other.txt"), Buffer.from(handInText(NAME, "Käthe (2)", [answer], [], "Week 2"), "latin1"));
+  const late = told("--assignment", link, inner);
+  check(`another week, in Windows-1252: ${late.lines}`, late.status === 1 && late.lines.includes("Käthe (2): handed in for “Week 2”: not counted"));
   for (const wrong of ["http://example.org/foo", "#assignment=x&learn=one-lok", "#assignment=x"]) {
     const { status, lines, fault } = told("--assignment", wrong, inner);
     check(`the link ${wrong}: ${fault}`, status === 2 && lines.length === 0 && /^lessons: .* link .*\n$/.test(fault));
   }
 }
 
-// What is not a student's own: schedules that two have, however grouped, but not what many have; and that of an example.
+// Copied solutions: schedules that two students share, however grouped, but not those of many, and the schedule of an example.
 function checkOwn(ask, course, folder) {
   const text = (student, solutions, lines = []) => handInText(NAME, student, solutions, lines);
   const own = ({ name, solution }, from, to) => ({ name, schedule: solution.replace(from, to) });
@@ -168,7 +171,7 @@ This is no line of a solution.
   const { status, lines } = said(folder, text);
   const due = [
     `line 15: "This is no line of a solution." is no line of a solution`,
-    'line 1: the text is cut: the line "end" is missing',
+    'line 1: the text is incomplete: the final line "end" is missing',
     "The one lock: the address of a schedule is missing, from # on",
     "Two at once: missing: B has an add that answers true.",
     "Two at once: Line 9 of the schedule is refused: the thread makes a step while it has no call pending.",
@@ -222,7 +225,7 @@ goal
   );
 }
 
-// Words that are wrong, and files that are none, are told; the others are judged all the same.
+// Wrong arguments and unreadable files are reported. The other files are still judged.
 function checkWords(folder) {
   for (const words of [[], ["--help"], ["-x", BOOK], ["--link"], [path.join(folder, "no-such-file")]]) {
     const { status, lines, fault } = told(...words);

@@ -17,7 +17,7 @@ function check(name, isGood) {
 
 const wordIn = (report) => [...report.matchAll(/^place (\d+) (\S+)$/gm)].map(([, id, reply]) => `${id}-${reply}`);
 
-// At each level the replayer's own order is right; one that is turned round is judged as check judges it.
+// At each level the replayer's order is right. A reversed order gets the verdict of `check`.
 function checkLevels(ask, name, report) {
   const places = wordIn(report);
   for (const level in LEVELS) {
@@ -39,7 +39,7 @@ function checkLevels(ask, name, report) {
   }
 }
 
-// That there is no order is right of a report of a list without its check, and wrong of a run.
+// The claim "no order" is right for a report of a broken list, and wrong for a run.
 function checkClaims(ask, name, report) {
   const claimOf = (exercise) => verdictOn(ask, Object.assign(new OwnAnswer(exercise), { isNone: true }));
   check(`${name}: there is an order`, claimOf(exerciseOf(report, "claim")).isRight === false);
@@ -51,7 +51,7 @@ function checkClaims(ask, name, report) {
   check(`${name}: its order: ${refused.says}`, refused.isRight === false && !refused.says.startsWith("refused"));
 }
 
-// No sentence of a run tells what is asked for.
+// No sentence of a run reveals the answer.
 function checkHidden(ask, name, schedule) {
   const trace = new (inPage("Trace"))(ask("listset_trace", schedule).text);
   const state = new (inPage("State"))(trace);
@@ -65,7 +65,7 @@ function checkHidden(ask, name, schedule) {
   }
 }
 
-// The contains that takes effect in another thread's step: by moments, with a wrong reply, and at a wrong moment.
+// A contains that takes effect in another thread's step: placed by moments, with a wrong reply, and at a wrong moment.
 function checkByHand(ask) {
   const report = ask("listset_replay", ask("listset_example", "read-in-anothers-step").text).text;
   const answer = new OwnAnswer(exerciseOf(report, "replies"));
@@ -96,7 +96,7 @@ function checkByHand(ask) {
   check("replies of a ceiling", repliesOf(ceiling, { operation: "ceiling" }).join() === "nothing,at-5,at-9");
 }
 
-// An open call stands in an order where it has changed the set, and may be left out where not.
+// A pending call is in the order if it has changed the set, and can be left out otherwise.
 function checkOpenCalls(ask) {
   const head = "listset-schedule 1\nlist lazy\nthreads 2\nquota 4\nbegin 0 add 5\n";
   const judgedAs = (steps, word) => {
@@ -109,7 +109,7 @@ function checkOpenCalls(ask) {
   check("put in", judgedAs(4, "0-true,1-false").isRight === false);
 }
 
-// The labels of the bars of a drawing, and those of them that are written over one before them.
+// Returns the labels of a drawing's bars, and those that cover an earlier one.
 function labelsOver(drawing) {
   const labels = [...drawing.matchAll(/<text class="call" x="([^"]*)" y="([^"]*)">(.*?)<\/text>/g)];
   const ends = {};
@@ -121,7 +121,7 @@ function labelsOver(drawing) {
   return { labels, over };
 }
 
-// Nor one of the history, at no event of a run; and of each call that is drawn the label is at one place from its begin on.
+// No label of the history covers another at any event, and each label keeps its place from the call's begin on.
 function checkHistoryLabels(traces) {
   const [drawCalls, scaleOf] = ["drawCalls", "scaleOf"].map(inPage);
   let signs = 0;
@@ -141,7 +141,7 @@ function checkHistoryLabels(traces) {
   check(`the labels of the examples are whole: ${signs} are signs`, signs === 0);
 }
 
-// No label of a bar is written over the one behind it, on a wide page and on a phone, whatever has been said; of runs by a number too.
+// No label of a bar covers another, on a wide page and on a phone, whatever was answered, for numbered runs too.
 function checkLabels(ask, schedules) {
   const [drawJudged, judgeScale] = ["drawJudged", "judgeScale"].map(inPage);
   const judgedAt = (exercise, answer, width) => ({ exercise, answer, scale: judgeScale(exercise, width), moment: 0, count: 0 });
@@ -168,7 +168,7 @@ function saidOf(ask, lines) {
 
 const barsIn = (drawn) => drawn.split('<g class="bar ').length - 1;
 
-// Recorded calls are decided by the judge: each text with what is said of it.
+// The judge decides recorded calls: texts with the page's words about them.
 function checkRecorded(ask) {
   const wanted = {
     "call 0 add 5 1 4 true\ncall 1 contains 5 2 3 false\nkey 5\nend": "ok Linearizable: an order explains these 2 calls and leaves the keys.",
@@ -189,7 +189,7 @@ function checkRecorded(ask) {
   check(`many calls: ${many.reasons}`, drawn === 40 && many.reasons.at(-1) === "The first 40 calls are drawn.");
 }
 
-// The record of a recording, or of a report, says what the program's own line about it does.
+// The record of a recording or a report agrees with the program's own line.
 function checkRecords(ask, reports) {
   const recorded = path.join(__dirname, "..", "..", "tests", "transcripts", "data", "recorded");
   const texts = fs.readdirSync(recorded).map((file) => fs.readFileSync(path.join(recorded, file), "utf8"));
@@ -207,13 +207,13 @@ function checkRecords(ask, reports) {
   }
 }
 
-// A refusal says the change that made the key so, and the calls that have no order from there; these are drawn, of all that the text has.
+// A refusal names two calls that contradict each other. Only these are drawn.
 function checkRefusals(ask) {
   const both = saidOf(ask, inPage("RECORDED_EXAMPLE"));
   const reasons = [
     "No order explains the calls of key 5 up to moment 4.",
-    "At first the key is not there.",
-    "From there these calls have no order: add(5) of A answers true, from 1 to 4; add(5) of B answers true, from 2 to 3.",
+    "add(5) of B answers true, from 2 to 3, and leaves key 5 present; add(5) of A answers true, from 1 to 4, and needs it absent.",
+    "No remove(5) that answered true or is pending overlaps the time of both. They contradict each other in the other order too.",
   ];
   check(`two adds of one key: ${both.reasons.join(" ")}`, both.kind === "none" && both.reasons.join() === reasons.join());
   const drawn = inPage("drawRecorded")(both.calls, both.from, 600);
@@ -222,24 +222,26 @@ function checkRefusals(ask) {
   const at = (moment) => String(late + BigInt(moment));
   const lines = [`0 contains 5 ${at(1)} ${at(2)} false`, `1 add 7 ${at(3)} ${at(4)} true`, `2 contains 7 ${at(5)} ${at(6)} false`];
   const stale = saidOf(ask, `${TITLE}${lines.map((line) => `call ${line}\n`).join("")}key 7\nend`);
-  const made = `the key is there, by this change: add(7) of B answers true, from ${at(3)} to ${at(4)}.`;
-  check(`why: ${stale.reasons.join(" ")}`, stale.reasons[1] === `After the calls that ended by moment ${at(4)} ${made}`);
+  const made = `add(7) of B answers true, from ${at(3)} to ${at(4)}, and leaves key 7 present; contains(7) of C answers false, from ${at(5)} to ${at(6)}, and needs it absent.`;
+  check(`why: ${stale.reasons.join(" ")}`, stale.reasons[1] === made);
   check(`the calls: ${stale.calls.map(({ thread }) => thread)}`, stale.calls.map(({ thread }) => thread).join() === "1,2");
-  const picture = inPage("drawRecorded")(stale.calls, stale.from, 600);
-  check(`where the key is there: ${picture}`, barsIn(picture) === 2 && picture.includes("cursor") && picture.includes(">the key is there</text>"));
-  const open = saidOf(ask, `${TITLE}call 0 add 5 1 - -\ncall 1 contains 5 2 3 false\ncall 1 remove 5 4 5 true\nkey 5\nend`);
-  const hidden = "2 more calls of the key that began at moments 1 to 2 are not shown: whatever they did, these have no order.";
-  check(`a pending call: ${open.reasons}`, open.kind === "none" && open.calls.length === 1 && open.reasons.includes(hidden));
   const left = saidOf(ask, `${TITLE}call 0 contains 5 1 2 false\nkey 5\nend`).reasons;
-  const unchanged = ["No order explains the calls of key 5 and leaves it as it was left.", "After the calls that ended by moment 2 the key is not there.", "No later call changes it.", "At the end the set has it."];
+  const unchanged = [
+    "No order explains the calls of key 5 and leaves it as it was left.",
+    "Key 5 is absent at first; it is present at the end.",
+    "No add(5) that answered true or is pending overlaps the time of both.",
+    "At the end the set has it.",
+  ];
   check(`left otherwise: ${left}`, left.join() === unchanged.join());
 }
 
-// What is said of the answers that a short text does not get.
+// The words for answers that no short text gets.
 function checkAnswers(ask) {
   const said = (text) => inPage("verdictOnCalls")(ask, { text: `${text}\n` }, TITLE);
-  const { kind, reasons, calls } = said("verdict none\nkey 7\nsince 40 false\ncall 2 add 7 50 60 true\ncall 3 remove 7 55 - -\nhidden 12 45 79");
-  check(`more calls: ${reasons}`, kind === "none" && reasons.length === 5 && calls.length === 2 && reasons[3].startsWith("12 more calls"));
+  const { kind, reasons, calls } = said("verdict none\nkey 7\nclash true\nfirst call 2 add 7 50 60 true\nsecond call 3 contains 7 65 70 false");
+  check(`two calls: ${reasons}`, kind === "none" && reasons.length === 4 && calls.length === 2);
+  const impossible = inPage("reasonsOf")(inPage("readVerdict")({ text: "order Unknown 5\nverdict none\nreply 3\n" }).why);
+  check(`a reply of no call: ${impossible}`, impossible.join() === "No set returns the reply of call 3 to such a call.");
   const bare = said("verdict none\nkey 7");
   check(`no calls: ${bare.reasons}`, bare.reasons[1] === "At the end the set does not have it." && bare.calls.length === 0);
   for (const line of ["listset: out of memory", "the engine stopped: unreachable", inPage("NO_ENGINE")]) {
@@ -248,7 +250,18 @@ function checkAnswers(ask) {
   }
 }
 
-// A fault of recorded calls is told by the program's own line and its sentence on the cause.
+// The record of a diagnosis, as the program writes it.
+function checkDiagnosis() {
+  const record = ["headline contains(3) returned true, expected false", "call 1 remove 3 5414 5432 true -", "call 0 contains 3 5420 - - expected false",
+    "also 3 remove 2 5413 5417 true", "fact only contains is wrong", "likely contains does not look at a mark", "because a remove was still running"].join("\n");
+  const why = inPage("diagnosisIn")(`${record}\n`);
+  check("a diagnosis: its headline", why.headline.startsWith("contains(3) returned true"));
+  check("its calls", why.calls.length === 2 && why.calls[0].mark === "" && why.calls[1].mark === "expected false" && why.calls[1].ended === null && why.calls[0].begun === 5414n);
+  check("its facts", why.facts.length === 1 && why.also[0].key === "2" && why.likely.startsWith("contains does not") && why.because.endsWith("running"));
+  check("no diagnosis", inPage("diagnosisIn")("") === null);
+}
+
+// An error in recorded calls is reported by the program's line and its sentence on the cause.
 function checkFaultsOfCalls(ask) {
   const { kind, says } = saidOf(ask, `${TITLE}call 0 add 5 7 8 true\ncall 1 add 6 5 9 true\nend\n`);
   const told = "the call does not end after it begins; or a line above has one of its moments, or a call of the same thread that is pending";
@@ -256,7 +269,7 @@ function checkFaultsOfCalls(ask) {
   check(`a fault: ${says}`, kind === "fault" && says === `listset: line 3: History: ${why}.`);
 }
 
-// An answer that is no verdict is shown, and counts as none.
+// An answer that is no verdict is shown, and does not count as a verdict.
 function checkTroubles(ask) {
   const answer = answerOfWord(exerciseOf(ask("listset_replay", ask("listset_example", "snip").text).text, "points"), "2-true,0-true,1-true");
   const stopped = () => ({ status: 1, text: "the engine stopped: unreachable" });
@@ -268,7 +281,7 @@ function checkTroubles(ask) {
   check(`nor of a claim: ${claim.says}`, claim.isRight === null && claim.says === untold);
 }
 
-// Two lists: each turn makes a step in both, and one that has answered waits.
+// Two lists: each turn makes a step in both. A list whose call has returned waits.
 function checkSides(ask) {
   const [Sides, readProgram, programText] = ["Sides", "readProgram", "programText"].map(inPage);
   const program = readProgram("0: add 5, remove 5\n t1 : contains 5\n");
@@ -324,6 +337,7 @@ async function main() {
   checkRecords(ask, reports);
   checkRefusals(ask);
   checkAnswers(ask);
+  checkDiagnosis();
   checkFaultsOfCalls(ask);
   checkTroubles(ask);
   checkByHand(ask);

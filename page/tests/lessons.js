@@ -22,7 +22,7 @@ const scheduleOf = (lesson, events) => scheduleText(lesson, events.split(",").ma
 
 const SPLIT = ["one-lock"]; // whose conditions have been split since: a schedule meets all of them where it met all before
 
-// The goals are met by the runs that are known to meet them, and by no other.
+// The goals are met by the runs known to meet them, and by no others.
 function checkRecorded(ask, { lessons }) {
   for (const line of fs.readFileSync(path.join(__dirname, "recorded.txt"), "utf8").trimEnd().split("\n")) {
     const [name, bits, events] = line.split(" ");
@@ -52,11 +52,11 @@ function checkBook(ask, { name, lessons, faults }) {
   }
 }
 
-// Of each lesson the wrong try that comes first to mind, and how its dead end begins.
+// For each lesson, the most likely wrong attempt, and how the text of its dead end begins.
 const LIKELY = {
   "one-lock": { lines: ["go 0 out"], deadEnd: "The add of thread 0 has ended before that of thread 1." },
   "hand-over-hand": { lines: ["go 0 out", "go 1 out"], deadEnd: "Both calls have ended" },
-  "two-at-once": { lines: ["go 0 out"], deadEnd: "The remove has ended: thread 0 holds no locks any more." },
+  "two-at-once": { lines: ["go 0 out"], deadEnd: "The remove has ended: thread 0 no longer holds a lock." },
   "changed-link": { lines: ["go 0 out"], deadEnd: "The remove has answered true without such a failure." },
   "lost-pred": { lines: ["go 0 out"], deadEnd: "The add has answered true, and its second walk did not miss pred" },
   "marked-in-chain": { lines: ["go 1 out", "begin 0 contains 5", "go 0 out"], deadEnd: "That remove has ended" },
@@ -68,12 +68,12 @@ const LIKELY = {
   "ceiling-in-anothers-step": { lines: ["go 0 out"], deadEnd: "This ceiling has answered 7" },
 };
 
-// What is said of a wrong try: the first condition that is missing, and a way that leads nowhere, as the text tells of it.
+// The words about a wrong attempt: the first missing condition, and the lesson's dead end.
 function checkTries(ask, { lessons }) {
   const lesson = lessons.find(({ name }) => name === "in-anothers-step");
   const tries = [
-    ["b0.contains.5,g0.2", "missing: A contains of thread 0 answers false.", null],
-    ["b0.contains.5,g0.3", "missing: A contains of thread 0 answers false.", "This contains has answered true"],
+    ["b0.contains.5,g0.2", "missing: Thread 0's contains returns false.", null],
+    ["b0.contains.5,g0.3", "missing: Thread 0's contains returns false.", "This contains has answered true"],
     ["b1.remove.5,g1.10,b0.contains.5,g0.2", "missing: Just after each of its own events", "It answers false, but"],
   ];
   for (const [events, missing, deadEnd] of tries) {
@@ -110,7 +110,7 @@ function checkReasons(ask, [lesson]) {
   );
 }
 
-// What is changed in the text, the line of the changed text that is named (by a part of it), and what is said of it.
+// A change of the text, the line that the error names (by a part of it), and the error.
 const BROKEN = [
   ["listset-course 1", "listset-course 2", "listset-course 2", 'expected "listset-course 1" here'],
   [/^course .*$/m, "", "listset-course 1", 'expected the line "course NAME"'],
@@ -129,10 +129,10 @@ const BROKEN = [
   ["\n  call A: within R", "\n  step A: last", "  step A: last", "A is a call"],
   ["\n  rest R of 0: holding 2", "\n  rest R in A", "rest R in A", "a rest is that of a thread"],
   ["\n  all calls ended", "\n  calls end", "  calls end", '"calls end" is no line of a goal, as "call C of 0'],
-  ["  say That node is in the chain then.\n", "", "  step S: in the chain", 'a goal ends with a line "say .."'],
+  ["  say At that moment the node is still in the chain.\n", "", "  step S: in the chain", 'a goal ends with a line "say .."'],
 ];
 
-// Faults of a text, each told by its line.
+// Errors in a text, each reported with its line.
 function checkFaults() {
   for (const [from, to, mark, says] of BROKEN) {
     const given = TEXT.replace(from, to);
@@ -165,7 +165,7 @@ function checkDrafts(ask, { lessons }) {
   check(`one that is refused: ${fault}`, fault.startsWith(refused));
 }
 
-// A lesson that is read is also tried.
+// A lesson is also checked when it is read.
 function checkTrials(ask) {
   const trials = [
     ["  begin 0 add 5\n", "  begin 0 ad 5\n", "one-lock: its start is refused at \"begin 0 ad 5\": expected "],
@@ -185,7 +185,7 @@ function checkTrials(ask) {
   check("CRLF, a mark of order and tabs are no fault", triedCourse(ask, other).faults.length === 0);
 }
 
-// The course that the teachers' page shows is one, also with spaces before its lines; and its goal asks for what its question asks.
+// The course on the teachers' page is valid, also when indented. Its goal asks for what its question asks.
 function checkOwnCourse(ask) {
   const text = inPage("OWN_COURSE");
   const indented = text.replace(/^(?=.)/gm, "    ");

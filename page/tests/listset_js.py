@@ -1,5 +1,5 @@
 """Compares page/listset.js, in node, with the program on words drawn at random: both outputs and the status. Of wrong words the status is
-the same, nothing is on the output, and the script says what is wrong in one line. page/test compares the engine itself on many texts."""
+the same, nothing is on the output, and both begin with the same line and show a usage of the same command, or none. page/test compares the engine itself on many texts."""
 
 import os
 import random
@@ -8,7 +8,7 @@ from concurrent.futures import ThreadPoolExecutor
 
 SECONDS = 120
 DRAWN = 300
-COMMANDS = "replay check trace show draft judge gen example faults report".split()
+COMMANDS = "replay check trace show draft judge gen example faults explain report help".split()
 FLAGS = "--chain --svg --broken -- - -x --svg=yes --no-such".split()
 OPTIONS = ["--from 3", "--from", "--from=9", "--from --", "--to 9", "--to=x", "--to=", "--from -5", "--from==3", "--width 40", "--width 0", "--from 4294967295",
            "--lacks lock", "--lacks luck", "--lacks=", "--lacks"]
@@ -23,10 +23,16 @@ def said(words, text=b"", output=subprocess.PIPE):
     return done.stdout, done.stderr, done.returncode
 
 
+def parts_of_error(text):
+    """Of a text about wrong words its first line, and the program and command of its usage."""
+    lines = text.split(b"\n")
+    return lines[0], [it.split()[:3] for it in lines if it.startswith(b"Usage: ")]
+
+
 def difference(words, ours, due):
-    """A line that tells how the two differ, or None. Of words that are wrong the program says more than a line."""
+    """A line that tells how the two differ, or None. Of words that are wrong the program's text is clap's, whose tips differ."""
     if due[1].startswith(b"error: "):
-        is_right = (ours[0], ours[2]) == (due[0], due[2]) == (b"", 2) and ours[1].startswith(b"listset: ") and ours[1].count(b"\n") == 1
+        is_right = (ours[0], ours[2]) == (due[0], due[2]) == (b"", 2) and parts_of_error(ours[1]) == parts_of_error(due[1])
     else:
         is_right = ours == due
     return None if is_right else f"listset.js {' '.join(words)}: {ours}, not {due}"[:2000]
@@ -59,6 +65,9 @@ def asked(program, names):
     yield from ((words, schedule) for words in (["replay", ""], ["gen", ""], ["show", "--to", ""], ["gen", "lazy\n2", "4"]))
     calls = b"".join(b"call 0 contains 5 %d %d false\n" % (2 * it + 1, 2 * it + 2) for it in range(LONG_CALLS))
     yield ["judge"], b"listset-calls 1\n%send\n" % calls
+    yield from ((words.split(), b"") for words in ("--version", "-V", "--help", "-h", "help", "help help", "help show", "show -h", "trace --help", "run -h", "serve --help"))
+    yield from ((words.split(), b"") for words in ("faults Busy", "faults idle", "faults nothing", "explain no-such", "explain .", "explain /dev/null/a"))
+    yield from ((["explain"], text) for text in (*texts, b"key 5\nkey 4\n", b"listset-draft 2\nlist fine\nthreads 1\nquota 1\nbegin 0 add 1\ngo 0 to 99\n", b"\xff\xfe"))
     yield from ((["replay"], b"x" * length) for length in (67_108_864, 67_108_865))
 
 

@@ -6,7 +6,6 @@ const { createHash } = require("crypto");
 const fs = require("fs");
 const path = require("path");
 const { inPage, startedEngine } = require("../in_node.js");
-const { crossedLabels, crossedNodes } = require("./arrows.js");
 const { contrastsOf } = require("./colours.js");
 
 const folder = path.dirname(__dirname);
@@ -21,7 +20,7 @@ const traceOf = (engine, schedule) =>
   new (inPage("Trace"))(engine.ask("listset_trace", schedule).text, inPage("versionOf")(schedule));
 const withoutTags = (text) => text.replace(/<[^>]*>/g, "");
 
-// Each example has a question, what it turns on, and events at which it does, each with a sentence of its own.
+// Each example has a question, a deciding point, and the events that decide it, each with its own sentence.
 function checkTurns(engine) {
   for (const [name, { question, turnsOn, without, turns }] of Object.entries(inPage("CLASSICS"))) {
     check(`${name}: it has a question, and what it turns on`, question.endsWith("?") && turnsOn.length > 40 && turns.length > 1);
@@ -63,7 +62,7 @@ const refusalBy = (deed) => {
   }
 };
 
-// Each link into a run, of the pages that are made of docs/, is an address, and of an event that its run has.
+// Each link into a run, on the pages made of docs/, is a valid address, and its run has the event.
 function checkDocs(engine) {
   const lengthOf = (line) => (line.startsWith("go ") ? Number(line.split(" ")[2]) : Number(line.startsWith("begin ")));
   for (const page of ["how-it-works", "classic", "tables"]) {
@@ -78,7 +77,7 @@ function checkDocs(engine) {
   }
 }
 
-// Each page that Read leads to is there, with the heading that its link names; one of them is the table of progress.
+// Each page that Read links to exists, with the heading that the link names. One is the table of progress.
 function checkRead() {
   const links = inPage("PAGES").map(([href]) => href);
   check("Read leads to the table of progress", links.includes("tables.html#progress"));
@@ -91,7 +90,7 @@ function checkRead() {
   }
 }
 
-// A number is the same run for everyone: small enough to be judged, with calls that overlap; the one of README.md stays as it is.
+// A number gives everyone the same run, small enough to judge, with overlapping calls. The run in README.md stays the same.
 function checkSeeds(engine) {
   const ask = (name, ...texts) => engine.ask(name, ...texts);
   for (const kind of Object.keys(inPage("LISTS"))) {
@@ -116,7 +115,7 @@ function checkSeeds(engine) {
 
 const HEAD = "listset-schedule 2\nlist coarse\nthreads 2\nquota 4\n";
 
-// A text's own fault is told by the program's sentence on its cause.
+// An error in a text is explained by the program's sentence on its cause.
 function checkFaults(engine) {
   const ask = (name, ...texts) => engine.ask(name, ...texts);
   const saidOf = (text) => inPage("scheduleOfDraft")(ask, text).fault ?? ask("listset_trace", text).text;
@@ -133,7 +132,7 @@ function checkFaults(engine) {
   check(`a broken list is of one kind: ${ofOther}`, ofOther === "listset: line 2: Kind\n");
 }
 
-// Each form of address in README.md is one.
+// Each form of address in README.md is valid.
 function checkForms() {
   const table = fs.readFileSync(path.join(folder, "README.md"), "utf8").split("| Address |")[1].split("\n\n")[0];
   const cells = [...table.matchAll(/^\|([^|]*)\|/gm)].map(([, cell]) => cell);
@@ -147,7 +146,7 @@ function checkForms() {
   }
 }
 
-// Each text comes back from its address, to the byte; what is no address is refused with its part.
+// Each text comes back from its address, to the byte. A wrong address is refused, and its wrong part is named.
 function checkAddresses(engine, texts) {
   const addressOf = inPage("addressOf");
   const readAddress = inPage("readAddress");
@@ -178,7 +177,7 @@ function checkAddresses(engine, texts) {
   check("two things", refusalOf("#example=snip&list=lazy") === 'the address names an example, and has "list" too');
 }
 
-// A broken list is named by its number or its name, and is one of the list that the address names.
+// A broken list is named by number or name, and belongs to the list that the address names.
 function checkLacking(readAddress) {
   for (const [at, [name, kind]] of Object.entries(inPage("LACKING")).entries()) {
     const named = [name, at + 1].map((which) => readAddress(`#list=${kind}&threads=2&quota=4&lacks=${which}`).lacks);
@@ -197,7 +196,7 @@ function checkLacking(readAddress) {
   for (const [hash, fault] of Object.entries(faults)) check(`${hash}: ${refusalOf(hash)}`, refusalOf(hash) === fault);
 }
 
-// The box of the set that is shown now has its text inside, at each event; or over it where it is the last one and has no room.
+// At each event the current box of the set has its text inside, or across its edge if it is the last box and too narrow.
 function checkContents(engine, texts) {
   const [scaleOf, drawContents] = ["scaleOf", "drawContents"].map(inPage);
   let boxes = 0;
@@ -212,10 +211,10 @@ function checkContents(engine, texts) {
   check("boxes of contents were drawn", boxes > 500);
 }
 
-// The traces beside the page are what the engine prints.
+// The traces in more.js equal the engine's.
 function checkTraces(engine, names) {
-  const traces = inPage("TRACES");
-  check("the list of the examples beside the page", inPage("EXAMPLES") === engine.ask("listset_examples", "").text);
+  const traces = inPage("more").TRACES;
+  check("the list of the examples beside the page", inPage("more").EXAMPLES === engine.ask("listset_examples", "").text);
   check("their names", Object.keys(traces).join() === names.join());
   for (const name of names) {
     const own = engine.ask("listset_trace", engine.ask("listset_example", name).text).text;
@@ -223,34 +222,40 @@ function checkTraces(engine, names) {
   }
 }
 
-// No arrow crosses the label of a register or a node, at any event of an example and of a run in which nodes come and go, on a wide
-// page and on a phone.
-function checkArrows(engine, texts) {
-  let labels = 0;
-  for (const [text, room] of texts.flatMap((text) => [[text, 860], [text, 354]])) {
+const areApart = (one, other) => one.x + one.wide <= other.x + 1 || other.x + other.wide <= one.x + 1 || one.y + one.high <= other.y + 1 || other.y + other.high <= one.y + 1;
+const ROOMS = [{ wide: 1280, high: 300 }, { wide: 900, high: 240 }, { wide: 351, high: 320 }];
+
+// Everything on the stage is inside it, and no node or hand covers another, at any event of the examples and of a run with many nodes.
+function checkStage(engine, texts) {
+  let hands = 0;
+  for (const [text, size] of texts.flatMap((text) => ROOMS.map((size) => [text, size]))) {
     const trace = traceOf(engine, text);
     const state = new (inPage("State"))(trace);
-    const crossed = trace.events().flatMap((event, index) => {
+    const lock = { coarse: "list", "lock-free": "" }[trace.kind] ?? "nodes";
+    const room = { ...size, slots: 5, lock, hides: ["succ"] };
+    const wrong = trace.events().flatMap((event, index) => {
       state.moveTo(index + 1);
-      const drawing = inPage("drawList")(state, event, inPage("arranged")(state, event, inPage("shapeFor")(room)));
-      labels += drawing.split('class="pointer').length - 1;
-      const found = [...crossedLabels(drawing), ...crossedNodes(drawing)];
-      return found.map((what) => `${what} at event ${index + 1}`);
+      const list = inPage("arranged")(state, event, room);
+      const { width, scale, form } = list.units;
+      const height = Math.max(list.units.height, room.high / scale);
+      const nodes = [...new Set(Object.values(list.places))].map(({ x, y, width: wide, row, aside }) => ({ x, y, wide, high: row, aside }));
+      const all = [...nodes, ...list.hands.map((hand) => ({ ...hand, high: form.hand.height }))];
+      hands += list.hands.length;
+      const isIn = ({ x, y, wide, high }) => x >= -1 && y >= -1 && x + wide <= width + 1 && y + high <= height + 1;
+      const overlaps = (many) => many.some((one, at) => many.slice(at + 1).some((other) => !areApart(one, other)));
+      const isLow = nodes.some(({ aside }) => aside) && list.units.isLow; // in the gaps of the chain, a little lower
+      const found = [all.every(isIn) ? "" : "outside", !isLow && overlaps(nodes) ? "nodes" : "", overlaps(all.slice(nodes.length)) ? "hands" : "", scale >= form.least ? "" : "small"];
+      return found.filter((what) => what !== "").map((what) => `${what} at event ${index + 1}`);
     });
-    check(`arrows cross labels or nodes in ${room} pixels (${crossed.slice(0, 5)}) of ${text.slice(0, 200)}`, crossed.length === 0);
+    check(`the stage of ${size.wide} pixels (${wrong.length}: ${wrong.slice(0, 5)}) of ${text.slice(0, 200)}`, wrong.length === 0);
   }
-  check("labels were drawn", labels > 2000);
-  const five = traceOf(engine, "listset-schedule 2\nlist lazy\nthreads 2\nquota 4\nopening 3\nopening 5\nopening 7\n");
-  const { width } = inPage("arranged")(new (inPage("State"))(five), null, inPage("shapeFor")(354));
-  check(`a chain of five nodes is seen whole on a phone: ${width}`, width * 0.65 <= 354);
-  const drawn = '<path d="M0 0 L200 0" marker-end="x"></path><text class="pointer thread-0" x="50" y="5">▲ A curr</text>';
-  check("an arrow over a label is seen", crossedLabels(drawn).join() === "▲ A curr");
-  const nodeAt = (x) => `<rect x="${x}" y="-20" width="90" height="40" rx="5" class="box"></rect><text class="key">${x}</text>`;
-  const over = `${nodeAt(0)}${nodeAt(100)}<path d="M50 0 L250 0" marker-end="x"></path>`;
-  check("an arrow over another node is seen", crossedNodes(over).join() === "100");
+  check("hands were drawn", hands > 2000);
+  const many = traceOf(engine, `listset-schedule 2\nlist lazy\nthreads 2\nquota 4\n${Array.from({ length: 40 }, (_, key) => `opening ${key}\n`).join("")}`);
+  const { items, units } = inPage("arranged")(new (inPage("State"))(many), null, { ...ROOMS[0], slots: 5, lock: "nodes", hides: [] });
+  check(`a long chain is folded: ${items.length}, ${units.width}`, items.length <= 14 && units.width * units.scale <= 1281 && items.some(({ names }) => names.length > 20));
 }
 
-// Five threads that add, remove and look, one to three steps each in turn, on each list.
+// Five threads add, remove and look, one to three steps each in turn, on each list.
 function crowded(engine) {
   const calls = ["add 5", "remove 5", "add 7", "contains 7", "remove 7"].map((call, thread) => `begin ${thread} ${call}`);
   const turns = Array.from({ length: 60 }, (_, turn) => `go ${(turn * 3) % 5} ${1 + (turn % 3)}`);
@@ -260,7 +265,7 @@ function crowded(engine) {
   });
 }
 
-// The text with a line more, or as it is where that is refused.
+// Returns the text with one more line, or unchanged if the line is refused.
 function longerBy(engine, text, line) {
   const longer = `${text}${line}\n`;
   return engine.ask("listset_trace", longer).text.includes("\nrefused ") ? text : longer;
@@ -279,7 +284,7 @@ function checkListing(engine, texts) {
     });
   });
   check(`lines of the code that are not those of a step: ${wrong.slice(0, 5)}`, wrong.length === 0);
-  const lines = Object.entries(inPage("CODE")).flatMap(([file, functions]) =>
+  const lines = Object.entries(inPage("more").CODE).flatMap(([file, functions]) =>
     functions.flatMap((code) => code.steps.map(({ line }) => `${file}:${line}`)));
   check(`lines at which no thread stood: ${lines.filter((line) => !met.has(line))}`, lines.every((line) => met.has(line)));
 }
@@ -302,7 +307,7 @@ function wrongLine(trace, event, held, met) {
   return isGood ? [] : [`${kind}, event ${event.number}: row ${held.pc} at ${found.file}:${line}`];
 }
 
-// Every colour of a text on every ground on which it stands, in light and in dark, and the edges of the controls.
+// The colour of each text on each of its backgrounds, light and dark, and the edges of the controls.
 function checkColours() {
   const sheet = ["page.css", "drawings.css"].map((name) => fs.readFileSync(path.join(folder, "style", name), "utf8")).join("");
   const contrasts = contrastsOf(sheet);
@@ -326,7 +331,7 @@ async function main() {
   checkDocs(engine);
   checkRead();
   const crowds = crowded(engine);
-  checkArrows(engine, [...texts, ...crowds]);
+  checkStage(engine, [...texts, ...crowds]);
   checkListing(engine, [...texts, ...crowds]);
   process.stdout.write(JSON.stringify(result));
 }

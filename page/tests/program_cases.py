@@ -19,6 +19,7 @@ LACKS = TOP / "examples" / "schedules" / "lacks"
 OF_SCHEDULES = {"replay": ["replay"], "trace": ["trace"], "trace_with_chains": ["trace", "--chain"], "show": ["show"], "show_svg": ["show", "--svg"]}
 OF_TEXTS = {**OF_SCHEDULES, "check": ["check"], "draft": ["draft"], "judge": ["judge"]}
 DRAWN = 600  # of options, and of values of gen
+OF_A_FILE = b"\nlistset judge FILE, with a file, also says what is wrong\n"  # below a refusal of a pipe; the module has it as listset_why
 MOMENTS = ["1", "3", "9", "12", "40", "0", "x", "", "4294967295"]
 VALUES = ["1", "2", "3", "8", "20", "", "x", "00", "-1", "18446744073709551615", "18446744073709551616"]
 
@@ -37,6 +38,7 @@ class Program:
     def case(self, function, words, *texts, given=b""):
         """The texts for a function of the module, and what the program prints for the words, with what it is given on its input."""
         output, status = self.program_answers(*words, text=given)
+        output = output.removesuffix(OF_A_FILE)
         return {"function": f"listset_{function}", "words": words, "texts": [base64.b64encode(it).decode() for it in texts], "status": status,
                 "length": len(output), "sum": hashlib.sha256(output).hexdigest()}
 

@@ -59,7 +59,7 @@ const CLAIMS = [
 
 const keysInChain = (state) => inPage("keysInChain")(state).map(String);
 
-// What is so after an event.
+// Returns the facts after an event.
 function factsAfter(state, event, others) {
   const chain = state.chain();
   const lockOf = (name) => (name === "the list" ? state.lock : state.nodes[name].lock);
@@ -79,7 +79,7 @@ function falseIn(sentence, facts) {
 }
 const seen = new Set(); // the claims that some sentence made
 
-// The sentences of a run, each with what is false of it.
+// Returns the sentences of a run, each with its false parts.
 function readRun(trace) {
   const state = new (inPage("State"))(trace);
   const events = trace.events();
@@ -93,7 +93,7 @@ function readRun(trace) {
   });
 }
 
-// Runs of broken lists that no generated one shows: each the lines after those of the opening keys 3 and 7.
+// Runs of broken lists that are not generated at random, as lines after those of the initial keys 3 and 7.
 const BY_HAND = {
   "marks-in-validation": ["begin 0 remove 7", "go 0 4", "begin 1 remove 3", "go 1 10", "begin 1 remove 7", "go 1 10", "go 0 8"],
   "mark-in-remove": ["begin 0 remove 3", "go 0 3", "begin 1 remove 3", "go 1 5", "go 0 3"],

@@ -1,4 +1,4 @@
-// The state of the page: what actions make of it, what is seen in it, its address and its title; all without a browser.
+// The state of the page without a browser: the effect of actions, what is visible, the address and the title.
 "use strict";
 
 const { inPage } = require("../in_node.js");
@@ -18,7 +18,7 @@ function check(name, isGood) {
 
 const traceOf = (text, lacks = null) => ({ refused: null, total: text.split("\n").length - 5, lacks, kind: "lock-free" });
 
-// A state in which a text is shown for a task.
+// Returns a state that shows a text for a task.
 function shown(task, text, lacks = null, count = 1) {
   const trace = { trace: traceOf(text, lacks), state: {}, source: "", count };
   const actions = [["task", { task, lacks }], ["run", { text }], ["trace", trace]];
@@ -26,7 +26,7 @@ function shown(task, text, lacks = null, count = 1) {
 }
 
 const EXAMPLE = { kind: "example", id: "snip", work: "from snip", begun: TEXT };
-// A scene of the story, and its run.
+// Returns a state that shows a scene and its run.
 function atScene(activity, id, text = "", given = {}) {
   const state = reduce(shown(EXAMPLE, TEXT), { type: "place", activity, screen: "scene", id, given });
   return reduce(state, { type: "scene", text });

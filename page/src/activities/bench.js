@@ -1,6 +1,7 @@
-// The bench: the run at the event that is shown, the bar that moves it, its question above it, and below it what is unfolded.
+// The bench: the run at the current event, its slider, its question, and the folded parts below.
 import { LECTURE } from "../data/lecture.js";
 import { LISTS } from "../../made/rows.js";
+import { loadMore, more } from "../engine/more.js";
 import { anotherSeed, partsOfSeed, scheduleOfSeed, seedOf } from "../run/address.js";
 import { escaped, listOptions } from "../run/markup.js";
 import { scheduleOfTrace } from "../run/schedule_text.js";
@@ -22,7 +23,7 @@ import { titleOfScene } from "../story/scene.js";
 const bench = { key: "", figure: null };
 const LACKING = "The code of the correct list. The list that runs here lacks one of its checks.";
 
-// The figure of the task: another task has a new one, which is as large as its own run needs.
+// Returns the figure of the task. A new task gets a new figure.
 function figureOfTask(run) {
   const { kind, lacks } = run.trace;
   const key = [now.task.kind, now.task.id, now.task.work, kind, lacks].join();
@@ -33,7 +34,7 @@ function figureOfTask(run) {
   byId("run-figure").replaceChildren(box);
   const codeNote = lacks === null ? "" : LACKING;
   const sentence = (moment) => sentenceOf(moment, hiddenOutcomes());
-  bench.figure = new Figure(box, { ...STILL, list: kind, run, sentence, codeTitle: LISTS[kind].name, codeNote, roomFor: 560 });
+  bench.figure = new Figure(box, { ...STILL, list: kind, run, sentence, codeTitle: LISTS[kind].name, codeNote, slots: 5 });
   return bench.figure;
 }
 
@@ -44,7 +45,6 @@ export function showRun() {
   const figure = figureOfTask(run);
   figure.box.classList.toggle("judged", isJudging());
   figure.part("tale").setAttribute("aria-live", isPlaying() ? "off" : "polite");
-  figure.spec.high = isJudging() ? 0.24 : now.place.view === "lecture" ? 0.3 : 0.36;
   figure.showRun(run, moment, now.prefs.hides);
   setHtml(byId("order"), drawOrder(trace, count, now.prefs.hides));
   showThreads(moment.event);
@@ -82,6 +82,7 @@ function showTable(moment) {
 
 function showListing(moment) {
   if (!byId("listing-box").open) return;
+  if (more.CODE === null) return void loadMore().then(show, ({ message }) => tell(message));
   const box = byId("listing");
   box.innerHTML = drawListing(moment);
   const line = box.querySelector(".moved") ?? box.querySelector(".here");
@@ -107,7 +108,7 @@ export function listenToBench() {
   for (const name of ["table-box", "listing-box", "threads-box", "turns-box"]) byId(name).ontoggle = show;
 }
 
-// ---- The bench: a run step by step, of an example or of a number, with its question above it.
+// ---- Runs by example or by number.
 export const FIRST = { example: "marked-in-chain", event: 20 };
 
 export function seedForm(id, verb) {
@@ -151,7 +152,7 @@ function drawSeedBox(seed, more) {
   };
 }
 
-// ---- What stands above the stage: the links to what is before and after the task, and the title of the window.
+// ---- The links to the previous and the next task, and the window's title.
 function showHome() {
   const homework = now.place.view === null ? homeworkOf(now.place, now.task) : null;
   byId("home").hidden = homework === null;
@@ -160,7 +161,7 @@ function showHome() {
   byId("home").href = addressOfAssignment(homework);
 }
 
-// The link that goes on from the event that is shown has its address when it is pressed: a long run has a long one.
+// Sets the address of "Go on from here" only when it is pressed, since a long run has a long address.
 function aimGoOn() {
   const { trace, count } = now.run;
   byId("go-on-here").hash = addressOfCode(trace.kind, trace.opening, linesOf(scheduleOfTrace(trace, count)), trace);

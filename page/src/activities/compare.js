@@ -1,4 +1,4 @@
-// Compare: two lists side by side, under one program of calls, with some programs to begin with. The turns are in the address.
+// Compare: two lists side by side run the same calls. The address has the turns.
 import { LISTS } from "../../made/rows.js";
 import { byId, redraw } from "../page/dom.js";
 import { toggleLecture } from "../page/play.js";
@@ -17,7 +17,7 @@ const PRESETS = [
   ["Two removes of neighbours", "#sides=fine.optimistic&quota=4&opening=3.5.7&calls=0.remove.3,1.remove.7&turns=0.0.0.1.1.1"],
   ["A reader beside a writer", "#sides=lazy.lock-free&quota=4&opening=3.5.7&calls=0.remove.5,1.contains.5&turns=0.0.0.0.0.1.1"],
 ];
-const PICTURE = '<h2></h2><div class="pair"></div><p class="note"><a class="button">Watch this run</a></p>';
+const PICTURE = '<header class="line"><h2></h2> <a class="small">Watch this run</a></header><div class="pair"></div>';
 const SIDES = ["one", "other"];
 const shown = { sides: null, at: 0, quota: 4, opening: [], figures: [] }; // at: how many turns are shown
 const sidesPart = (name) => byId(`sides-${name}`);
@@ -26,13 +26,12 @@ const listsOf = ({ given }) => (given.sides ?? "coarse.lazy").split(".");
 function html(place) {
   const preset = ([name, href]) => tag("a", { class: "button", href }, escaped(name));
   const choice = (name, at) => tag("label", {}, ["left ", "right "][at], tag("select", { id: `sides-${name}` }, listOptions(listsOf(place)[at])));
-  const lead = `<p class="lead">A turn of a thread executes its next step in both; a call that has ended waits for the other list. <a class="beside" href="tables.html#progress">Progress of each list: blocking, lock-free, wait-free</a></p>`;
-  return `<section class="screen">${head("", "The same calls on two lists: who waits, and who is done?", lead)}
-    <div id="sides-presets" class="line">${PRESETS.map(preset).join(" ")}</div>
-    <details id="sides-own"><summary>Your own program</summary><div class="line small">${SIDES.map(choice).join("")}
+  const lead = `<p class="prose">Each turn executes the thread’s next step in both lists. A list that has finished the call waits for the other list. <a class="beside" href="tables.html#progress">Progress of each list: blocking, lock-free, wait-free</a></p>`;
+  return `<section class="screen on-stage">${head("", "The same calls on two lists: which one waits, and which one finishes?", lead)}
+    <div id="sides-presets" class="line">${PRESETS.map(preset).join(" ")}<details id="sides-own"><summary>Your own program</summary><div class="line small">${SIDES.map(choice).join("")}
       <label>initial keys <input id="sides-opening" spellcheck="false" placeholder="no keys" size="8"></label>
       <label>calls <textarea id="sides-program" rows="2" cols="24" spellcheck="false"></textarea></label>
-      <button data-do="begin">Run this program</button> <button data-do="copy">Copy link</button></div></details>
+      <button data-do="begin">Run this program</button> <button data-do="copy">Copy link</button></div></details></div>
     <p id="scene-told" role="status"></p><div id="sides-pictures"></div></section>
     <footer class="foot"><button class="quiet" data-do="back" aria-label="one turn back">◂</button>
       <input id="sides-slider" type="range" min="0" value="0" aria-label="turn"> <span id="sides-where" class="small"></span> <span id="sides-turns"></span>
@@ -76,7 +75,7 @@ function takeTurns() {
   setScene({ text: addressOfSides() });
 }
 
-// Goes on from the turns that are shown; what came after them is dropped.
+// Continues from the current turn, and drops the later ones.
 function turnOf(thread) {
   const { sides, at } = shown;
   if (at < sides.turns.length) beginSides(sides.turns.slice(0, at));
@@ -108,7 +107,7 @@ function figuresOf(sides) {
   end();
   sidesPart("pictures").innerHTML = sides.map(({ kind }) => tag("section", { "aria-label": LISTS[kind].name }, PICTURE)).join("");
   const boxes = sidesPart("pictures").querySelectorAll(".pair");
-  const specOf = ({ kind, trace, state }) => ({ ...STILL, list: kind, run: new ShownRun(trace, state), code: false, sentence: sentenceOf, roomFor: 560, high: 0.3 });
+  const specOf = ({ kind, trace, state }) => ({ ...STILL, list: kind, run: new ShownRun(trace, state), code: false, sentence: sentenceOf, slots: 4 });
   figures.push(...sides.map((side, at) => new Figure(boxes[at], specOf(side))));
   return figures;
 }

@@ -1,4 +1,4 @@
-// Below the lessons: what is handed in, and courses: one is chosen, opened from a file or a link, written, tried, and handed out as a link or a file.
+// The parts below the lessons: handing in, and choosing, opening, writing, checking and sharing courses.
 import { BOOK, BOOK_NAME } from "../../made/book.js";
 import { courseAddress, courseOfAddress } from "../course/course_text.js";
 import { handInText } from "../course/hand_in.js";
@@ -10,7 +10,7 @@ import { askNow, held } from "../page/now.js";
 import { copied, linkTo } from "../page/visit.js";
 import { AddressFault, warningOf } from "../run/address.js";
 import { counted } from "../run/markup.js";
-import { brokenLines, keepStory } from "../story/kept.js";
+import { brokenLines, keepStory } from "../story/progress.js";
 import { learning } from "../story/learning.js";
 import { JUDGED } from "./judging.js";
 import { drawLearnMap } from "./maps.js";

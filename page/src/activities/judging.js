@@ -1,6 +1,6 @@
-// The panel in which the reader judges the run that is shown. Of a broken list the report alone is judged, as a claim.
+// The panel in which the reader judges the current run. For a broken list, only its report is judged, as a claim.
 import { CLASSICS } from "../../made/classics.js";
-import { drawJudged, drawOwnOrder, judgeScale, momentOfReport } from "../draw/judged.js";
+import { drawJudged, drawOwnOrder, judgeScale, momentOfReport } from "../draw/judged_bars.js";
 import { byId, redraw } from "../page/dom.js";
 import { keepUnder, keptUnder } from "../page/kept.js";
 import { askNow, dispatch, exampleShown, held, isJudging, now, tell } from "../page/now.js";
@@ -23,7 +23,7 @@ class Judging {
   tries = 0; // that were refused
   moment = 0; // of a claim
 
-  // Begins an exercise of this level about the run that is shown. At the third the report may be that of a broken list.
+  // Begins an exercise of this level about the current run. At the third level the report can be that of a broken list.
   begin(level) {
     const { lacks, text } = now.run;
     const broken = exampleShown() === "" ? null : askNow("listset_broken_example", exampleShown());
@@ -126,7 +126,7 @@ class Judging {
     return box;
   }
 
-  // Of a claim there is no run to step through: its own moments are told, one by one.
+  // A claim has no run to step through. The slider goes through the moments of its report.
   drawMoment() {
     const slider = judgePart("moment");
     const said = momentOfReport(this.exercise, this.moment);
@@ -155,7 +155,7 @@ class Judging {
 export const judging = new Judging();
 export const drawJudging = () => isJudging() && judging.draw();
 
-// After two wrong tries: the events at which it turns; of a run that is no example, those that change the set.
+// Returns the hint after two wrong attempts: the deciding events of an example, else the events that change the set.
 function hintOfRun() {
   const turns = CLASSICS[exampleShown()]?.turns;
   if (turns !== undefined) return `The deciding events: ${turns.join(", ")}.`;

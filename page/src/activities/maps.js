@@ -1,20 +1,20 @@
-// The maps: of each activity its cards, with a list, a question, and a sign of what was done.
+// The overview of each activity: cards with a list, a question, and a sign of progress.
 import { BOOK_NAME } from "../../made/book.js";
-import { CLASSICS, LACKING } from "../../made/classics.js";
+import { LACKING } from "../../made/classics.js";
 import { BREAK_LEVELS, numberOfLevel, TEN, THREE_MORE } from "../data/levels.js";
 import { byId } from "../page/dom.js";
 import { keptUnder } from "../page/kept.js";
 import { examples } from "../page/work.js";
-import { escaped, inLetters, tag } from "../run/markup.js";
+import { escaped, tag } from "../run/markup.js";
 import { QUESTIONS } from "../story/ask.js";
 import { bookCourse } from "../story/assignment.js";
 import { itemOf } from "../story/ask_branches.js";
 import { APPENDIX } from "../story/ask_more.js";
-import { isBrokenOnce, keptStory } from "../story/kept.js";
+import { isBrokenOnce, keptStory } from "../story/progress.js";
 import { learning } from "../story/learning.js";
 import { foot, head, LIST_WORDS, part } from "../story/scene.js";
 import { JUDGED } from "./judging.js";
-import { drawRecordedBox, listenToRecorded } from "./recorded.js";
+import { drawRecordedBox, listenToRecorded } from "./recording.js";
 import { listenToSeedForm, seedForm } from "./bench.js";
 
 const SIGNS = { right: ["✓", "guessed right"], wrong: ["seen", "seen"], done: ["✓", "done"] };
@@ -37,10 +37,10 @@ function askHtml() {
   const cardOf = ({ name, list, title, question }) => ({ href: `#ask=${name}`, list: LIST_WORDS[list], title, says: question, state: asks[name] });
   const next = QUESTIONS.find((item) => !seen.includes(item)) ?? QUESTIONS[0];
   const score = `<b>${right}</b> of ${QUESTIONS.length} guessed right at the first try, ${seen.length} seen`;
-  const words = "Eleven runs. Each stops just before the decisive step. Say what comes; then it goes on, and you may change it.";
+  const words = "Eleven runs. Each stops just before the decisive step. Predict what happens next; then the run continues, and you can change it.";
   return `${head("", "Guess, then see", lead(words, seen.length === 0 ? "" : score), "title")}${cards(QUESTIONS.map(cardOf))}
-    <h2>Seven more</h2><p class="prose">These lists have a fourth call, <b>ceiling</b>: the smallest number that is as big as the one
-    that is asked for, or more. And each thread may add only so many numbers.</p>${cards(APPENDIX.map(cardOf))}
+    <h2>Seven more</h2><p class="prose">These lists have a fourth operation. <b>ceiling(k)</b> returns the smallest number that is at least k.
+    And each thread can add only a limited number of keys (its quota).</p>${cards(APPENDIX.map(cardOf))}
     ${foot('<a class="button quiet" href="#story=1">The path of twenty minutes</a>', goOn(`#ask=${next.name}`, seen.length, QUESTIONS.length))}`;
 }
 
@@ -49,12 +49,12 @@ function breakHtml() {
   const cardOf = (name) => {
     const { story, lacks } = BREAK_LEVELS[name];
     const state = isBrokenOnce(name) ? { says: lacks, state: "done" } : {};
-    return { href: `#break=${numberOfLevel(name)}`, list: LIST_WORDS[LACKING[name]], title: story, ...state };
+    return { href: `#break=${numberOfLevel(name)}`, list: `level ${numberOfLevel(name)} · ${LIST_WORDS[LACKING[name]]}`, title: story, ...state };
   };
   const count = TEN.filter(isBrokenOnce).length;
   const next = TEN.find((name) => !isBrokenOnce(name)) ?? TEN[0];
   const words = `Ten lists, from one lock to none. Each lacks one check. Let A and B step until a number is lost, or two
-    answers cannot both be right. Then say what is missing.`;
+    answers cannot both be right. Then name the missing check.`;
   const top = lead(words, count === 0 ? "" : `<b>${count}</b> of ${TEN.length} broken`);
   return `${head("", "Break it", top, "title")}${cards(TEN.map(cardOf))}
     <h2>Three more</h2>${cards(THREE_MORE.map(cardOf))}${foot("", goOn(`#break=${numberOfLevel(next)}`, count, Infinity))}`;
@@ -101,13 +101,13 @@ function judgeHtml() {
   const judged = Object.keys(keptUnder(JUDGED) ?? {});
   const cardOf = ({ name, kind }) => {
     const state = judged.some((run) => run.startsWith(`${name} `)) ? "done" : "";
-    const says = escaped(inLetters(CLASSICS[name].question));
-    return { href: `#example=${name}&judge`, list: LIST_WORDS[kind], title: itemOf({ id: name }).title, says, state };
+    const { title, question } = itemOf({ id: name });
+    return { href: `#example=${name}&judge`, list: LIST_WORDS[kind], title, says: question, state };
   };
   const words = `You see a run without its replies. Say what each call answers, and put a point where it takes effect. The proved
-    <code>check</code> judges your order: any order that explains the run is right.`;
-  return `${head("", "Judge a run yourself", lead(words), "title")}<h2>A random run</h2>${seedForm("judge-seed", "Judge a run")}${drawRecordedBox()}
-    <h2>An example, by its question</h2>${cards(examples().map(cardOf))}`;
+    <code>check</code> judges your order: every order that explains the run is accepted.`;
+  return `${head("", "Judge", "", "title")}${drawRecordedBox()}<h2>Find the order of a run yourself</h2>${lead(words)}
+    ${seedForm("judge-seed", "Judge a run")}<h2>An example, by its question</h2>${cards(examples().map(cardOf))}`;
 }
 
 function beginJudge() {
@@ -128,13 +128,13 @@ const TERMS = {
   history: "The calls with their begin, end, thread and reply. Two calls overlap if neither ends before the other begins.",
   pending: "A call that has begun and not ended.",
   "takes effect": "At its linearization point: the moment between begin and end at which a call counts in the order.",
-  order: "The calls one after the other. It explains a run if a sequential set gives the same replies in this order.",
+  order: "A sequence of all calls. It explains a run if a sequential set gives the same replies in this order.",
   linearizable: "Some order explains the replies, and keeps each pair of calls that do not overlap as they were.",
   "row, step table": "The algorithm as numbered steps; a row says what the thread does next.",
-  "pred, curr": "The two nodes that a walk holds: curr is the next one behind pred.",
-  marked: "A node whose key is removed; it may still be in the chain until it is unlinked.",
-  "quota, slot": "How many keys a thread can add in all. Each needs a slot, a node of its own; then add answers full.",
-  "not linearizable": "Proved of a report by a few of its calls: no order of them explains their replies.",
+  "pred, curr": "Two neighbouring nodes of a walk; curr is the node after pred.",
+  marked: "A node whose key is removed. It can still be in the chain until it is unlinked.",
+  "quota, slot": "The number of keys that a thread can add in total. Each key uses one slot (a node of the thread). When no slot is left, add returns full.",
+  "not linearizable": "No order of the calls explains the replies and leaves the keys.",
 };
 
 function readHtml() {

@@ -1,7 +1,8 @@
 // What an address opens, and what the page shows first.
-import { TRACES } from "../../made/traces.js";
+import { CLASSICS } from "../../made/classics.js";
 import { LECTURE } from "../data/lecture.js";
 import { numberOfLevel } from "../data/levels.js";
+import { loadMore } from "../engine/more.js";
 import { byId } from "../page/dom.js";
 import { isExample, openKept, openTask, openWork, ownTask, showMarks } from "../page/work.js";
 import { HERE, isText, keepWork, keptUnder, works } from "../page/kept.js";
@@ -9,16 +10,16 @@ import { fillWorks, pickExample } from "../page/controls.js";
 import { exampleShown, goTo, held, now, tell } from "../page/now.js";
 import { setView } from "../page/seen.js";
 import { stopPlay } from "../page/play.js";
-import { entryOf } from "../page/state.js";
+import { entryOf } from "../page/reducer.js";
 import { keepSoon, sceneOfHash, visit } from "../page/visit.js";
 import { AddressFault, readAddress } from "../run/address.js";
 import { escaped } from "../run/markup.js";
 import { learning } from "../story/learning.js";
-import { keptStory } from "../story/kept.js";
+import { keptStory } from "../story/progress.js";
 import { faultOfScene, openScene } from "../story/scene.js";
 import { showCourseText, takeCourseOfAddress } from "./courses.js";
 import { beginJudging } from "./judging.js";
-import { showRecorded } from "./recorded.js";
+import { showRecorded } from "./recording.js";
 import { FIRST, openSeed } from "./bench.js";
 
 const WANTS_ENGINE = { learn: "a lesson", judge: "runs to judge", break: "a broken list", compare: "two lists side by side" };
@@ -66,7 +67,7 @@ function openRun(wanted) {
   if (wanted.isJudged) beginJudging();
 }
 
-// A link opens under a name of its own: that of the reader's work with this very text, or a new one.
+// Opens a linked schedule under the name of the reader's work with the same text, or under a new name.
 function openLink({ text, event, lacks, view = null }) {
   needEngine("a schedule");
   if (lacks !== null) return openStory({ activity: "break", id: String(numberOfLevel(lacks)), given: { text }, view });
@@ -78,7 +79,7 @@ function openLink({ text, event, lacks, view = null }) {
   openTask(ownTask("from a link"), text, event, `${told}${others}.`);
 }
 
-// The slide of the lecture that an address names, also by the address of what is on it, or 0.
+// Returns the slide that an address names, directly or by its content's address, or 0.
 export function slideOf(hash) {
   const [, number = "1"] = /^#lecture(?:=(.*))?$/.exec(hash) ?? [null, `${1 + LECTURE.findIndex(([, , address]) => address === hash)}`];
   if (number === "0" || LECTURE[Number(number) - 1] !== undefined) return Number(number);
@@ -119,7 +120,7 @@ export function openCourseFile(text) {
   showCourseText(text);
 }
 
-// Opens what the address bar names since the reader went back or forward, took a link in this page or typed.
+// Opens the address in the address bar, after a move in the history, a link or typing.
 export async function followAddress(event) {
   clearTimeout(visit.timer);
   keepWork();
@@ -132,14 +133,18 @@ export async function followAddress(event) {
 
 const addressKept = () => (isText(keptUnder(HERE)) ? keptUnder(HERE) : "");
 
-// Shows the example with which the page will open from its trace, while the engine comes; false if it will open with something else.
-export function showBeforehand() {
+// Shows the first example from its stored trace, while the engine loads.
+export async function showBeforehand() {
   works.load();
   const [, name, event] = /^#example=([a-z-]+)(?:&event=(\d+))?$/.exec(location.hash || addressKept()) ?? [];
-  if (!Object.hasOwn(TRACES, name)) return false;
-  openKept(name, Number(event ?? 0));
-  document.body.dataset.ready = "soon";
-  return true;
+  if (!Object.hasOwn(CLASSICS, name)) return;
+  try {
+    await loadMore();
+    openKept(name, Number(event ?? 0));
+    document.body.dataset.ready = "soon";
+  } catch {
+    // The engine will show the example.
+  }
 }
 
 function firstVisit() {
@@ -159,7 +164,7 @@ export async function openFirst() {
   keepSoon();
 }
 
-// Where the reader was; a screen of the path welcomes who comes back to it.
+// Returns the last address. A screen of the path greets a returning reader.
 const addressBack = () => addressKept().replace(/^#story=(?!1$)\d+$/, "$&&back=yes");
 
 function bringBack() {

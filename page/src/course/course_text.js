@@ -1,4 +1,4 @@
-// Lessons as text; the head of book.course tells of each word. Each fault is told by its line.
+// Reads courses of lessons. The head of book.course describes the format. Each error names its line.
 import { LACKING } from "../../made/classics.js";
 import { AddressFault, LONGEST_ADDRESS } from "../run/address.js";
 import { GoalFault, readGoal } from "./goal_words.js";
@@ -23,7 +23,7 @@ const LESSON_WORDS = {
 };
 const WORDS = Object.keys(LESSON_WORDS);
 
-// The lines of a text, without the spaces that all but the first one begin with: a course that was copied out of a page is indented.
+// Returns the lines of a text without their common indentation, as a course copied from a page has.
 function withoutIndent(text) {
   const lines = text.replace(/^\ufeff/, "").split("\n").map((line) => line.replaceAll("\t", "  ").trimEnd());
   const first = lines.findIndex((line) => line !== "");
@@ -141,7 +141,7 @@ export function readCourse(text) {
   return { name: reader.name, lessons, faults: reader.faults };
 }
 
-// ---- A course in a link: its text, packed, behind #course=, so that nothing comes from a network.
+// ---- A course in a link: its packed text follows #course=, so nothing is loaded from a network.
 async function passed(bytes, stream) {
   return new Uint8Array(await new Response(new Blob([bytes]).stream().pipeThrough(stream)).arrayBuffer());
 }

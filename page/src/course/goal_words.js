@@ -1,4 +1,4 @@
-// The goals of lessons: each line finds something in the run and may name it; `say ..` is met where all lines above it can be met at once.
+// The goals of lessons. Each line finds something in the run and can name it. `say ..` holds if all lines above it hold together.
 import { isFailed, isLock, ownerIn } from "../run/outcomes.js";
 import { State } from "../run/state.js";
 
@@ -14,7 +14,7 @@ const endOf = (found) => (found.event ? found.event.number : (found.ended ?? Inf
 const answeredKey = (call) => Number(call.reply?.slice("at-".length));
 const hasSmaller = (call, { keys }) => [...keys].some((key) => call.key <= key && key < answeredKey(call));
 
-// What a clause asks for: its words, where X is a name that was given above and N a number, and the test of what is found.
+// The clauses: their words, with X for an earlier name and N for a number, and the test of a candidate.
 const CALL_CLAUSES = [
   [/^(add|remove|contains|ceiling)$/, (call, [operation]) => call.operation === operation],
   [/^key (\d+)$/, (call, [key]) => call.key === Number(key)],
@@ -136,7 +136,7 @@ export function conditionsOf(goal, run) {
   return ends.map(({ says, index }) => ({ says, isMet: canMeet(goal.slice(0, index), run) }));
 }
 
-// ---- a run moment by moment: each event, the row at which its thread stood before, and what there is just after it
+// ---- A run event by event: the row of its thread before, and the state after.
 export class Run {
   constructor(trace) {
     const state = new State(trace);
@@ -153,7 +153,7 @@ export class Run {
     return this.moments[call.ended - 1];
   }
 
-  // The stretches in which a thread makes no step: the moment of its step before, and those of the others up to its next.
+  // Returns the times in which a thread makes no step: the moment of its last step, and the other threads' moments up to its next.
   restsOf(thread) {
     const steps = this.moments.filter(({ event }) => event.thread === thread);
     return steps.map((step, at) => {

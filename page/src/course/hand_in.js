@@ -10,8 +10,8 @@
 //     break mark-in-add #list=lock-free&threads=2&quota=2&opening=3.7&s=b0.add.5,g0.5&event=6
 //     end
 //
-// It comes by mail as often as not: lines may be quoted, folded or coded as mail does that, and others may stand around the text.
-// One file may have the texts of a whole class, and courses too.
+// The text often comes by mail: lines can be quoted, folded or encoded, and other lines can surround it.
+// One file can have the texts of a whole class, and courses.
 import { CLASSICS, LACKING } from "../../made/classics.js";
 import { AddressFault, addressOf, readAddress } from "../run/address.js";
 import { askList, isTaskDone, NO_TASK, verdictOnLacking } from "../run/broken.js";
@@ -29,10 +29,14 @@ export function handInText(course, student, solutions, otherLines, assignment = 
   return [HAND_IN_TITLE, `course ${course}`, ...title, `student ${student}`, ...lines, ...otherLines, "end", ""].join("\n");
 }
 
-// The text of a file, in UTF-8 or in the UTF-16 of some editors.
+// Decodes a file: UTF-8, UTF-16 (some editors), or else Windows-1252.
 export function textOfBytes(bytes) {
   const coding = { 0xfeff: "utf-16be", 0xfffe: "utf-16le" }[(bytes[0] << 8) | bytes[1]] ?? "utf-8";
-  return new TextDecoder(coding).decode(bytes);
+  try {
+    return new TextDecoder(coding, { fatal: true }).decode(bytes);
+  } catch {
+    return new TextDecoder(coding === "utf-8" ? "windows-1252" : coding).decode(bytes);
+  }
 }
 
 function unmailed(text) {
@@ -69,7 +73,7 @@ export function textsIn(text) {
   return found;
 }
 
-// Whether a line begins a part of a text that is handed in, whether a part lacks words, and whether a line may go on with one.
+// Tests of folded lines: whether a line begins a part, whether a part is incomplete, and whether a line can continue it.
 const isBegin = (line) => /^(student|course|assignment|judge|break) /.test(line) || /^[a-z][a-z0-9-]* +(\S*#|<?https?:)/.test(line);
 const lacksWords = (line) =>
   /^judge /.test(line) ? line.split(" ").length < 4 : !/^(student|course|assignment) /.test(line) && !line.includes("#");
@@ -87,7 +91,7 @@ export function readHandIn({ lines, isEnded, number }) {
     else faults.push({ line: given.number, fault: `"${given.line.slice(0, 40)}" is no line of a solution` });
   }
   const valueOf = (word) => parts.find(({ line }) => line.startsWith(`${word} `))?.line.slice(word.length + 1) ?? null;
-  if (!isEnded) faults.push({ line: number, fault: 'the text is cut: the line "end" is missing' });
+  if (!isEnded) faults.push({ line: number, fault: 'the text is incomplete: the final line "end" is missing' });
   const solutions = parts.filter(({ line }) => !/^(student|course|assignment) /.test(line));
   return { course: valueOf("course"), assignment: valueOf("assignment"), student: valueOf("student"), solutions, faults };
 }

@@ -1,4 +1,4 @@
-// What a lesson says of a schedule. A lesson is tried when it is read: its start does not reach its goal, and its answer does.
+// Judges schedules by a lesson. A lesson is checked when it is read: its start must not reach its goal, its answer must.
 import { readFault, sentenceOn } from "../engine/answers.js";
 import { askList, TO_BREAK, verdictOnLacking } from "../run/broken.js";
 import { eventsAsked, scheduleOfDraft, scheduleText, versionOf } from "../run/schedule_text.js";
@@ -44,7 +44,7 @@ function withinBound(search) {
   }
 }
 
-// Whether a goal can be looked for in a run of some sixty events, which the engine makes, of the lesson's list and threads.
+// Checks that a goal can be evaluated, on a run of about sixty events of the lesson's list and threads.
 function isBounded(ask, { list, threads, goal }) {
   const { text, status } = ask("listset_gen", [list, Math.max(threads, 2), 4, 6, 3, 1].join("\0"));
   const { trace } = status === 0 ? runOfSchedule(ask, text, null) : { trace: null };

@@ -3,7 +3,7 @@
 
 export const BREAK_LEVELS = {
   lock: {
-    story: "One thread at a time, they say. Let two of them meet.",
+    story: "It claims to let in one thread at a time. Make two threads meet.",
     hints: [
       "Two adds of different keys, both between 3 and 7.",
       "Let both threads walk to the same place: pred is the node of 3, curr that of 7.",
@@ -17,7 +17,7 @@ export const BREAK_LEVELS = {
     start: [["add", 5], ["add", 4]], shortest: [20, 2], missing: [{ row: 1, part: "lock the list" }],
   },
   "mark-in-remove": {
-    story: "Two threads remove one key. One of them should answer that it came too late.",
+    story: "Two threads remove one key. One of them should return that it came too late.",
     hints: [
       "Two removes of the same key, 3.",
       "Let both threads find the node of 3 before either of them marks it.",
@@ -33,7 +33,7 @@ export const BREAK_LEVELS = {
   mark: {
     story: "Removing a node is one compare-and-set here. Fast. Too fast?",
     hints: [
-      "An add of 5, and a remove of the node in front of it.",
+      "Add 5, and remove the node in front of its place.",
       "The pred of the add must be the node of 3, which the other thread removes.",
       "Stop A before the step that links 5 in. Let B remove 3. Then one step of A.",
     ],
@@ -55,7 +55,7 @@ export const BREAK_LEVELS = {
     start: [["add", 4], ["add", 5]], shortest: [20, 2], missing: [{ row: 5, part: "new " }],
   },
   "second-lock": {
-    story: "Hand over hand means two locks at a time. Here one hand stays in the pocket.",
+    story: "Hand over hand means two locks at a time. Here one of the two locks is never taken.",
     hints: [
       "An add of 5 beside a remove of 3, its neighbour.",
       "The add must hold the lock of 3 while the other thread removes that node.",
@@ -75,7 +75,7 @@ export const BREAK_LEVELS = {
       "There is a moment in which the walk of the add holds no lock. Find it.",
       "Stop B on its way from the node of 3 to that of 7. Let A remove 3. Then let B end.",
     ],
-    lacks: "A walk releases one lock before it has the next.",
+    lacks: "While walking, it releases one lock before it acquires the next.",
     others: {
       "It releases its locks before it writes.": "it releases them only after that",
       "A walk does not lock the head.": "it locks the head first of all",
@@ -83,13 +83,13 @@ export const BREAK_LEVELS = {
     start: [["remove", 3], ["add", 5]], shortest: [24, 2], missing: [{ row: 3, part: "pred still locked" }],
   },
   "second-walk": {
-    story: "It locks two nodes, and looks again. But what does it look at?",
+    story: "It locks two nodes and checks again. But what does it check?",
     hints: [
       "An add of 5 beside a remove of 3, its neighbour.",
       "The node that the add has found as pred may be unlinked before it is locked.",
       "Stop A before it locks pred, which is the node of 3. Let B remove 3. Then let A end.",
     ],
-    lacks: "With the locks it does not walk again: pred may not be in the list any more.",
+    lacks: "After locking it does not walk the list again: pred may have been removed.",
     others: {
       "It does not lock curr.": "it locks pred and curr",
       "It does not look whether pred still leads to curr.": "it looks at that, with both locks",
@@ -98,7 +98,7 @@ export const BREAK_LEVELS = {
     missing: [{ row: 6, part: "walk from the head again" }, { row: 7, part: "until pred is met, else not valid" }],
   },
   "marks-in-validation": {
-    story: "Marks are set here. Does everybody read them?",
+    story: "Marks are set here. Does every call read them?",
     hints: [
       "An add of 5 beside a remove of 3, its neighbour.",
       "The node that the add has found as pred may be removed before it is locked.",
@@ -113,9 +113,9 @@ export const BREAK_LEVELS = {
     missing: [{ row: 6, part: "pred unmarked," }, { row: 7, part: "and curr unmarked" }],
   },
   "mark-in-add": {
-    story: "A marked arrow must not change. Somebody changes it all the same.",
+    story: "A marked arrow must not change. One call changes it all the same.",
     hints: [
-      "An add of 5, and a remove of the node in front of it.",
+      "Add 5, and remove the node in front of its place.",
       "The remove must have marked the node of 3, and done no more.",
       "Stop A before its last step. Let B remove 3 until it has set the mark. Then let A end.",
     ],
@@ -127,7 +127,7 @@ export const BREAK_LEVELS = {
     start: [["add", 5], ["remove", 3]], shortest: [17, 2], missing: [{ row: 7, part: "unmarked" }],
   },
   "same-node": {
-    story: "The second walk looks for pred. It meets something that looks like it.",
+    story: "The second walk looks for pred. It meets a node that looks like it.",
     hints: [
       "Three calls: an add of 5, and of the other thread a remove and an add of one key.",
       "The node of 3 is unlinked, and another node of 3 is inserted.",
@@ -141,7 +141,7 @@ export const BREAK_LEVELS = {
     start: [["add", 5], ["remove", 3]], shortest: [36, 3], missing: [{ row: 7, part: "pred is met" }],
   },
   "mark-at-key": {
-    story: "A marked node can stay in the chain for a while. Who reads it there?",
+    story: "A marked node can stay in the chain for a while. Which call reads it there?",
     hints: [
       "Three calls: an add of 5, a remove of 7, and then a contains of 7.",
       "A remove whose last compare-and-set fails leaves its node in the chain, marked.",
@@ -169,7 +169,7 @@ export const BREAK_LEVELS = {
     start: [["remove", 3], ["contains", 3]], shortest: [16, 3], missing: [{ row: 25, part: "if marked: start again;" }],
   },
   "mark-in-contains": {
-    story: "contains ignores the mark here, yet nobody has found a wrong answer. Why?",
+    story: "contains ignores the mark here, yet no wrong answer is known. Why?",
     hints: [
       "A remove of 3, and a contains of 3 by the other thread.",
       "The remove has set its mark and is still pending. So it may come after the contains.",
@@ -187,4 +187,4 @@ export const THREE_MORE = ["new-slot", "mark-in-ceiling", "mark-in-contains"];
 const NUMBERED = Object.keys(BREAK_LEVELS);
 export const numberOfLevel = (name) => NUMBERED.indexOf(name) + 1;
 export const levelOfNumber = (number) => NUMBERED[Number(number) - 1];
-export const whyWrong = (name, sentence) => `No: ${BREAK_LEVELS[name].others[sentence]}. Look for the line that this list makes differently.`;
+export const whyWrong = (name, sentence) => `No: ${BREAK_LEVELS[name].others[sentence]}. Look for the line that this list executes differently.`;

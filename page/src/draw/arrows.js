@@ -1,67 +1,44 @@
-// The arrows of the links between the nodes of the list.
-import { said, tag, title } from "../run/markup.js";
+// Draws the arrows between nodes. Each is one curve of four points, so any arrow can be animated into any other.
 import { linkTarget } from "../run/state.js";
-import { FOLD_WIDTH, LEAST_GAP, NODE_HEIGHT, TOP } from "./places.js";
+import { said, tag, title } from "../run/markup.js";
 
-export const LINK_WIDTH = 24;
+export const linkWidth = (width) => (width < 70 ? 12 : Math.min(34, width * 0.3));
+
+export function curve(...numbers) {
+  const [a, b, c, d, e, f, g, h] = numbers.map((one) => Math.round(one * 10) / 10);
+  return `M${a} ${b} C${c} ${d} ${e} ${f} ${g} ${h}`;
+}
+
+// The arrow of a marked node begins at its edge, since a cross is in place of the dot.
+function pathOf(from, to, places, isMarked) {
+  const [x, y] = [from.x + from.width - (isMarked ? 0 : linkWidth(from.width) / 2), from.y + from.key / 2];
+  if (from === to) return curve(x, y, x + 44, y - 50, from.x + from.width - 10, from.y - 50, from.x + from.width - 24, from.y - 5);
+  if (from.y === to.y && to.x > from.x && !from.aside) return curve(x, y, x + 10, y, to.x - 20, y, to.x - 5, y);
+  if (to.aside && to.x > from.x && to.x - from.x < 2 * from.width) return curve(x, y, x + 10, y, to.x - 20, to.y + to.key / 2, to.x - 5, to.y + to.key / 2);
+  if (to.aside) return curve(x, y, x, y + 50, to.x - 30, to.y + to.key / 2, to.x - 5, to.y + to.key / 2);
+  const [tx, ty] = [to.x + Math.min(26, to.width / 2), to.y + to.row + 5];
+  const isOver = Object.values(places).some((one) => one.aside && one !== from && one.x > from.x && one.x < tx);
+  if (isOver) return curve(x, y, x + 16, y - 96, tx, ty + 56, tx, ty);
+  return curve(x, y, Math.max(x + 50, tx - 60), y, tx, ty + 46, tx, ty);
+}
 
 export function drawLink(state, name, places, event) {
   const { link, reached } = state.nodes[name];
   const target = linkTarget(link);
-  const from = places[name];
-  const to = places[target];
-  if (!to || from.folded || name === "tail" || (target === "head" && !reached)) return "";
+  const [from, to] = [places[name], places[target]];
+  if (!to || name === "tail" || (target === "head" && !reached)) return "";
   const kind = event?.word === `${name}.link` ? "hot" : from.aside ? "out" : "in";
   const isMarked = link.endsWith("*");
-  const x = from.x + from.width - (isMarked ? 1 : LINK_WIDTH / 2);
-  const y = from.y + NODE_HEIGHT / 2;
   return tag("g", { class: `link ${kind}${from.aside ? " aside" : ""}`, "data-part": `link ${name}`, "data-to": target },
     title(`${name}.link: ${said(link)}`),
-    isMarked ? "" : tag("circle", { cx: x, cy: y, r: 4 }),
-    tag("path", { d: pathOf(from, to, x, y), "marker-end": `url(#tip-${kind})` }),
-  );
+    isMarked ? "" : tag("circle", { cx: from.x + from.width - linkWidth(from.width) / 2, cy: from.y + from.key / 2, r: 5 }),
+    tag("path", { d: pathOf(from, to, places, isMarked), "marker-end": `url(#tip-${kind})` }));
 }
 
-function pathOf(from, to, x1, y1) {
-  if (from === to) return pathAround(from, x1, y1);
-  if (from.aside && !to.aside) return pathUp(from, to, x1, y1);
-  const isNext = to.x > from.x && to.x - from.x < 2 * (from.width + LEAST_GAP);
-  if (from.aside && !isNext) return pathOver(from, to, x1, y1);
-  return `M${x1} ${y1} L${to.x - 3} ${to.y + NODE_HEIGHT / 2}`;
+export function drawFoldLink({ place }, next) {
+  const y = place.y + place.key / 2;
+  return tag("g", { class: "link in" }, tag("path", { d: curve(place.x + place.width, y, place.x + place.width + 10, y, next.place.x - 20, y, next.place.x - 5, y), "marker-end": "url(#tip-in)" }));
 }
 
-// A line along and up in turn. It is written by its corners: where a page is zoomed, Firefox puts the tip of a path of H and V beside it.
-function bent(start, ...turns) {
-  const at = [...start];
-  const corners = turns.map((turn, index) => {
-    at[index % 2] = turn;
-    return ` L${at[0]} ${at[1]}`;
-  });
-  return `M${start[0]} ${start[1]}${corners.join("")}`;
-}
-
-const pathAround = (from, x1, y1) => bent([x1, y1], from.x + from.width + 10, from.y - 12, from.x + from.width - 12, from.y - 3);
-
-// From a node below the chain to one in it: along under the registers, and up through the gap left of the node.
-function pathUp(from, to, x1, y1) {
-  const beside = from.x + from.width + 8;
-  const under = from.y - 34 - 6 * from.lane;
-  const gap = to.x - (2 * to.gap) / 3 + ((7 * to.gap) / 48) * from.lane;
-  const y2 = to.y + NODE_HEIGHT - (to.folded ? 14 : 7) - 6 * from.lane;
-  return bent([x1, y1], beside, under, gap, y2, to.x - 3);
-}
-
-// From a node below the chain to one beside which others stand: along above these, and down between its name and its lock.
-function pathOver(from, to, x1, y1) {
-  return bent([x1, y1], from.x + from.width + 8, from.y - 34 - 6 * from.lane, to.x + to.width - 46, to.y - 3);
-}
-
-const ARROW = { viewBox: "0 0 10 10", refX: 9, refY: 5, markerWidth: 11, markerHeight: 11, markerUnits: "userSpaceOnUse" };
-export const drawTip = (kind) =>
-  tag("marker", { id: `tip-${kind}`, class: `tip ${kind}`, ...ARROW, orient: "auto" }, tag("path", { d: "M0 0 L10 5 L0 10 z" }));
-
-export function drawFoldLink(item, next) {
-  const y = TOP + NODE_HEIGHT / 2;
-  const path = { d: `M${item.x + FOLD_WIDTH} ${y} L${next.x - 3} ${y}`, "marker-end": "url(#tip-in)" };
-  return tag("g", { class: "link in" }, tag("path", path));
-}
+const TIP = { viewBox: "0 0 10 10", refX: 8, refY: 5, markerWidth: 17, markerHeight: 17, markerUnits: "userSpaceOnUse", orient: "auto" };
+export const drawTip = (kind) => tag("marker", { id: `tip-${kind}`, class: `tip ${kind}`, ...TIP }, tag("path", { d: "M0 0 L10 5 L0 10 z" }));

@@ -1,4 +1,4 @@
-// Gentle changes of a drawing, which is complete at once: what has a name (data-part) glides over it from where it stood.
+// Animates changes of a drawing. The drawing is complete at once; each part with a data-part moves in from its previous place.
 
 const TIME = 260; // milliseconds
 const EASE = { duration: TIME, easing: "cubic-bezier(.2, .7, .2, 1)" };
@@ -26,10 +26,40 @@ function glideArrow(part, before) {
   }
 }
 
-export function glide(box, draw, isNear) {
+const SLOW = 1200; // milliseconds of a fall
+export const fallTime = () => (wantsStill() || document.hidden ? 0 : SLOW);
+
+// Animates a loss in two halves: the arrow moves from the lost nodes to the new one, then these change places.
+function fall(box, before, fallen) {
+  const timing = { duration: SLOW, easing: "ease-in-out" };
+  const shift = (was, { dataset }) => `${was.x - Number(dataset.x)}px ${was.y - Number(dataset.y)}px`;
+  for (const part of box.querySelectorAll("[data-part]")) {
+    const was = before.get(part.dataset.part);
+    const path = part.querySelector("path");
+    if (part.dataset.part.startsWith("link ") && was !== undefined) {
+      const next = box.querySelector(`[data-part="node ${part.dataset.to}"]`);
+      const old = before.get(`node ${part.dataset.to}`);
+      const isTurned = was.to !== part.dataset.to && next !== null && old !== undefined;
+      const by = isTurned ? [old.x - Number(next.dataset.x), old.y - Number(next.dataset.y)] : [0, 0];
+      const turned = isTurned ? path.getAttribute("d").replace(/([\d.-]+) ([\d.-]+) ([\d.-]+) ([\d.-]+)$/, (_, ...at) => at.slice(0, 4).map((one, index) => Number(one) + by[index % 2]).join(" ")) : was.d;
+      path.animate([was.d, turned, turned, path.getAttribute("d")].map((d, index) => ({ d: `path("${d}")`, offset: [0, 0.4, 0.5, 1][index] })), timing);
+      const node = part.dataset.part.replace("link", "node");
+      const from = shift(before.get(node), box.querySelector(`[data-part="${node}"]`));
+      part.querySelector("circle")?.animate([{ translate: from }, { translate: from, offset: 0.5 }, { translate: "0 0" }], timing);
+    } else if (was !== undefined) {
+      const from = shift(was, part);
+      const isFallen = fallen.includes(part.dataset.part.replace("node ", ""));
+      if (isFallen) part.classList.add("lost", "falls");
+      part.animate([{ translate: from }, { translate: from, rotate: "0deg", offset: 0.5 }, { rotate: isFallen ? "9deg" : "0deg", offset: 0.75 }, { translate: "0 0" }], timing);
+    }
+  }
+}
+
+export function glide(box, draw, isNear, fallen = null) {
   const before = isNear && !wantsStill() && !document.hidden ? placesIn(box) : null;
   draw();
   if (before === null || before.size === 0) return;
+  if (fallen !== null) return fall(box, before, fallen);
   for (const part of box.querySelectorAll("[data-part]")) {
     const was = before.get(part.dataset.part);
     if (was === undefined) part.animate([{ opacity: 0 }, { opacity: 1 }], EASE);

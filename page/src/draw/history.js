@@ -1,4 +1,4 @@
-// Draws the history: a bar for each call, the moment at which it takes effect, the contents of the set below, and the order.
+// Draws the history: a bar for each call, and the moment at which it takes effect.
 import { callText, colourOf, label, letterOf, tag, title } from "../run/markup.js";
 
 export const HISTORY_LEFT = 50;
@@ -7,7 +7,7 @@ const LEAST_STEP = 7; // pixels of one event
 const BAR = 20; // pixels: the height of a bar
 const BELOW = 6; // pixels between a bar and the labels of the next lane
 
-// The events that are drawn: all where there is room for them, else a window that moves by thirds.
+// Returns the events to draw: all if they fit, else a window that moves by thirds.
 function windowOf(total, count, room) {
   const most = Math.max(30, Math.floor(room / LEAST_STEP));
   if (total <= most) return { first: 1, last: Math.max(total, 1) };
@@ -19,7 +19,9 @@ function windowOf(total, count, room) {
 
 const shownIn = ({ calls }, first, last) => calls.filter(({ begun, ended }) => begun <= last && (ended === null || ended >= first));
 
-function formOf(threads) {
+// `isLow`: there is little height, so the labels are inside the bars.
+function formOf(threads, isLow) {
+  if (isLow && threads <= 6) return { bar: 19, below: 4, mostRows: 1 };
   if (threads > 12) return { bar: 9, below: 1, mostRows: 1 };
   if (threads > 6) return { bar: 13, below: 4, mostRows: 1 };
   if (threads > 2) return { bar: 15, below: 3, mostRows: 2 };
@@ -36,28 +38,28 @@ export function layLabels(threads, calls, itemOf, room) {
   return { places, rows: Math.max(1, ...found.map(({ row }) => row + 1)), areWhole: found.length === places.size };
 }
 
-export function scaleOf(trace, count, width, hides = false) {
+export function scaleOf(trace, count, width, hides = false, isLow = false) {
   const { first, last } = windowOf(trace.total, count, width - HISTORY_LEFT - HISTORY_RIGHT);
   const isWhole = first === 1 && last >= trace.total;
   const step = (width - HISTORY_LEFT - HISTORY_RIGHT) / (last - first + 1);
   const edge = width - HISTORY_RIGHT;
   const x = (moment) => HISTORY_LEFT + (moment - first + 0.5) * step;
-  const { bar, below, mostRows } = formOf(trace.threads);
+  const { bar, below, mostRows } = formOf(trace.threads, isLow);
   const leftOf = ({ begun }) => (begun < first ? HISTORY_LEFT - 6 : x(begun));
   const rightOf = ({ ended }) => (ended === null || ended > last ? edge : x(ended));
   const spanOf = (call) => ({ left: leftOf(call), right: rightOf(call) });
   const itemOf = (call) => ({ ...spanOf(call), wide: widthOf(callText(call), call.reply ?? "") });
   const labels = layLabels(trace.threads, shownIn(trace, first, last), itemOf, { start: HISTORY_LEFT - 6, edge: width, mostRows });
-  const above = ROW_HEIGHT * (isWhole ? labels.rows : mostRows);
+  const above = isLow && trace.threads <= 6 ? 0 : ROW_HEIGHT * (isWhole ? labels.rows : mostRows);
   const lane = above + bar + below;
   const now = hides ? count : Infinity; // the last event of which something is told
   const height = 6 + trace.threads * lane + (isWhole && labels.areWhole ? 0 : ROW_HEIGHT);
   const y = (thread) => 2 + thread * lane + above + bar / 2;
   const { places, areWhole } = labels;
-  return { first, last, step, lane, bar, width, count, now, edge, height, x, y, spanOf, labels: places, areWhole };
+  return { first, last, step, lane, bar, width, count, now, edge, height, x, y, spanOf, labels: places, areWhole, isIn: above === 0 };
 }
 
-// A point is reached once the call that has it is known to stand there: at its change, or when it answers.
+// Whether a point is known by now: at the call's change, or when the call returns.
 export const isReached = (call, count) => call.at <= count && (call.changes || (call.ended !== null && call.ended <= count));
 
 export function drawLane(scale, thread, place = thread) {
@@ -91,11 +93,12 @@ function drawBar(call, scale) {
 
 function drawLabel(call, scale, left, top) {
   const place = scale.labels.get(call.id);
-  if (place === null) return label({ class: "call", x: left, y: top - 4 }, signOf(call));
+  const [indent, base] = scale.isIn ? [6, top + 14] : [0, top - 4];
+  if (place === null) return label({ class: "call", x: left + indent, y: base }, signOf(call));
   const isTold = call.reply !== null && call.ended <= scale.now;
   const done = call.ended !== null && call.ended <= scale.count;
   const reply = isTold ? tag("tspan", { class: done ? "reply" : "reply later" }, ` ${call.reply}`) : "";
-  return tag("text", { class: "call", x: place.x, y: top - 4 - ROW_HEIGHT * place.row }, callText(call), reply);
+  return tag("text", { class: "call", x: place.x + indent, y: base - ROW_HEIGHT * place.row }, callText(call), reply);
 }
 
 const isShown = (call, scale) => scale.now === Infinity || isReached(call, scale.now);
@@ -140,7 +143,7 @@ export function drawCalls(trace, scale) {
   return tag("svg", frame, ...lanes, drawCursor(scale, height, scale.y(0) - scale.bar / 2 - 2), ...stems, ...bars, ...points, signs);
 }
 
-// ---- the words of calls above their bars: their places follow from the whole run, so that nothing jumps
+// ---- The labels above the bars. Their places follow from the whole run, so nothing jumps.
 const LETTER = 7.1; // pixels of a letter of a label
 const BOLD = 8; // and of one of a reply
 const BETWEEN = 8; // two labels of a row
@@ -162,7 +165,7 @@ function placeLabels(items, { start, edge, mostRows }) {
   });
 }
 
-// If a label has no space its call is written by signs, which a line of the drawing explains.
+// A call whose label has no space is written by signs, which a line of the drawing explains.
 const SIGNS = {
   add: (key) => `+${key}`,
   remove: (key) => `\u2212${key}`,

@@ -1,6 +1,6 @@
-// Draws the proved code of the open calls, each thread at its line; of a call without a loop of its own the rows of the table.
-import { CODE, CODE_OF } from "../../made/code.js";
+// Draws the proved code of the pending calls, with each thread at its line. A call without its own loop is shown by the rows of the table.
 import { LISTS } from "../../made/rows.js";
+import { more } from "../engine/more.js";
 import { callText, chipOf, escaped, tag } from "../run/markup.js";
 
 function stepsAt(functions, row) {
@@ -9,11 +9,11 @@ function stepsAt(functions, row) {
 
 export function codeOf(kind, { operation }) {
   const { rows } = LISTS[kind].calls[operation];
-  const file = CODE_OF[kind].find((name) => rows.every((row) => stepsAt(CODE[name], row).length > 0));
-  return file === undefined ? null : { file, functions: CODE[file] };
+  const file = more.CODE_OF[kind].find((name) => rows.every((row) => stepsAt(more.CODE[name], row).length > 0));
+  return file === undefined ? null : { file, functions: more.CODE[file] };
 }
 
-// The line at which a thread stands. Where several make its row, that which comes where its call has come to.
+// Returns the line of a thread. If several lines make its row, the progress of its call decides.
 export function stepOf(functions, held) {
   let found = stepsAt(functions, held.pc);
   const came = stepsAt(functions, held.came).map(({ code }) => code.name);
@@ -86,11 +86,12 @@ export function drawListing({ trace, state, event }) {
   const byRows = (byFile.get(undefined) ?? []).map((one) => rowsOf(kind, one));
   byFile.delete(undefined);
   const parts = [...byFile].map(([file, threads]) => {
+    const functions = more.CODE[file];
     const standing = threads.map(({ held, thread }) => {
-      const step = stepOf(CODE[file], held);
-      return { held, thread, step, callers: callersOf(CODE[file], step.code.name), isMoved: thread === event?.thread };
+      const step = stepOf(functions, held);
+      return { held, thread, step, callers: callersOf(functions, step.code.name), isMoved: thread === event?.thread };
     });
-    return fileOf(file, CODE[file], kind, standing);
+    return fileOf(file, functions, kind, standing);
   });
   return tag("div", { class: "listings" }, ...parts, ...byRows);
 }

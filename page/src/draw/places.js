@@ -1,25 +1,25 @@
-// Where each node of the list is drawn, and the registers of the threads under the nodes to which they point.
+// Places the nodes of the list on their stage, and the threads' hands (labels) on the nodes. Lengths are in units of `scale` pixels.
 import { LISTS } from "../../made/rows.js";
-import { letterOf } from "../run/markup.js";
 import { ownerIn } from "../run/outcomes.js";
-import { isWritten, keyNumber, linkTarget } from "../run/state.js";
+import { isWritten, keyNumber } from "../run/state.js";
 import { NODE_REGISTERS } from "../run/trace.js";
 
-// The widths of a node and of the gap behind it: on a phone the chain of a lesson or of a level is to be seen whole.
-const WIDE = { node: 94, gap: 48, share: 1 };
-const COMPACT = { node: 76, gap: 32, share: 0.76 }; // share: of the room that a wide one needs
-const NARROW = 480; // pixels
-export const shapeFor = (room) => (room < NARROW ? COMPACT : WIDE);
-export const NODE_HEIGHT = 54;
-export const LEAST_GAP = 12; // between nodes that are not in the chain
-export const FOLD_WIDTH = 84;
-export const TOP = 58;
-const MOST_UNFOLDED = 14; // a longer chain is folded
-const MOST_ASIDE = 10; // nodes drawn that are not in the chain
-const MOST_POINTING = 6; // threads whose registers are drawn
-export const SIGN_WIDTH = 8.6; // of a register's label
+export const LIST_LOCK = 40; // above a list with one lock
+const MARGIN = 8;
+const WIDEST = 190; // of a node
+const BESIDE = 18; // between two nodes that are not in the chain
+const MOST_POINTING = 6; // threads whose hands are drawn
 
-function pointersOf(state, event) {
+// A form has the least pixels of a unit, so that no label is too small to read; the heights of the two parts of a node, with its key and with
+// its lock; the room of a node and its gap; the gap as a share of a node; what a hand measures; and of the nodes outside the chain, how far below it they may stand, the roomiest first (0: in its gaps).
+const HANDS = { height: 30, over: 9, left: 28, letter: 10.4, right: 12 };
+const SMALL_HANDS = { height: 26, over: 8, left: 21, letter: 9.8, right: 5 };
+const WIDE = { least: 0.9, key: 56, lock: 32, slot: 100, gap: 0.5, hand: HANDS, kind: "", below: [54, 30, 0] };
+const SMALL = { least: 0.82, key: 44, lock: 28, slot: 62, gap: 0.28, hand: SMALL_HANDS, kind: "small-hands", below: [44, 34] };
+const LOW = 46; // from the top of the chain to that of the nodes in its gaps
+const formOf = ({ wide }) => (wide < 600 ? SMALL : WIDE);
+
+export function pointersOf(state, event) {
   const inCall = state.threads.map((held, thread) => ({ held, thread })).filter(({ held }) => held.pc !== 0);
   inCall.sort((one, other) => Number(other.thread === event?.thread) - Number(one.thread === event?.thread));
   const { calls } = LISTS[state.trace.kind];
@@ -31,7 +31,7 @@ function pointersOf(state, event) {
   });
 }
 
-// A register that has the head is drawn only as `pred` of a walk that has begun: it may not have been set yet.
+// Whether a register is drawn. One that has the head can be unset, so it is drawn only as `pred` of a walk that has begun.
 export const isPointing = (held, name) => held[name] !== "head" || (name === "pred" && held.curr !== "head");
 
 function importantNodes(state, event, pointers) {
@@ -43,114 +43,167 @@ function importantNodes(state, event, pointers) {
   return important;
 }
 
-function foldedChain(chain, important) {
-  if (chain.length <= MOST_UNFOLDED) return chain.map((name) => ({ name }));
-  const isNear = (index) => chain.slice(Math.max(index - 1, 0), index + 2).some((name) => important.has(name));
+// Returns the chain as items: single nodes, and folded groups if the stage has no room for all.
+function foldedChain(chain, important, most) {
+  if (chain.length <= most) return chain.map((name) => ({ name, names: [name] }));
   const items = [];
-  chain.forEach((name, index) => {
+  for (const name of chain) {
     const last = items[items.length - 1];
-    if (isNear(index)) items.push({ name });
-    else if (last?.folded) last.folded.push(name);
-    else items.push({ folded: [name] });
-  });
-  return items.flatMap((item) => (item.folded?.length === 1 ? [{ name: item.folded[0] }] : [item]));
-}
-
-function placesOfChain(items, shape) {
-  const places = {};
-  let x = 16;
-  for (const item of items) {
-    item.x = x;
-    const width = item.folded ? FOLD_WIDTH : shape.node;
-    for (const name of item.folded ?? [item.name]) places[name] = { x, y: TOP, width, gap: shape.gap, folded: !!item.folded };
-    x += width + shape.gap;
+    if (important.has(name)) items.push({ name, names: [name] });
+    else if (last !== undefined && last.name === undefined) last.names.push(name);
+    else items.push({ names: [name] });
   }
-  return { places, width: x - shape.gap + 16 };
+  return items.map((item) => (item.names.length === 1 ? { name: item.names[0], names: item.names } : item));
 }
 
-// Which nodes outside the chain are drawn: those of interest, the threads' own, and of those taken out the last.
-function nodesAside(state, chain, important) {
+// Returns the largest unit and heights that fit the stage. They depend on the run, not on its step, so nothing jumps.
+function unitsOf(state, room, slots, isFlat) {
+  const form = formOf(room);
+  const least = Math.max(form.least, room.least ?? 0);
+  const row = form.key + (room.lock === "nodes" ? form.lock : 0);
+  const heightsOf = (below, lanes) => {
+    const top = (room.lock === "list" ? LIST_LOCK : 0) + lanes * (form.hand.height + 2) - form.hand.over + MARGIN;
+    const down = isFlat ? 0 : below === 0 ? LOW : Math.max(row + below, lanes * (form.hand.height + 2) - 2); // below the chain's hands
+    return { top, down, height: top + down + row + MARGIN + 4 };
+  };
+  const lanesAt = (scale) => Math.ceil(Math.min(state.threads.length, MOST_POINTING) / handsPerSlot(form, room, room.wide / scale, slots));
+  const fits = (at) => heightsOf(form.below[at], lanesAt(least)).height * least <= room.high;
+  const first = form.below.findIndex((_, at) => at >= (room.tight ?? 0) && fits(at));
+  const tight = first === -1 ? form.below.length - 1 : first;
+  // A larger unit leaves less room for hands side by side. Chooses the number of rows of hands that allows the largest unit.
+  const sizeWith = (lanes) => {
+    const high = room.high / heightsOf(form.below[tight], lanes).height;
+    const own = form === SMALL ? Math.min(1, high, room.wide / (slots * form.slot)) : Math.min(room.wide / 880, high, room.wide / (slots * 128));
+    let scale = Math.max(least, own);
+    while (scale > least && lanesAt(scale) > lanes) scale = Math.max(least, scale - 0.02);
+    return { lanes, scale, isGood: lanesAt(scale) <= lanes };
+  };
+  const sizes = [1, 2, 3, 4, 5, MOST_POINTING].map(sizeWith).filter(({ isGood }) => isGood);
+  const { lanes, scale } = sizes.reduce((one, other) => (other.scale > one.scale + 0.001 ? other : one));
+  const heights = heightsOf(form.below[tight], lanes);
+  return { ...heights, form, scale, tight, row, isLow: form.below[tight] === 0, width: Math.max(room.wide / scale, slots * form.slot), spare: Math.max(0, room.high / scale - heights.height) };
+}
+
+const widthOfHand = ({ left, letter, right }, words) => left + letter * words.length + right;
+
+function handsPerSlot(form, { names = false }, width, slots) {
+  const node = widthOfNode(form, width - 2 * MARGIN, slots);
+  const gap = (width - 2 * MARGIN - slots * node) / Math.max(1, slots - 1);
+  return Math.max(1, Math.floor((node + 0.45 * gap + 6) / (widthOfHand(form.hand, names ? "curr, succ" : "pred") + 6)));
+}
+
+const widthOfNode = (form, all, slots) => Math.min(WIDEST, all / (slots + form.gap * (slots - 1)));
+
+function placesOfChain(items, room, units, slots) {
+  const { width, row, top, down, spare, scale, form, isLow } = units;
+  const [left, right] = (room.ends ?? [0, 0]).map((end) => Math.max(MARGIN, end / scale));
+  const all = width - left - right;
+  const node = Math.min(isLow ? (all - 24) / (2 * slots - 3) : WIDEST, widthOfNode(form, all, slots)); // in a gap a node has to fit
+  const gap = (all - items.length * node) / Math.max(1, items.length - 1);
+  const y = top + spare * (down === 0 ? 0.5 : 0.35);
+  const places = {};
+  items.forEach((item, index) => {
+    item.place = { x: left + index * (node + gap), y, width: node, gap, row, key: form.key, folded: item.name === undefined };
+    for (const name of item.names) places[name] = item.place;
+  });
+  return places;
+}
+
+// Returns the nodes outside the chain to draw: important ones, the threads' own, and the last unlinked ones.
+function nodesAside(state, chain, important, most) {
   const inChain = new Set(chain);
   const aside = Object.keys(state.nodes).filter((name) => !inChain.has(name) && isWritten(state.nodes[name]));
   const rank = (name) => (important.has(name) ? 2 : state.nodes[name].reached ? 0 : 1);
   const latest = [...aside].reverse().sort((one, other) => rank(other) - rank(one));
-  return { shown: latest.slice(0, MOST_ASIDE), more: Math.max(0, aside.length - MOST_ASIDE) };
+  const shown = latest.slice(0, most).sort((one, other) => keyNumber(state.nodes[one].key) - keyNumber(state.nodes[other].key));
+  return { shown, more: aside.length - shown.length };
 }
 
-// Each node aside stands below the place that its key has in the chain, or right of it where that is taken.
-function placeAside(state, chain, shown, places, y) {
-  const { width, gap } = places.head;
-  const taken = [];
-  const byKey = [...shown].sort((one, other) => keyNumber(state.nodes[one].key) - keyNumber(state.nodes[other].key));
-  for (const name of byKey) {
-    const key = keyNumber(state.nodes[name].key);
-    const before = chain.filter((other) => keyNumber(state.nodes[other].key) < key);
-    const place = places[before[before.length - 1] ?? "head"];
-    let x = place.x + (place.width + gap) / 2;
-    while (taken.some((other) => Math.abs(other - x) < width + LEAST_GAP)) x += width + 16;
-    places[name] = { x, y, width, gap, aside: true, lane: taken.length % 3 };
-    taken.push(x);
+// Places the nodes outside the chain below the gap where their keys belong, side by side.
+function placeAside(state, chain, shown, places, { width, down, spare }) {
+  const { width: node, gap, row, key, y } = places.head;
+  const groups = new Map();
+  for (const name of shown) {
+    const before = chain.findLast((other) => keyNumber(state.nodes[other].key) < keyNumber(state.nodes[name].key)) ?? "head";
+    groups.set(before, [...(groups.get(before) ?? []), name]);
   }
-  return taken.length === 0 ? 0 : Math.max(...taken) + width + 16;
-}
-
-// Of each node of the chain, the room for labels under it: none of the gap behind it where an arrow comes up there.
-function roomsUnder(state, items, shown, shape) {
-  const risen = new Set(shown.map((name) => linkTarget(state.nodes[name].link)));
-  const rooms = {};
-  items.forEach(({ name }, index) => {
-    const next = items[index + 1];
-    const isCrossed = next !== undefined && (next.folded ?? [next.name]).some((other) => risen.has(other));
-    rooms[name] = shape.node + (isCrossed ? 0 : shape.gap - 6);
-  });
-  return rooms;
-}
-
-function labelTexts(thread, registers, room) {
-  const texts = [];
-  for (const register of registers) {
-    const joined = `${texts[texts.length - 1]}, ${register}`;
-    if (texts.length > 0 && joined.length * SIGN_WIDTH <= room) texts[texts.length - 1] = joined;
-    else texts.push(`▲ ${letterOf(thread)} ${register}`);
+  let free = 2;
+  for (const [before, names] of groups) {
+    const middle = places[before].x + node + gap / 2;
+    const wanted = middle - (names.length * (node + BESIDE) - BESIDE) / 2;
+    let x = Math.max(free, Math.min(wanted, width - names.length * (node + BESIDE)));
+    for (const name of names) {
+      places[name] = { x, y: y + down + spare * 0.25, width: node, gap, row, key, aside: true };
+      x += node + BESIDE;
+    }
+    free = x;
   }
-  return texts;
 }
 
-// The labels under the nodes, each on the first line on which no other is in its way.
-function pointerLabels(pointers, places, rooms) {
-  const labels = [];
-  const add = (thread, name, text) => {
-    const { x, y } = places[name];
-    const own = { thread, name, text, row: y, left: x, right: x + SIGN_WIDTH * text.length + 8, lane: 0 };
-    const isBeside = (other) => other.left >= own.right || own.left >= other.right;
-    const isInTheWay = (other) => other.row === own.row && other.lane === own.lane && !isBeside(other);
-    while (labels.some(isInTheWay)) own.lane++;
-    labels.push(own);
-  };
+// Puts the hands of a node into rows: each in the lowest row that has room.
+function rowsOf(hands, most) {
+  const rows = [];
+  for (const own of hands) {
+    const row = rows.find(({ wide }) => wide + 6 + own.wide <= most);
+    if (row !== undefined) Object.assign(row, { wide: row.wide + 6 + own.wide, hands: [...row.hands, own] });
+    else rows.push({ wide: own.wide, hands: [own] });
+  }
+  return rows;
+}
+
+function handsOn(pointers, places, { form: { hand }, width }, hides) {
+  const on = {};
   for (const { thread, at } of pointers) {
     for (const name in at) {
-      if (!places[name] || places[name].folded) continue;
-      for (const text of labelTexts(thread, at[name], rooms[name] ?? places[name].width)) add(thread, name, text);
+      const words = at[name].filter((one) => !hides.includes(one)).map((one) => (one === "node" && hides.length > 0 ? "again" : one)).join(", ");
+      if (words !== "" && places[name] && !places[name].folded) (on[name] ??= []).push({ thread, name, words, wide: widthOfHand(hand, words) });
     }
   }
-  return labels;
+  const all = Object.values(on).flatMap((hands) => {
+    hands.sort((one, other) => one.thread - other.thread);
+    const { x, y, width: node, gap, aside } = places[hands[0].name];
+    return rowsOf(hands, node + (aside ? 10 : 0.45 * gap)).flatMap((row, index) => {
+      let left = Math.max(2, Math.min(width - row.wide - 2, x + (node - row.wide) / 2)); // at the ends of the chain, towards its middle
+      return row.hands.map((own) => {
+        left += own.wide + 6;
+        return { ...own, x: left - own.wide - 6, y: Math.max(1, y - hand.height + hand.over - index * (hand.height + 2)) };
+      });
+    });
+  });
+  return all.reduce((placed, own) => [...placed, freeHand(own, placed, places[own.name], hand, width)], []);
 }
 
-export function arranged(state, event, shape) {
+// Moves a hand that would cover another one to the nearest free place that still touches its node.
+function freeHand(own, placed, { x, y, width: node }, { height, over }, width) {
+  const isFree = (at) => placed.every((other) => at.x + own.wide <= other.x || other.x + other.wide <= at.x || Math.abs(at.y - other.y) >= height);
+  const [least, most] = [Math.max(2, x - own.wide), Math.min(width - 2 - own.wide, x + node)];
+  const rows = [0, 1, 2, 3, 4, 5].map((row) => y - height + over - row * (height + 2)).filter((top) => top >= 1);
+  for (let away = 0; away <= node + own.wide; away += 5) {
+    for (const left of [own.x - away, own.x + away].filter((one) => one === own.x || (least <= one && one <= most))) {
+      const top = [own.y, ...rows, 1].find((one) => isFree({ x: left, y: one }));
+      if (top !== undefined) return { ...own, x: left, y: top };
+    }
+  }
+  return own;
+}
+
+/**
+ * `room`: the pixels of the stage (`wide`, `high`, and of a unit the `least`), the most nodes of the chain (`slots`), where a `lock` is shown
+ * ("list", "nodes" or ""), whether no node leaves the chain (`flat`), how `tight` it was drawn before, the pixels left free at both `ends`, and
+ * the registers whose hands are not drawn (`hides`).
+ * @typedef {{ wide: number, high: number, least?: number, slots: number, lock: string, flat?: boolean, tight?: number, ends?: number[], hides: string[], names?: boolean }} Room
+ */
+export function arranged(state, event, room) {
   const chain = state.chain();
   const pointers = pointersOf(state, event);
   const important = importantNodes(state, event, pointers);
-  const items = foldedChain(chain, important);
-  const { places, width } = placesOfChain(items, shape);
-  const { shown, more } = nodesAside(state, chain, important);
-  const rooms = roomsUnder(state, items, shown, shape);
-  const lanesUnder = (labels, row) => Math.max(0, ...labels.filter((own) => own.row === row).map((own) => own.lane + 1));
-  const below = TOP + NODE_HEIGHT + 18 * lanesUnder(pointerLabels(pointers, places, rooms), TOP) + 54;
-  const right = placeAside(state, chain, shown, places, below);
-  const labels = pointerLabels(pointers, places, rooms);
-  const bottom = shown.length > 0 ? below : TOP;
-  const names = [...items.filter((item) => item.name).map((item) => item.name), ...shown];
-  const height = bottom + NODE_HEIGHT + 18 * lanesUnder(labels, bottom) + 14;
-  const wide = Math.max(width, right, ...labels.map((own) => own.right));
-  return { chain, items, places, labels, names, more, width: wide, height };
+  const form = formOf(room);
+  const items = foldedChain(chain, important, Math.max(5, Math.floor(room.wide / form.least / form.slot)));
+  const slots = Math.max(items.length, Math.min(room.slots, Math.floor(room.wide / form.least / form.slot)));
+  const { shown, more } = nodesAside(state, chain, important, Math.max(3, Math.floor(room.wide / form.least / form.slot)));
+  const units = unitsOf(state, room, slots, room.flat === true && shown.length === 0);
+  const places = placesOfChain(items, room, units, slots);
+  placeAside(state, chain, shown, places, units);
+  const names = [...items.filter(({ name }) => name !== undefined).map(({ name }) => name), ...shown];
+  return { chain, items, slots, places, names, more, units, hands: handsOn(pointers, places, units, room.hides) };
 }

@@ -1,4 +1,4 @@
-// What stands below the list: the contents of the set, the order of the calls, and the tables of the threads and of the rows.
+// Draws what is below the list: the set's contents, the order of the calls, the tables of threads and rows.
 import { LISTS } from "../../made/rows.js";
 import { callText, chipOf, escaped, keyText, label, openReply, tag, title } from "../run/markup.js";
 import { contentsIn } from "../run/state.js";
@@ -24,7 +24,7 @@ function rowCell(held, kind) {
   return `<b>${held.pc}</b> ${row ? `${row.step} <small>${row.book}</small>` : ""}`;
 }
 
-// A register that the rows of the call do not write has no value to be seen.
+// Registers that the call's rows do not write have no visible value.
 const hasRegister = (kind, call, name) => LISTS[kind].calls[call.operation].registers.includes(name);
 
 function registerCell(held, name, moved, event, kind) {
@@ -57,7 +57,7 @@ export function drawThreads(state, event, all, hidesReplies = false) {
   return tag("table", {}, tag("thead", {}, head), tag("tbody", {}, ...rows));
 }
 
-// ---- the table of the list that runs: the row that was just made, and each thread at the row that it makes next
+// ---- the step table of the running list: the last row made, and each thread at its next row
 export function drawTable({ trace, state, event, before }) {
   const made = event === null || event.deed === "begin" ? null : before.pc;
   const at = new Map();
@@ -98,7 +98,7 @@ function drawWindow(scale, total, x) {
   return label({ class: "note", y: 42, ...place }, `events ${scale.first} to ${scale.last} of ${total}`);
 }
 
-// What the row of the contents is called. A broken list may have other keys than the points of its calls say.
+// The name of the contents row. A broken list can have other keys than the points of its calls say.
 function nameOfContents({ lacks }) {
   if (lacks === null) return label({ class: "name", x: 6, y: 17 }, "set");
   const lines = ["by the", "answers"].map((words, line) => label({ class: "name", x: 0, y: 10 + 12 * line, style: "font-size:11px" }, words));

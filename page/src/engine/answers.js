@@ -1,4 +1,4 @@
-// What the engine's answers say, as records: the one place where its lines are read. Words for a reader are made elsewhere.
+// Parses the engine's answers into records. Other modules put them into words.
 
 const linesIn = (text) => text.trimEnd().split("\n");
 
@@ -56,7 +56,7 @@ export function readFault(text) {
   return { line: line === null ? null : Number(line), cause, says };
 }
 
-// The record of a verdict: lines of a word and its values. Its kind is the verdict's word, or `fault` with the engine's line about the text.
+// Reads the record of a verdict. Its kind is the verdict's word, or `fault` with the engine's line about the text.
 export function readVerdict({ text }) {
   const lines = linesIn(text);
   const find = (word) => lines.find((line) => line.startsWith(`${word} `)) ?? null;
@@ -64,22 +64,20 @@ export function readVerdict({ text }) {
   const [kind = "fault"] = valuesOf("verdict");
   if (kind === "fault") return { kind, fault: readFault(text), order: null, why: null };
   const [[count], [cut], [key = null], [moment = null]] = ["calls", "cut", "key", "moment"].map(valuesOf);
-  const [[since = null, there], [hidden, first, last]] = ["since", "hidden"].map(valuesOf);
-  const by = find("by")?.slice("by ".length);
+  const [[was = null], [reply = null]] = ["clash", "reply"].map(valuesOf);
+  const callBehind = (word) => (find(word) === null ? null : callOfRecording(find(word).slice(`${word} `.length)));
   const why = {
     key: key === null ? null : Number(key),
     moment, // up to which the calls have no order; null: the key is left otherwise
-    since, // from which moment on they have none; 0: from the beginning; null: not known
-    isThere: there === "true",
-    by: by === undefined ? null : callOfRecording(by),
-    calls: lines.filter((line) => line.startsWith("call ")).map(callOfRecording),
-    hidden: hidden === undefined ? null : { count: Number(hidden), first, last },
+    // two calls that contradict each other: whether the first leaves the key present; null in place of a call: the key at first, or at the end
+    clash: was === null ? null : { isPresent: was === "true", first: callBehind("first"), second: callBehind("second") },
+    noSuchReply: reply === null ? null : Number(reply), // the call whose reply no set returns to it
   };
   const ofCalls = { count: Number(count), overlapped: Number(valuesOf("overlapped")[0]), isCutOff: cut === "true" };
   return { kind, ...ofCalls, order: orderIn(valuesOf("order"), valuesOf("set")), why: kind === "none" ? why : null };
 }
 
-// Why an order is refused: the values by the fault's name; of all others the call.
+// The values that a fault of an order has. Other faults have a call.
 const FAULT_VALUES = {
   HistoryReply: ["call", "reply"],
   SetReply: ["call", "reply", "place", "answer"],

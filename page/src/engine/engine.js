@@ -1,102 +1,112 @@
 // The engine: the proved replayer as the WebAssembly module listset.wasm. Text in, text out.
 
 export const FIRST_ROOM = 1 << 22; // bytes handed to the engine for its answer, at first
-export const LARGE_MEMORY = 1 << 28; // past so many bytes an instance is not used again
 
-export class Engine {
-  // `read` puts bytes of an input of the host at the front of a piece of the memory, and tells how many, or -1.
-  /** @param {(input: bigint, room: Uint8Array) => number} read */
-  constructor(module, read = () => -1) {
-    this.module = module;
-    /** @type {any} */
-    this.instance = null;
-    this.host = { env: { read: (input, at, count) => BigInt(read(input, this.piece(Number(at), Number(count)))) } };
-  }
+// Returns the class of engines. It uses no outer names, since a worker is built from its text.
+export function engineClass(firstRoom) {
+  const LARGE_MEMORY = 1 << 28; // past so many bytes an instance is not used again
 
-  piece(at, count) {
-    return new Uint8Array(this.instance.exports.memory.buffer, at, count);
-  }
-
-  static async start() {
-    const bytes = await engineBytes();
-    return new Engine(await WebAssembly.compile(bytes));
-  }
-
-  ask(name, ...texts) {
-    const encoder = new TextEncoder();
-    return this.askBytes(name, ...texts.map((text) => encoder.encode(text)));
-  }
-
-  askBytes(name, ...given) {
-    return this.answered((exports) => answerOf(exports, name, given));
-  }
-
-  // What the judge says of a recording of any length, which it reads from an input in pieces.
-  judgeFrom(input) {
-    return this.answered((exports) => answerInRoom(exports, "listset_judge_from", [[input]], FIRST_ROOM));
-  }
-
-  answered(answer) {
-    if (this.instance === null || this.instance.exports.memory.buffer.byteLength > LARGE_MEMORY) {
-      this.instance = new WebAssembly.Instance(this.module, this.host);
+  class Engine {
+    // `read` copies bytes of a host input to the start of `room`, and returns how many, or -1.
+    /** @param {(input: bigint, room: Uint8Array) => number} read */
+    constructor(module, read = () => -1) {
+      this.module = module;
+      /** @type {any} */
+      this.instance = null;
+      this.host = { env: { read: (input, at, count) => BigInt(read(input, this.piece(Number(at), Number(count)))) } };
     }
-    try {
-      return answer(this.instance.exports);
-    } catch (fault) {
-      this.instance = null; // after a trap the memory is not looked at again
-      throw new Error(`the engine stopped: ${fault.message}`);
+
+    piece(at, count) {
+      return new Uint8Array(this.instance.exports.memory.buffer, at, count);
+    }
+
+    ask(name, ...texts) {
+      const encoder = new TextEncoder();
+      return this.askBytes(name, ...texts.map((text) => encoder.encode(text)));
+    }
+
+    askBytes(name, ...given) {
+      return this.answered((exports) => answerOf(exports, name, given));
+    }
+
+    // Judges a recording of any length, read from an input in pieces.
+    judgeFrom(input) {
+      return this.answered((exports) => answerInRoom(exports, "listset_judge_from", [[input]], firstRoom));
+    }
+
+    // Returns the diagnosis that the program adds to a refusal of `used` lines. Reads the recording again from an input.
+    whyFrom(input, used) {
+      return this.answered((exports) => answerInRoom(exports, "listset_why_from", [[input, BigInt(used)]], firstRoom));
+    }
+
+    answered(answer) {
+      if (this.instance === null || this.instance.exports.memory.buffer.byteLength > LARGE_MEMORY) {
+        this.instance = new WebAssembly.Instance(this.module, this.host);
+      }
+      try {
+        return answer(this.instance.exports);
+      } catch (fault) {
+        this.instance = null; // after a trap the memory is not looked at again
+        throw new Error(`the engine stopped: ${fault.message}`);
+      }
     }
   }
+
+  function answerOf(engine, name, given) {
+    const texts = textsOf(engine, engine[name].length, given);
+    let answer = answerInRoom(engine, name, texts, firstRoom);
+    if (answer.bytes === null) answer = answerInRoom(engine, name, texts, answer.length);
+    texts.forEach(([block]) => engine.page_free(block));
+    if (answer.bytes === null) throw new Error("two answers to one text");
+    return { status: answer.status, text: new TextDecoder().decode(answer.bytes), bytes: answer.bytes };
+  }
+
+  // Copies the texts into memory, as blocks and lengths. The last three parameters are the room's block and length, and the status.
+  function textsOf(engine, parameters, given) {
+    return Array.from({ length: (parameters - 3) / 2 }, (_, at) => {
+      const text = given[at] ?? new Uint8Array(0);
+      const block = blockOf(engine, text.length);
+      new Uint8Array(engine.memory.buffer, Number(block), text.length).set(text);
+      return [block, BigInt(text.length)];
+    });
+  }
+
+  function answerInRoom(engine, name, texts, room) {
+    const out = blockOf(engine, room);
+    const status = blockOf(engine, 1);
+    const count = Number(engine[name](...texts.flat(), out, BigInt(room), status));
+    const memory = engine.memory.buffer;
+    const bytes = count <= room ? new Uint8Array(memory, Number(out), count).slice() : null;
+    const said = new Uint8Array(memory, Number(status), 1)[0];
+    engine.page_free(out);
+    engine.page_free(status);
+    return { bytes, length: count, status: said };
+  }
+
+  function blockOf(engine, length) {
+    const block = engine.page_alloc(BigInt(Math.max(length, 1)));
+    if (!block) throw new Error("no memory");
+    return block;
+  }
+
+  return Engine;
 }
+export const Engine = engineClass(FIRST_ROOM);
 
-async function engineBytes() {
+// Compiles the module: from engine.js (base64) if the page is opened as a file, else while it is downloaded.
+async function engineModule() {
   if (typeof ENGINE === "undefined" && location.protocol === "file:") await loadScript("engine.js");
-  if (typeof ENGINE !== "undefined") return Uint8Array.from(atob(ENGINE), (letter) => letter.charCodeAt(0));
+  if (typeof ENGINE !== "undefined") return WebAssembly.compile(Uint8Array.from(atob(ENGINE), (letter) => letter.charCodeAt(0)));
   const answer = await fetch("listset.wasm");
   if (!answer.ok) throw new Error(`listset.wasm: ${answer.status} ${answer.statusText}`);
-  return answer.arrayBuffer();
+  const isTyped = answer.headers.get("content-type") === "application/wasm"; // some servers do not know this type
+  return isTyped ? WebAssembly.compileStreaming(answer) : WebAssembly.compile(await answer.arrayBuffer());
 }
+export const startEngine = async () => new Engine(await engineModule());
 
-function loadScript(src) {
+export function loadScript(src) {
   return new Promise((done, fail) => {
     const onerror = () => fail(new Error(`${src} is not beside the page`));
     document.head.append(Object.assign(document.createElement("script"), { src, onload: done, onerror }));
   });
-}
-
-export function answerOf(engine, name, given) {
-  const texts = textsOf(engine, engine[name].length, given);
-  let answer = answerInRoom(engine, name, texts, FIRST_ROOM);
-  if (answer.bytes === null) answer = answerInRoom(engine, name, texts, answer.length);
-  texts.forEach(([block]) => engine.page_free(block));
-  if (answer.bytes === null) throw new Error("two answers to one text");
-  return { status: answer.status, text: new TextDecoder().decode(answer.bytes), bytes: answer.bytes };
-}
-
-// Each text in memory, as its block and its length; the last three parameters are the room's block and length, and the status.
-export function textsOf(engine, parameters, given) {
-  return Array.from({ length: (parameters - 3) / 2 }, (_, at) => {
-    const text = given[at] ?? new Uint8Array(0);
-    const block = blockOf(engine, text.length);
-    new Uint8Array(engine.memory.buffer, Number(block), text.length).set(text);
-    return [block, BigInt(text.length)];
-  });
-}
-
-export function answerInRoom(engine, name, texts, room) {
-  const out = blockOf(engine, room);
-  const status = blockOf(engine, 1);
-  const count = Number(engine[name](...texts.flat(), out, BigInt(room), status));
-  const memory = engine.memory.buffer;
-  const bytes = count <= room ? new Uint8Array(memory, Number(out), count).slice() : null;
-  const said = new Uint8Array(memory, Number(status), 1)[0];
-  engine.page_free(out);
-  engine.page_free(status);
-  return { bytes, length: count, status: said };
-}
-
-export function blockOf(engine, length) {
-  const block = engine.page_alloc(BigInt(Math.max(length, 1)));
-  if (!block) throw new Error("no memory");
-  return block;
 }

@@ -1,4 +1,4 @@
-// What the buttons, the slider and the box of the schedule do.
+// The handlers of the bench's buttons, slider and schedule box.
 import { CLASSICS } from "../../made/classics.js";
 import { inLetters, tag } from "../run/markup.js";
 import { eventsAsked } from "../run/schedule_text.js";
@@ -17,7 +17,7 @@ export function stopUnable(event) {
   event.preventDefault();
 }
 
-// Past the links of the frame, for whoever comes by the key Tab: to the step, or to what can be pressed first.
+// Moves the focus past the navigation, to the Step button or to the first control.
 function skipToRun() {
   const first = { stage: "#next", scene: "#scene :is(.option, .fig button, .card, #sides-turns button, .foot .primary)" };
   document.querySelector(first[now.place.screen])?.focus();
@@ -86,7 +86,7 @@ export function placeParts() {
   place();
 }
 
-// ---- what can be opened by its name, and the question of the example that is shown
+// ---- the list of examples and works, and the question of the current example
 const WORK = "work: ";
 
 export function fillWorks() {
@@ -112,7 +112,7 @@ function chooseInList(value) {
 
 export const pickExample = (name, count) => (held.engine === null ? openKept(name, count) : openExample(name, count));
 
-// The question of the example. Where it turns is told where that is asked for: by ticks on the slider, and a button for each event.
+// Shows the question of the example. The deciding events are shown on request: ticks on the slider, and a button for each.
 export function showQuestion() {
   if (now.task.kind !== "example") return;
   const classic = CLASSICS[now.task.id];

@@ -1,9 +1,9 @@
-// The parts of the page by their names, and what is done to them so that nobody loses the focus.
+// Access to the page's elements by id, and changes that keep the keyboard focus.
 
 /** @type {(id: string) => any} */
 export const byId = (id) => document.getElementById(id);
 
-// Draws a box anew; what had the focus there has it again, or else the first button: never a field, nor what takes a press back.
+// Redraws a box. The focused element keeps the focus, else the first button gets it (no field, and not One back or Start over).
 export function redraw(box, html) {
   /** @type {any} */
   const before = box.contains(document.activeElement) ? document.activeElement : null;
@@ -16,17 +16,17 @@ export function redraw(box, html) {
   (same ?? box.querySelector("button:not([data-undo], [data-again]), a") ?? box).focus();
 }
 
-// A button that does nothing now is told as such, and keeps the focus that it has.
+// Marks a button as disabled for screen readers. It keeps the focus.
 export const setAble = (id, isAble) => byId(id).setAttribute("aria-disabled", String(!isAble));
 
-// Hides a part, or shows it; if it had the focus another one has it then.
+// Hides or shows a part. If the hidden part had the focus, `other` gets it.
 export function setHidden(part, isHidden, other) {
   if (part.hidden === isHidden) return;
-  if (isHidden && part.contains(document.activeElement)) other.focus();
+  if (isHidden && part.contains(document.activeElement)) other.focus({ preventScroll: true });
   part.hidden = isHidden;
 }
 
-// Puts a text of elements in place of what a box has; whether that is another one.
+// Replaces the HTML of a box. Returns whether it differs from the last one.
 export function setHtml(box, html) {
   if (texts.get(box) === html) return false;
   texts.set(box, html);

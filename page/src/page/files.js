@@ -1,4 +1,4 @@
-// Files: a schedule, a trace or a report that is opened; a schedule and a trace that are saved. And the box of the report.
+// Opens and saves schedules, traces and reports, and fills the report box.
 import { textOfBytes } from "../course/hand_in.js";
 import { readVerdict } from "../engine/answers.js";
 import { askList } from "../run/broken.js";
@@ -29,7 +29,7 @@ export function onFile(input, take) {
   };
 }
 
-// What a file is, by its first line. A file without a known title is taken for a schedule, so that the engine names its fault.
+// Returns the kind of a file by its first line. An unknown title counts as a schedule, so the engine reports the error.
 function kindOfFile(text) {
   if (text.startsWith("listset-trace")) return "trace";
   if (text.startsWith("listset-calls")) return "calls";
@@ -45,7 +45,7 @@ export function comparedTrace(ask, trace) {
   if (!isTrace(own.text)) return `a trace from a file; ${engines} does not run its schedule: ${own.text.trim()}`;
   const given = trace.text.split("\n").filter((line) => !/^chain( |$)/.test(line));
   const line = own.text.split("\n").findIndex((text, index) => text !== given[index]);
-  if (line === -1) return `a trace from a file, and ${engines} gives the same for its schedule`;
+  if (line === -1) return `trace from a file; ${engines} gives the same trace for its schedule`;
   const event = Math.max(line + 1 - trace.text.split("\n").findIndex((text) => text.startsWith("event ")), 1);
   return `a trace from a file; ${engines} gives another, from its event ${event} on`;
 }
@@ -75,7 +75,7 @@ function openTrace(text, task) {
   dispatch("run", { source: comparedTrace(held.engine === null ? null : askNow, now.run.trace) });
 }
 
-// Unfolds the box of the report, and waits until that is told: a box that is unfolded shows the schedule's own report first.
+// Opens the report box and waits for its toggle event, which first fills in the schedule's own report.
 async function openReportBox() {
   const box = byId("report-box");
   if (box.open) return;
@@ -114,7 +114,7 @@ function refusalIn(text) {
   return [...refused.slice(0, 1), ...(why === null ? [] : reasonsOf(why))].join("; ");
 }
 
-// Brings the first call that clashes into sight, with its reply, where the picture is wider than its place.
+// Scrolls to the first clashing call, if the picture is wider than its box.
 function scrollToClash() {
   const box = byId("picture");
   const clash = box.querySelector(".bar.clash");
@@ -138,7 +138,7 @@ export function refreshReport() {
   if (byId("report-box").open && held.engine !== null) showOwnReport(now.run.text);
 }
 
-// ---- the list and the history as one picture in a file of its own
+// ---- saving the list and the history as one picture
 const DRAWN_BY = ["fill", "stroke", "stroke-width", "stroke-dasharray", "fill-opacity", "stroke-opacity", "opacity", "font-family",
   "font-size", "font-weight", "font-style", "text-anchor", "paint-order", "text-decoration-line"];
 

@@ -1,4 +1,4 @@
-// What is kept in this browser: each schedule that the reader made, under a name of its own and with its task, and where the reader was.
+// What this browser stores: the reader's schedules by name, each with its task, and the last address.
 import { BOOK_NAME } from "../../made/book.js";
 import { CLASSICS } from "../../made/classics.js";
 import { byId } from "./dom.js";
@@ -30,7 +30,7 @@ const isWork = (kept) => typeof kept?.text === "string" && typeof kept.box === "
 const KINDS = ["own", "example", "lesson", "seed"];
 const isTask = (task) => KINDS.includes(task?.kind) && isText(task.id) && isText(task.course);
 
-// The task of a work that an earlier version of the page kept: its name told what it was for.
+// Returns the task of a work stored by an earlier version of the page, which kept the task in the name.
 function taskOfName(name) {
   const [, lesson, course = BOOK_NAME] = /^lesson ([a-z0-9-]+)(?: of (.+?))?(?: \d+)?$/.exec(name) ?? [];
   if (lesson !== undefined) return { kind: "lesson", id: lesson, course };
@@ -78,7 +78,7 @@ export const works = {
   },
 };
 
-// Keeps what the reader made; what was only looked at, an example, a link or the start of a lesson, is not kept.
+// Stores the reader's text. An example, a link or the start of a lesson that was only viewed is not stored.
 export function keepWork() {
   const box = byId("schedule").value;
   const { run, task } = now;

@@ -1,5 +1,5 @@
-// Long runs: the engine works in a worker if the browser can start one, so that the run can be cancelled.
-import { answerInRoom, answerOf, blockOf, Engine, FIRST_ROOM, LARGE_MEMORY, textsOf } from "../engine/engine.js";
+// Long runs. The engine works in a worker if the browser can start one, so that the run can be cancelled.
+import { engineClass, FIRST_ROOM } from "../engine/engine.js";
 import { eventsAsked } from "../run/schedule_text.js";
 import { byId } from "./dom.js";
 import { askNow, held, now, tellFault } from "./now.js";
@@ -8,7 +8,7 @@ export const MANY_EVENTS = 20000; // so many run beside the page, with a button 
 export const LONG_TEXT = 200000; // characters of a report that has no picture here
 const longRun = { worker: null, timer: 0 };
 
-// The answer of the engine to a text of any length: at once to a short one. What is asked of the run that is shown ends with it.
+// Returns the engine's answer to a text of any length. `isOfRun`: the request ends when the run is cancelled.
 export async function askLong(name, text, isOfRun = true) {
   const events = eventsAsked(text);
   if (text.length < LONG_TEXT && events < MANY_EVENTS) return askNow(name, text);
@@ -18,7 +18,7 @@ export async function askLong(name, text, isOfRun = true) {
     const came = await answer;
     if (came !== null) return came;
   } catch {
-    // This browser starts no worker here.
+    // This browser cannot start a worker here.
   }
   await new Promise((done) => requestAnimationFrame(() => setTimeout(done)));
   return askNow(name, text);
@@ -53,14 +53,12 @@ export function cancelLong() {
   tellFault(null, "", "The run was cancelled. Run begins it again.");
 }
 
-// ---- The engine in a worker of its own, which can be ended, so that the page can be used while a long run is made.
+// ---- The engine in a worker, which can be terminated. The page stays usable during a long run.
 const EVENT_ROOM = 96; // bytes of a trace's line, so that the engine is asked once
 
-// The worker's program is a text, since a page that is opened as a file may not start a worker from a file.
+// The worker's program is a string, since a page opened as a file cannot start a worker from a file.
 const workerText = (room) => `"use strict";
-const FIRST_ROOM = ${room};
-const LARGE_MEMORY = ${LARGE_MEMORY};
-${Object.entries({ Engine, answerOf, textsOf, answerInRoom, blockOf }).map(([name, it]) => `const ${name} = ${it};`).join("\n")}
+const Engine = (${engineClass})(${room});
 onmessage = ({ data: { module, name, given } }) => {
   try {
     const { status, bytes } = new Engine(module).askBytes(name, given);

@@ -1,17 +1,17 @@
-// The state of the page as it is now, and what changes it: each change is an action of state.js; then all is drawn anew by one render.
+// The current state of the page. Each change is an action of reducer.js, after which one render draws everything.
 import { readFault, sentenceOn } from "../engine/answers.js";
 import { LEVELS } from "../run/judged.js";
 import { scheduleOfTrace } from "../run/schedule_text.js";
 import { State } from "../run/state.js";
 import { byId } from "./dom.js";
-import { exampleIn, reduce, stateAtFirst } from "./state.js";
+import { exampleIn, reduce, stateAtFirst } from "./reducer.js";
 
 export const NO_ENGINE = "The replayer does not run in this browser: no schedule can be run, no report checked. A file of listset trace can be opened.";
 export const now = stateAtFirst();
 /** @type {{ engine: any, render: () => void }} */
 export const held = { engine: null, render: () => {} };
 
-// An action, after which nothing is drawn yet.
+// Applies an action without drawing.
 export function change(type, given = {}) {
   Object.assign(now, reduce(now, { ...given, type }));
 }
@@ -23,7 +23,7 @@ export function dispatch(type, given) {
   show();
 }
 
-// Who is told: `taken`, with a trace, before it is drawn; `ran`, of a text; `kept`, of the works; `recorded`, `course`, with a text of a file.
+// Listeners: `taken`, with a trace, before it is drawn; `ran`, after a text has run; `kept`, after the works changed; `recorded` and `course`, with a file's text.
 const listeners = { taken: [], ran: [], kept: [], recorded: [], course: [] };
 export const on = (what, ...deeds) => listeners[what].push(...deeds);
 
@@ -42,7 +42,7 @@ export function goTo(count) {
   dispatch("count", { count });
 }
 
-// One line about what was just done or not done. The next event that is shown takes it away. A line that stands there is not told again.
+// Shows one line about the last action, until the next event is shown. A line that is already there is not announced again.
 export function tell(text) {
   if (told.text === text && byId("told").innerHTML === told.html) return;
   byId("told").innerHTML = text;
@@ -50,7 +50,7 @@ export function tell(text) {
 }
 const told = { text: "", html: "" };
 
-// Shows a trace at an event, or where a function of it says.
+// Shows a trace at an event; `at` is its number, or a function of the trace.
 export function takeTrace(trace, at, source) {
   const { refused } = trace;
   change("trace", { trace, state: new State(trace), source, count: typeof at === "function" ? at(trace) : at });
@@ -83,9 +83,13 @@ export function tellFault(line, cause, said, isOld = true) {
   byId("old").hidden = !isOld;
   const why = sentenceOn(askNow, cause, "a schedule", "a draft");
   byId("fault").textContent = why === null ? said : `${said}: ${why}`;
+  if (said !== "") byId("schedule-box").open = true; // the error stands beside the text
 }
 
-export const tellTrouble = (said) => (byId("fault").textContent = said);
+export function tellTrouble(said) {
+  byId("fault").textContent = said;
+  if (said !== "") byId("schedule-box").open = true;
+}
 
 export function tellLine(text) {
   const { line, cause } = readFault(text);

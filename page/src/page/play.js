@@ -1,4 +1,4 @@
-// Play: one event after the other, in three speeds, until the end or a pause. Who asks the system for less motion begins slow.
+// Plays the events in three speeds, until the end or a pause. The first speed is slow if the system asks for less motion.
 import { CLASSICS } from "../../made/classics.js";
 import { byId } from "./dom.js";
 import { exampleShown, goTo, isLecture, now, show } from "./now.js";
@@ -47,7 +47,7 @@ export function goByHand(count) {
   goTo(count);
 }
 
-// To the nearest event, on or back, that changes the set, ends a call, or at which the example turns.
+// Goes to the nearest event, forward or back, that changes the set, ends a call, or decides the example.
 function goToTurn(step) {
   const turns = CLASSICS[exampleShown()]?.turns ?? [];
   const changes = (event) => event.put !== undefined || event.took !== undefined || event.answer !== undefined;
@@ -56,7 +56,7 @@ function goToTurn(step) {
   goByHand(count);
 }
 
-// ---- the keys; letters and digits can be switched off
+// ---- The keys. Letters and digits can be switched off.
 export const keysOf = { scene: (event) => event, slide: (by) => by }; // what keys do in a scene, and a presenter's on a slide
 const WAYS = { PageDown: 1, ArrowRight: 1, ArrowDown: 1, " ": 1, PageUp: -1, ArrowLeft: -1, ArrowUp: -1 };
 const isPress = ({ key, target }) => key === " " && target.matches(":is(button, a, summary):focus-visible"); // of what has the focus
@@ -88,7 +88,7 @@ export function toggleKeys() {
   byId("keys").setAttribute("aria-expanded", String(!byId("key-help").hidden));
 }
 
-// The lecture view, and back: whoever leaves it by the key Tab is at the button that opens it.
+// Opens or leaves the lecture view. After leaving, the button that opens it has the focus.
 export function toggleLecture() {
   if (now.place.slide > 0) return void (location.hash = "#teachers");
   const isLeft = document.activeElement === byId("leave");

@@ -1,4 +1,4 @@
-// Which parts of the page are seen where. A part that is not named here is seen wherever what it stands in is.
+// Which parts of the page are visible in which state. Other parts are visible whenever their parent is.
 import { byId, setHidden } from "./dom.js";
 import { change } from "./now.js";
 
@@ -41,7 +41,7 @@ export const SEEN = {
 
 export function showParts(state) {
   const facts = factsOf(state, { hasEngine: services.hasEngine });
-  for (const [id, isSeen] of Object.entries(SEEN)) setHidden(byId(id), !isSeen(facts), byId("skip"));
+  for (const [id, isSeen] of Object.entries(SEEN)) setHidden(byId(id), !isSeen(facts), document.querySelector("main"));
   const { activity, screen, view } = state.place;
   const key = [activity, screen, view, facts.hasEngine].join();
   if (key === placed.key) return;
@@ -56,5 +56,5 @@ export function showParts(state) {
 const placed = { key: "" };
 export const services = { hasEngine: true }; // until it is known that there is none
 
-// A view shows one thing alone: a slide of a lecture, or the list or the history for a frame.
+// Sets the view: a slide of a lecture, or the list or the history alone (for a frame).
 export const setView = (view, slide = 0) => change("view", { view, slide });

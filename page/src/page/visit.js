@@ -1,4 +1,4 @@
-// The address bar follows what is shown, and what is kept in the browser does too.
+// Keeps the address bar and the stored state in step with what is shown.
 import { CLASSICS } from "../../made/classics.js";
 import { LISTS } from "../../made/rows.js";
 import { slideAddress } from "../data/lecture.js";
@@ -9,10 +9,10 @@ import { escaped, inLetters } from "../run/markup.js";
 import { eventsAsked } from "../run/schedule_text.js";
 import { HERE, keepUnder, keepWork } from "./kept.js";
 import { now, tell } from "./now.js";
-import { entryOf } from "./state.js";
+import { entryOf } from "./reducer.js";
 
 const MOMENT = 400; // milliseconds: the bar follows once nothing has moved for so long, since browsers refuse quick changes of it
-// The entry of the browser's history that is shown, whether what stood there at first was read, and the packed course.
+// The current entry of the browser's history, whether the first address was read, and the packed course.
 export const visit = { timer: 0, entry: null, isRead: false, course: null };
 const addressHere = () => addressIn(now, visit);
 
@@ -27,7 +27,7 @@ export function keepNow() {
   if (visit.isRead) setAddress();
 }
 
-// Another task or place is a new entry to come back to; a step is none. A text without an address is kept with its entry.
+// Adds a history entry for a new task or place, but not for a step. A text without an address is stored in its entry.
 function setAddress() {
   const address = addressHere();
   const entry = entryOf(now);
@@ -57,11 +57,11 @@ export async function copyLink() {
   if (await copied(link)) tell(`The link is copied: ${shown}`);
 }
 
-// Whether a text is copied, if the browser lets a page do that.
+// Copies a text. Returns whether the browser allowed it.
 export const copied = async (text) => navigator.clipboard?.writeText(text).then(() => true, () => false) ?? false;
 
 // ---- the addresses of the scenes
-const SCENES = ["assignment", "story", "ask", "code", "teachers"]; // run/address.js reads the others, with their schedules
+const SCENES = ["assignment", "story", "ask", "code", "teachers", "notes", "handout"]; // run/address.js reads the others, with their schedules
 const SCENE_VIEWS = ["lecture", "embed"];
 
 export function sceneOfHash(hash) {
@@ -77,7 +77,7 @@ export const START_OF_CODE = [3, 7];
 export const linesOfCode = (s) => s.split(",").filter((line) => /^(b\d+\.[a-z]+\.\d+|g\d+\.\d+)$/.test(line)).map(longLine);
 export const SET_OF_CODE = { threads: 2, quota: 9 };
 
-// Of a list to step by its code: the numbers in it at first, the lines of a run, and how many threads and adds of each it has.
+// Returns the address of "Step by the code": the list, its initial keys, the lines of a run, and threads and quota.
 export function addressOfCode(list, opening, lines, set = SET_OF_CODE) {
   const ofOpening = opening.join() === START_OF_CODE.join() && lines.length === 0 ? "" : `&opening=${opening.join(".")}`;
   const ofSet = ["threads", "quota"].map((name) => (set[name] === SET_OF_CODE[name] ? "" : `&${name}=${set[name]}`)).join("");
@@ -90,7 +90,7 @@ function addressOfLevel({ id }, { text }) {
   return `#break=${id}&${addressOf(text, eventsAsked(text))?.slice(1) ?? ""}`;
 }
 
-// Of a lesson its course, unless it is the book's, its name, and the try: as much of that as an address has room for.
+// Returns the address of a lesson: its course unless it is the book's, its name, and the attempt if it fits.
 function addressOfLesson({ id }, { text }, { course }) {
   const named = `${course === null ? "#" : `${course}&`}learn${id === "" ? "" : `=${id}`}`;
   const own = text === "" ? null : addressOf(text, eventsAsked(text));
@@ -109,7 +109,7 @@ const ADDRESSES = {
   assignment: addressOfAssignment,
 };
 
-// The address of a state, or null where it has none. `given` has the packed course, or null for the book.
+// Returns the address of a state, or null if it has none. `given` has the packed course, or null for the book.
 export function addressIn(state, given) {
   const { place, task, run, exercise } = state;
   if (place.slide > 0) return slideAddress(place.slide);

@@ -1,6 +1,6 @@
-// The reader's work on the bench: a text, and the task it is for.
-import { EXAMPLES, TRACES } from "../../made/traces.js";
+// The reader's work on the bench: a schedule, and the task it belongs to.
 import { readExamples } from "../engine/answers.js";
+import { more } from "../engine/more.js";
 import { askList } from "../run/broken.js";
 import { eventsAsked, openingIn, scheduleOfDraft, scheduleText, versionOf, withOpening } from "../run/schedule_text.js";
 import { eventsInCommon, isTrace, Trace } from "../run/trace.js";
@@ -10,7 +10,7 @@ import { MANY_EVENTS, runLong, stopLong } from "./long_run.js";
 import { announce, askNow, change, held, NO_ENGINE, now, takeScheduleOfTrace, takeTrace, tell, tellFault, tellLine } from "./now.js";
 import { stopPlay } from "./play.js";
 
-// What is made from now on is kept for this task, once it is another text than the one with which the task began.
+// Begins a task. Later texts are stored for it, once they differ from its first text.
 export function beginTask(task, lacks = null) {
   keepWork();
   change("task", { task, lacks });
@@ -37,7 +37,7 @@ export const openExample = (name, count) =>
 export const newSchedule = (list, threads, quota) =>
   openTask(ownTask("my schedule"), scheduleText({ list, threads, quota }), 0);
 
-// Runs the text of the box, which may be a draft. The event stays where the events up to it do.
+// Runs the text in the box, possibly a draft. Keeps the current event if the events before it are unchanged.
 export function runBox() {
   const box = byId("schedule").value;
   const { text, fault } = scheduleOfDraft(askNow, box === "" || box.endsWith("\n") ? box : `${box}\n`, now.run.lacks);
@@ -48,13 +48,13 @@ export function runBox() {
   runText(text, at);
 }
 
-// Another text than that of an example or a numbered run is the reader's own, and is kept under a name of its own.
+// A text that is neither an example nor a numbered run is the reader's own. It is stored under its own name.
 function leaveTask(text) {
   byId("schedule").value = now.run.text;
   beginTask({ ...ownTask("my schedule"), begun: text }, now.run.lacks);
 }
 
-// Runs the text of the box with the keys of the opening field in it: as they are typed, so that the engine names what is wrong.
+// Runs the text with the initial keys exactly as typed, so that the engine reports any error in them.
 export function runWithOpening() {
   const keys = byId("opening").value.split(/[\s,]+/).filter((key) => key !== "");
   byId("schedule").value = withOpening(byId("schedule").value, keys);
@@ -87,12 +87,12 @@ function takeAnswer(answer, text, at, told) {
   announce("ran");
 }
 
-// ---- The classic examples by their names. Without an engine they are shown from their traces, which are kept beside the page.
+// ---- The examples by name. Without an engine they are shown from stored traces (more.js).
 const KEPT_BESIDE = "a trace that is kept beside the page";
 const known = { examples: null };
 
 export function examples() {
-  if (held.engine === null) return readExamples(EXAMPLES);
+  if (held.engine === null) return readExamples(more.EXAMPLES);
   known.examples ??= readExamples(askNow("listset_examples", "").text);
   return known.examples;
 }
@@ -107,14 +107,14 @@ function exampleText(name) {
 
 export function openKept(name, count) {
   change("task", { task: { kind: "example", id: name, work: "" } });
-  takeTrace(new Trace(TRACES[name]), count, KEPT_BESIDE);
+  takeTrace(new Trace(more.TRACES[name]), count, KEPT_BESIDE);
   takeScheduleOfTrace();
   showMarks();
 }
 
-// ---- The box of the schedule: the marks at its lines, and the line of the event that is kept in sight.
+// ---- The schedule box: marks at its lines, and scrolling to the line of the current event.
 const LINE_HEIGHT = 21;
-// Whether the box is in sight. If it is not, nothing is asked of its layout: that of 10,000 lines takes 0.3 s.
+// Whether the box is visible. If not, its layout is not read: laying out 10,000 lines takes 0.3 s.
 const editor = { isSeen: false };
 
 export function watchEditor() {

@@ -23,7 +23,7 @@ export const isSeed = (word) => ADDRESS_PARTS.seed.test(word);
 
 export class AddressFault extends Error {}
 
-// The address of a text at an event, or null where it has none: it is no text of a schedule's form, or too long.
+// Returns the address of a schedule at an event, or null if the text is no schedule or too long.
 export function addressOf(text, event, lacks = null) {
   if (text.length > 2 * LONGEST_ADDRESS) return null; // an address has more than half of the letters
   const [title, list, threads, quota, ...lines] = text.split("\n").slice(0, -1);
@@ -114,12 +114,12 @@ function textOfParts(parts) {
 export const warningOf = (link) =>
   link.startsWith("file:") ? " Others cannot open it, since it leads to a file on this computer: copy it from a page on a web server." : "";
 
-// ---- Runs without end: the engine's generator makes a schedule of a number. The same number is the same run for everyone.
+// ---- Numbered runs: the engine generates a schedule from a number. A number gives everyone the same run.
 const TRIES = 200;
 const MOST_TRIED_CALLS = 8; // of a run with more calls the first is taken
 const MOST_SEEN = 60; // events that are told apart by eye
 
-// A run of five calls of two threads over two keys is short enough to be judged by eye.
+// Five calls of two threads over two keys: short enough to judge by eye.
 export const seedOf = (kind, number) => `${kind}.2.5.2.${number}`;
 
 export function partsOfSeed(seed) {
@@ -128,7 +128,7 @@ export function partsOfSeed(seed) {
   return { kind, threads, calls, keys, number };
 }
 
-// The schedule of a seed: of those that the engine makes for it the first that is worth a look, the same for everyone.
+// Returns the schedule of a seed: the first one that the engine generates and that is worth a look.
 export function scheduleOfSeed(ask, seed) {
   const { kind, threads, calls, keys, number } = partsOfSeed(seed);
   const tries = calls > MOST_TRIED_CALLS ? 1 : TRIES;
@@ -144,7 +144,7 @@ export function scheduleOfSeed(ask, seed) {
   return joined(text);
 }
 
-// A key goes in and out, and a call ends within one of another thread or changes nothing while the other changes the set.
+// Whether a schedule is worth a look: a key is added and removed, and a call returns during another thread's call, or changes nothing while that one changes the set.
 function isWorthIt({ calls, changes, total }) {
   const puts = changes.some(({ put }) => put !== undefined) && changes.some(({ took }) => took !== undefined);
   const isBeside = (one, other) => one.thread !== other.thread && one.begun < other.ended && other.begun < one.ended;

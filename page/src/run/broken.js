@@ -11,7 +11,7 @@ const BY_POINTS = "Not by its linearization points: check refuses that order.";
 const OTHER = "Another order explains these replies.";
 const UNKNOWN = "Whether another order explains these replies is not known.";
 const UNEXPLAINED = "No order of these calls explains that (proved).";
-export const TO_BREAK = "No order explains what the calls answer (proved)."; // the condition of a lesson
+export const TO_BREAK = "No order explains the calls and the keys left (proved)."; // the condition of a lesson
 
 // LazyList's `contains` without the mark: no history is known that no order explains, and it is no task.
 export const NO_TASK = "mark-in-contains";
@@ -22,7 +22,7 @@ export const askList = (ask, name, lacks, text) =>
 
 export const startOfLacking = (name) => scheduleText({ list: LACKING[name], threads: 2, quota: 2, opening: [3, 7] });
 
-// What is said of the run of a schedule: it is broken; points, if its own order alone is refused; explained; or refused.
+// Returns the verdict on a schedule's run: `broken`; `points`, if only its own order is refused; `explained`; or `refused`.
 export function verdictOnLacking(ask, lacks, schedule) {
   const { status, text } = askList(ask, "listset_replay", lacks, schedule);
   if (status !== 0) return { kind: "refused", says: `The schedule is refused: ${text.trim()}`, report: null };
@@ -33,27 +33,31 @@ export function verdictOnLacking(ask, lacks, schedule) {
     const why = whyNone(text, verdict.why);
     return { kind: "broken", why, says: `Broken: ${why}. ${UNEXPLAINED}`, report: text };
   }
-  return { kind: "points", says: `${BY_POINTS} ${verdict.kind === "another" ? OTHER : UNKNOWN}`, report: text };
+  const isExplained = verdict.kind === "another"; // else that is not known
+  return { kind: "points", isExplained, says: `${BY_POINTS} ${isExplained ? OTHER : UNKNOWN}`, report: text };
 }
 
-function whyNone(text, { key, moment, since, isThere, calls }) {
+function whyNone(text, { key, moment, clash, noSuchReply }) {
+  if (noSuchReply !== null) return `no set returns the reply of call ${noSuchReply} to such a call`;
   if (key === null) return "no order leaves these keys, which do not increase";
   const isLeft = moment === null;
   const exercise = readReport(text);
   if (isLeft && isLost(exercise, key)) return `${key} was added once and never removed, and at the end the set does not have it`;
+  if (clash === null) return `the calls of key ${key} have no order`;
+  const state = clash.isPresent ? "there" : "not there";
+  const first = clash.first === null ? `${key} is ${state} at first` : `${callInWords(exercise, clash.first)}, which leaves ${key} ${state}`;
   const left = exercise.keys.includes(key) ? "has it" : "does not have it";
-  const then = [...calls.map((call) => callInWords(exercise, call)), ...(isLeft ? [`at the end the set ${left}`] : [])].join(", ");
-  if (since === null) return then === "" ? `the calls of key ${key} have no order` : then;
-  return `${key} is ${isThere ? "there" : "not there"} ${since === "0" ? "at first" : `after event ${since}`}, and then ${then}`;
+  return `${first}, and ${clash.second === null ? `at the end the set ${left}` : callInWords(exercise, clash.second)}`;
 }
 
 function isLost({ calls, opening, keys }, key) {
-  const count = (operation) => calls.filter((call) => call.operation === operation && call.reply === "true" && call.key === key).length;
+  const mayHave = ({ operation, reply }, asked) => operation === asked && (reply === "true" || reply === null);
+  const count = (operation) => calls.filter((call) => call.key === key && mayHave(call, operation)).length;
   const isThere = opening.includes(key) || keys.includes(key);
   return count("add") === 1 && count("remove") === 0 && !isThere;
 }
 
-// A call of a refusal as the report has it: the judge reads a ceiling and a full as looks at a key.
+// Returns the report's call for a call of a refusal. The judge reads a ceiling, and an add that returned full, as looks at a key.
 function callInWords({ calls }, { thread, begun }) {
   const call = calls.find((one) => one.thread === thread && one.begun === Number(begun));
   return `${nameOfCall(call)} ${call.ended === null ? "is open" : `answers ${call.reply}`}`;

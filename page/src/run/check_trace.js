@@ -8,7 +8,7 @@ const NUMBER = "(?:0|[1-9]\\d{0,9})";
 const NODE = `(?:head|tail|n${NUMBER})`;
 const KEY = `(?:[-+]inf|${NUMBER})`;
 const REPLY = `(?:true|false|full|nothing|at-${NUMBER})`;
-// The words of the table by their last part, with the values of each.
+// The words of the table by their last part, with the values that each can have.
 const VALUES = { lock: `(?:free|t${NUMBER})`, key: KEY, link: `${NODE}\\*?`, threads: NUMBER, quota: NUMBER };
 
 function accessOf([field, value]) {

@@ -36,7 +36,7 @@ export function repliesOf(exercise, { operation }) {
   return ["nothing", ...keys.map((key) => `at-${key}`)];
 }
 
-// What the reader has said so far. A moment k is just after event k; k.5 lies between this event and the next.
+// The reader's answer so far. Moment k is just after event k; k.5 lies between event k and the next.
 export class OwnAnswer {
   constructor(exercise) {
     this.exercise = exercise;
@@ -59,7 +59,7 @@ export class OwnAnswer {
     this.replies.set(call.id, reply);
   }
 
-  // The reply of a call in the order: an open call has none in the run, and stands in an order where it has changed the set.
+  // Returns the reply of a call in the order. A pending call has none in the run, but is in the order if it has changed the set.
   replyOf(call) {
     if (call.ended === null) return openReply;
     return this.exercise.level === "replies" ? (this.replies.get(call.id) ?? null) : call.reply;
@@ -98,7 +98,7 @@ export function verdictOn(ask, answer) {
   return { isRight: false, clash, report, says: faultInWords(answer, order) };
 }
 
-// A claim that there is no order is judged by what is proved, not by a search.
+// Judges the claim that no order exists by the proved judge, without a search.
 function verdictOnClaim(ask, { isWhole, reportText }) {
   const said = (isRight, says) => ({ isRight, clash: null, report: null, says });
   const there = "There is one: this is a run of a correct list, and each of those has an order (proved). Find it.";
@@ -132,10 +132,10 @@ function faultInWords(answer, { fault, call, place, reply, set, answer: due, beg
   return `This is no order of the calls of this run (${fault}).`;
 }
 
-// The last word of a line that is handed in, as in `judge read-in-anothers-step replies 0-true,2-true,1-false,3-true`; or none.
+// Returns the last word of a line to hand in, as in `judge read-in-anothers-step replies 0-true,2-true,1-false,3-true`, or "".
 export const wordOfAnswer = (answer) => (answer.isNone ? "none" : answer.order().map(({ call, reply }) => `${call.id}-${reply}`).join());
 
-// The answer of such a word: each call stands at the least moment of its bar that keeps the order. Null where the word is none.
+// Reads such a word. Each call is placed at the earliest moment of its bar that keeps the order. Returns null for any other word.
 export function answerOfWord(exercise, word) {
   const answer = new OwnAnswer(exercise);
   if (word === "none") return Object.assign(answer, { isNone: true });

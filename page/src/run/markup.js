@@ -1,10 +1,10 @@
-// Elements as text, and the words that all drawings and sentences use.
+// Builds elements as text, and the words shared by drawings and sentences.
 import { LISTS } from "../../made/rows.js";
 
 const SIGNS = { "&": "&amp;", "<": "&lt;", ">": "&gt;", '"': "&quot;" };
 export const escaped = (text) => String(text).replace(/[&<>"]/g, (sign) => SIGNS[sign]);
 
-// An element with its attributes, whose values are escaped, and what is in it, which is not.
+// Returns an element as text. Attribute values are escaped, the content is not.
 export function tag(name, attributes, ...content) {
   const given = Object.entries(attributes).map(([attribute, value]) => ` ${attribute}="${escaped(value)}"`);
   return `<${name}${given.join("")}>${content.join("")}</${name}>`;

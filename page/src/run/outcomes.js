@@ -1,4 +1,4 @@
-// What comes of an event, as parts of its sentence.
+// The effects of an event, as parts of its sentence.
 import { LISTS } from "../../made/rows.js";
 import { chipOf, keyText, said } from "./markup.js";
 import { keyNumber, keysInChain, linkTarget, ownerOf } from "./state.js";
@@ -13,7 +13,7 @@ const isLinkOf = (event) => event.word?.endsWith(".link");
 const lockNames = (words) => `the lock${words.length > 1 ? "s" : ""} of ${words.map(ownerIn).join(" and ")}`;
 export const setsMark = (event) => isLinkOf(event) && event.to?.endsWith("*") === true;
 
-// Which event set the mark of each node that has one. A mark stays.
+// Returns for each marked node the event that marked it. A mark is never removed.
 function marksOf(trace) {
   if (trace.marks !== undefined) return trace.marks;
   trace.marks = new Map();
@@ -33,7 +33,7 @@ function wholeName({ trace, event }, name) {
 export const hasInChain = (state, key) => keysInChain(state).includes(Number(key));
 
 export const OUTCOMES = {
-  // In a broken list a node may be inserted behind one that is out of the chain, a removed key may stay, a key come in twice.
+  // In a broken list a node can be linked behind an unlinked one, a removed key can stay, and a key can be added twice.
   change({ trace, state, event, held, hadKey }) {
     const { put, took } = event;
     const had = trace.lacks !== null && hadKey;
@@ -77,7 +77,7 @@ export const OUTCOMES = {
     return `<b>The validation fails:</b> ${reason}. It will unlock both nodes and start again.`;
   },
 
-  // Only the last row of a validation goes on to decide.
+  // Only the last row of a validation decides.
   valid({ held, row }) {
     if (row?.invalid === undefined || !row.then.includes("decide on")) return "";
     return held.pc === row.invalid && held.reply === "none" ? "" : "The validation succeeds.";
@@ -136,7 +136,7 @@ export const OUTCOMES = {
   },
 };
 
-// By the keys, and not by the row that comes next: a broken list goes on at another row than the table says.
+// Compares the keys instead of looking at the next row, since a broken list continues at another row than the table says.
 const isBelow = (saw, key) => keyNumber(saw) < Number(key);
 
 function walkAtKey(event, held) {

@@ -1,4 +1,4 @@
-// Calls that were recorded from a set of the reader's own: what the proved judge says of them, in words, and the calls that are drawn.
+// Calls recorded from the reader's own set: the judge's verdict in words, and the calls to draw.
 import { callsOfRecording, leavesKey, readVerdict, sentenceOn } from "../engine/answers.js";
 import { nameOfCall } from "./judged.js";
 
@@ -22,11 +22,11 @@ export const recordedInWords = (call) =>
 function okInWords({ count, isCutOff }) {
   const calls = count === 1 ? "this one call" : `these ${count.toLocaleString("en")} calls`;
   const keys = isCutOff ? ", whatever keys it leaves" : " and leaves the keys";
-  return `Linearizable: an order explains ${calls}${keys}. It says nothing of other runs.`;
+  return `Linearizable: an order explains ${calls}${keys}. This verdict is about this recording only.`;
 }
 
 function remarksOn({ count, overlapped, isCutOff }) {
-  const few = "That is few, and a bug shows only if calls meet: take fewer keys, more threads, or pauses in the set.";
+  const few = "That is few, and a race shows only if calls meet: take fewer keys, more threads, or pauses in the set.";
   return [
     `${overlapped} of them overlap a change of their key.`,
     ...(20 * overlapped < count ? [few] : []),
@@ -35,21 +35,25 @@ function remarksOn({ count, overlapped, isCutOff }) {
   ];
 }
 
-const isInWords = (isThere) => `the key is ${isThere ? "there" : "not there"}`;
+const stateInWords = (isPresent) => (isPresent ? "present" : "absent");
 
-export function reasonsOf({ key, moment, since, isThere, by, calls, hidden }) {
+// Whether two calls overlap, and so contradict each other in both orders.
+const overlap = (first, second) => first !== null && second !== null && BigInt(second.begun) < BigInt(first.ended);
+
+export function clashInWords(key, { isPresent, first, second }) {
+  const was = first === null ? `Key ${key} is ${stateInWords(isPresent)} at first` : `${recordedInWords(first)}, and leaves key ${key} ${stateInWords(isPresent)}`;
+  const need = second === null ? `it is ${stateInWords(!isPresent)} at the end` : `${recordedInWords(second)}, and needs it ${stateInWords(!isPresent)}`;
+  const change = `${isPresent ? "remove" : "add"}(${key})`;
+  const nothing = `No ${change} that answered true or is pending overlaps the time of both`;
+  return [`${was}; ${need}.`, `${nothing}${overlap(first, second) ? ". They contradict each other in the other order too" : ""}.`];
+}
+
+export function reasonsOf({ key, moment, clash, noSuchReply }) {
+  if (noSuchReply !== null) return [`No set returns the reply of call ${noSuchReply} to such a call.`];
   if (key === null) return ["No order leaves these keys, which do not increase."];
-  const isLeft = moment === null;
-  const said = [`No order explains the calls of key ${key} ${isLeft ? "and leaves it as it was left" : `up to moment ${moment}`}.`];
-  if (since === null) return said;
-  const from = since === "0" ? "At first" : `After the calls that ended by moment ${since}`;
-  said.push(`${from} ${isInWords(isThere)}${by === null ? "" : `, by this change: ${recordedInWords(by)}`}.`);
-  const these = `From there these calls have no order${isLeft ? " that leaves the key as it was left" : ""}`;
-  said.push(calls.length === 0 ? "No later call changes it." : `${these}: ${calls.map(recordedInWords).join("; ")}.`);
-  if (hidden === null) return said;
-  const { count, first, last } = hidden;
-  const more = count === 1 ? `1 more call of the key that began at moment ${first} is` : `${count} more calls of the key that began at moments ${first} to ${last} are`;
-  return [...said, `${more} not shown: whatever ${count === 1 ? "it" : "they"} did, these have no order.`];
+  const upto = moment === null ? "and leaves it as it was left" : `up to moment ${moment}`;
+  const said = `No order explains the calls of key ${key} ${upto}.`;
+  return [said, ...(clash === null ? [] : clashInWords(key, clash))];
 }
 
 function verdictOfOk(judged, text) {
@@ -57,14 +61,14 @@ function verdictOfOk(judged, text) {
 }
 
 function verdictOfRefusal(why, text) {
-  const { key, moment, since, isThere, by, calls } = why;
+  const { key, moment, clash } = why;
   const atEnd = moment === null ? [`At the end the set ${leavesKey(text, key) ? "has it" : "does not have it"}.`] : [];
   return {
     kind: "none",
     says: `Not linearizable: no order at all explains these calls${moment === null ? " and leaves the keys" : ""}.`,
     reasons: [...reasonsOf(why), ...atEnd],
-    calls: [...(by === null ? [] : [by]), ...calls].slice(-MOST_DRAWN),
-    from: since === null || since === "0" ? null : { moment: BigInt(since), says: isInWords(isThere) },
+    calls: clash === null ? [] : [clash.first, clash.second].filter((call) => call !== null),
+    from: null,
   };
 }
 
@@ -73,7 +77,7 @@ function troubleInWords(ask, { cause, says }) {
   return why === null ? says : `${says}: ${why}.`;
 }
 
-// What the judge says of a text, in words, and the calls to draw; those of a refusal with the moment from which they have no order.
+// Returns the judge's verdict in words, and the calls to draw. For a refusal these are the calls that contradict each other.
 export function verdictOnCalls(ask, answer, text) {
   const judged = readVerdict(answer);
   if (judged.kind === "ok") return verdictOfOk(judged, text);

@@ -1,7 +1,7 @@
-// The texts of schedules; and drafts, in which a line may say `go T out` or `go T to ROW`, on whole lists and broken ones.
+// The texts of schedules, and drafts of them. A draft can have lines `go T out` and `go T to ROW`.
 import { HEADER_LINES, isTrace, Trace } from "./trace.js";
 
-// The text of a schedule, or of a draft, with these lines. Opening keys and ceilings want the second version.
+// Returns the text of a schedule or draft with these lines. Initial keys and ceilings need version 2.
 export function scheduleText({ list, threads, quota, opening = [], version = null }, lines = []) {
   const needed = opening.length > 0 || lines.some((line) => line.includes(" ceiling ")) ? 2 : 1;
   const head = [`listset-schedule ${version ?? needed}`, `list ${list}`, `threads ${threads}`, `quota ${quota}`];
@@ -49,7 +49,7 @@ export function eventsAsked(text) {
 const MOST_TRIED = 1000; // steps of a thread that does not come to where it is sent, to see for what it waits
 const DRAFT_LINE = /^go \d+ (?:out|to \d+)$/m;
 
-// The schedule of a draft, or the engine's line about its first fault. The engine knows drafts of whole lists alone.
+// Returns the schedule of a draft, or the engine's line about its first error. The engine reads drafts of correct lists only.
 export function scheduleOfDraft(ask, text, lacks = null) {
   if (!DRAFT_LINE.test(text)) return { text, fault: null };
   if (lacks !== null) return scheduleOfLackingDraft(ask, lacks, text);
@@ -57,7 +57,7 @@ export function scheduleOfDraft(ask, text, lacks = null) {
   return made.status === 0 ? { text: made.text, fault: null } : { text: null, fault: made.text.trim() };
 }
 
-// How many steps of a thread, after these lines, end its call or lead to a row; or why none do.
+// Returns how many steps of a thread end its call or lead to a row, or why no number does.
 function stepsOfLacking(ask, lacks, lines, thread, row) {
   const fault = (cause) => ({ count: null, fault: `listset: line ${lines.length + 1}: ${cause}` });
   const { text } = ask("listset_lacking", lacks, `${[...lines, `go ${thread} ${MOST_TRIED}`].join("\n")}\n`, "trace");

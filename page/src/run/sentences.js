@@ -1,11 +1,11 @@
-// One sentence about an event: what it did, and what comes of it.
+// Writes one sentence about an event: what it did, and its effect.
 import { LISTS } from "../../made/rows.js";
 import { callText, chipOf, holderOf, letterOf, said } from "./markup.js";
 import { hasInChain, isFailed, isLock, mono, OUTCOMES, ownerIn, setsMark } from "./outcomes.js";
 
 const lockedBy = (word) => (word === "list.lock" ? "the list" : mono(ownerIn(word)));
 
-// What an event did; `row` is the one at which its thread was before.
+// Returns what an event did. `row` is the row of its thread before the event.
 function deedText(event, row) {
   const word = event.word && mono(event.word);
   if (event.deed === "begin") return `begins ${callText(event.call)}.`;
@@ -26,7 +26,7 @@ function lockText(event, row) {
   return `tries to lock ${name}, but ${holderOf(event.saw)} holds it. ${then}.`;
 }
 
-// What a call answers here, and where it took effect; who judges for themselves may be told neither.
+// Returns the reply of a call and where it took effect. `hidden` leaves out either, for readers who judge the run.
 function effectText({ trace, event }, hidden) {
   const { call } = event;
   if (event.answer === undefined) return "";
@@ -45,7 +45,7 @@ function openingText(trace) {
   return `Before the first event the set is {${some}${trace.opening.length > 20 ? ", …" : ""}}, and every thread is idle.`;
 }
 
-// The state after `count` events of its trace, with the event that led there and what its thread held before. The state is moved.
+// Moves a state to `count` events of its trace. Returns the last event and what its thread held before.
 export function momentAt(state, count) {
   const { trace } = state;
   const event = count > 0 ? trace.event(count) : null;

@@ -1,4 +1,4 @@
-// Two lists side by side: one program of calls. A turn of a thread makes its next step in both; who has answered waits for the other.
+// Two lists side by side run one program of calls. A turn makes the thread's next step in both. A list whose call has returned waits for the other.
 import { scheduleText } from "./schedule_text.js";
 import { letterOf } from "./markup.js";
 import { State } from "./state.js";
@@ -71,7 +71,7 @@ export class Sides {
     this.sides = kinds.map((kind) => new Side(ask, kind, { program, quota, opening }));
   }
 
-  // What a turn of the thread makes in each list: a line of its schedule, or null where it waits; null where all is done.
+  // Returns what a turn makes in each list: a schedule line, or null if that list waits. Returns null if both are done.
   linesOf(thread) {
     if (thread >= this.program.length) return null;
     const isOpen = this.sides.map((side) => side.isOpen(thread));

@@ -1,7 +1,7 @@
-// The words, the threads and the chain after so many events of a trace, as each event's line tells.
+// The memory words, the threads and the chain after a number of events, as the lines of the trace say.
 import { firstOpeningNode } from "./trace.js";
 
-// Where a thread's call stands: the row that it made last (0: none), and its registers.
+// A call that has just begun: the row that it made last (`came`, 0: none), and its registers.
 const BEGUN = { came: 0, pred: "head", curr: "head", succ: "head", node: "head", pkey: "-inf", ckey: "-inf", reply: "none" };
 const AT_REST = { pc: 0, used: 0, call: null, ...BEGUN };
 export const linkTarget = (link) => link.replace("*", "");
@@ -59,7 +59,7 @@ export class State {
     if (!target.reached) set(target, "reached", true);
   }
 
-  // The lock words that are taken, by the thread that has them, as { t0: ["head.lock"] }: those of nodes by rising keys.
+  // Returns the held locks by thread, as { t0: ["head.lock"] }. Locks of nodes come by increasing keys.
   locks() {
     const held = {};
     const add = (lock, word) => lock !== "free" && (held[lock] ??= []).push(word);
@@ -94,7 +94,7 @@ function openingNodes(trace) {
   return nodes;
 }
 
-// A slot in the beginning. It is `reached` once a node that is reached has led to it: up to then it is a thread's own.
+// A slot at the start. It is `reached` once a reached node has pointed to it. Before that, only its thread sees it.
 const newNode = () => ({ key: "-inf", link: "head", lock: "free", reached: false });
 export const isWritten = (node) => node.key !== "-inf" || node.link !== "head" || node.lock !== "free";
 export const ownerOf = (trace, name) => Math.floor((Number(name.slice(1)) - 2) / trace.quota);

@@ -1,4 +1,4 @@
-// A trace (the text of `listset trace`) as the engine prints it. An event is read when it is asked for.
+// A trace, the text of `listset trace`. Events are parsed on demand.
 
 export const HEADER_LINES = 4;
 export const NODE_REGISTERS = ["pred", "curr", "succ", "node"];
@@ -120,7 +120,7 @@ export function eventsInCommon(one, other) {
   return count;
 }
 
-// The calls that stand in the order: by their moments, at one moment the call that changes the set first, then by number.
+// Returns the calls in their order: by moment, at one moment the call that changes the set first, then by number.
 function orderOf(calls) {
   const placed = calls.filter((call) => call.at !== null);
   return placed.sort((one, other) => one.at - other.at || Number(other.changes) - Number(one.changes) || one.id - other.id);

@@ -1,4 +1,4 @@
-// The figure of a question: its run, one of its branches, or a run of a list that lacks a check.
+// The figure of a question: its run, a branch of it, or a run of a list that lacks a check.
 import { BREAK_LEVELS } from "../data/levels.js";
 import { tag } from "../run/markup.js";
 import { isLecture, now } from "../page/now.js";
@@ -10,7 +10,7 @@ import { drawLedger, isOddRun, LIST_WORDS, part, scene, setScene, takeFigure } f
 
 export const CHECK_WORDS = {
   lock: "the lock is ignored",
-  "hand-over-hand": "it lets go of one node before it holds the next",
+  "hand-over-hand": "it releases one node before it has locked the next",
   "second-walk": "it does not walk again",
   "marks-in-validation": "it does not look at the marks",
   "mark-in-remove": "it marks a node that is marked already",
@@ -23,38 +23,37 @@ export const isEmbed = () => now.place.view === "embed";
 
 export function takeBranch({ lines, opening, lacks = null, isFree = false }) {
   const item = itemOf(now.place);
-  const { high = isEmbed() ? 0.34 : 0.23, least = isEmbed() ? 110 : 180 } = scene.figure?.spec ?? {}; // (a branch is as large as the example)
   const calls = isFree ? {} : item.calls;
-  return takeFigure(new Figure(freshBox(item.isTimed), {
+  return takeFigure(new Figure(freshBox(), {
     list: item.list, lacks, lines, calls, threads: item.threads ?? 2, quota: item.quota ?? 4, opening: opening ?? item.opening,
     operations: operationsIn(item), hidden: { hides: item.hides },
-    strip: true, scrub: true, again: false, free: isFree, short: true, roomFor: 552, high, least,
+    strip: true, scrub: true, again: false, free: isFree, isTimed: item.isTimed, slots: 5,
     code: !isEmbed(), codeTitle: LIST_WORDS[item.list], codeNote: lacks === null ? "" : `Here ${CHECK_WORDS[lacks]}.`,
     struck: BREAK_LEVELS[lacks]?.missing,
   }));
 }
 
-// Whose code is shown: on a slide of the calls alone that are under way, so that it is larger.
+// Returns the operations whose code is shown. A slide shows the pending calls only, in larger type.
 function operationsIn({ lines, rest }) {
   const isOver = (line, at) => isLecture() && lines.slice(at).includes(`go ${line.split(" ")[1]} out`);
   const shown = [...lines.filter((line, at) => !isOver(line, at)), ...rest];
   return shown.filter((line) => line.startsWith("begin")).map((line) => line.split(" ")[2]);
 }
 
-function freshBox(isTimed) {
-  const box = Object.assign(document.createElement("div"), { id: "figure", className: isTimed ? "timed" : "" });
+function freshBox() {
+  const box = Object.assign(document.createElement("div"), { id: "figure" });
   part("#figure").replaceWith(box);
   return box;
 }
 
-// ---- what if: a run of a question may be changed from any moment on, and each branch is kept
+// ---- What if: the reader can change a run from any moment on. Each branch is kept.
 function takeOwnBranch(branch) {
   const figure = takeBranch({ ...branch, isFree: true });
   Object.assign(figure, { onFork: fork, onStep: grow });
   return figure;
 }
 
-// A thread is going to step where later events stand: they stay in their branch, and a new one begins here.
+// Begins a new branch when a thread steps before the end of a run. The later events stay in the old branch.
 function fork(figure) {
   const { branches, at } = now.scene;
   const { lacks, opening, isFixed } = branches[at];
@@ -98,10 +97,9 @@ export function whatIf() {
   figure.set({ hidesDock: false });
   if (now.scene.at === 0) figure.moveTo(now.scene.branches[0].from);
   setScene({ stage: "task" });
-  part("#figure").scrollIntoView({ block: "center", behavior: "smooth" });
 }
 
-// The same run on a list that lacks the check, where that breaks it; else another one that does.
+// Opens the same run on the list that lacks the check, or another run if that one does not break it.
 export function withoutCheck(item) {
   const { branches } = now.scene;
   const known = branches.findIndex(({ isFixed }) => isFixed);
@@ -120,15 +118,15 @@ function sameLines({ list, opening, lines, rest, lacks }) {
 
 const ownWords = ({ from, lacks = null }, isBroken) => {
   const proved = "Whatever you choose, some order of the calls explains their answers: that is proved of each run of this list.";
-  const broken = "No order of its calls explains their answers and what is left: you have broken this list.";
+  const broken = "No order of its calls explains their answers and the final list: you have broken this list.";
   return `<b>Your own branch.</b> It leaves the example at step ${from}. ${isBroken ? broken : lacks === null ? proved : ""}`;
 };
 
 function fixedWords({ lacks }, isBroken) {
   const { without, broken } = itemOf(now.place);
   const which = `This is ${without === undefined ? "the same run" : "a run"} of a list with one check less: ${CHECK_WORDS[lacks]}.`;
-  const proved = "No order of the calls explains their answers and what is left; that is proved.";
-  return `<b>${isBroken ? broken : "Not broken yet."}</b> ${which} ${isBroken ? proved : "Some order still explains the answers."}`;
+  const proved = "No order of the calls explains their answers and the final list; that is proved.";
+  return `<b>${isBroken ? broken : "Not broken yet."}</b> ${which} ${isBroken ? proved : "The calls so far do not show it."}`;
 }
 
 export function talkOfBranch(branch) {
@@ -147,7 +145,9 @@ export function drawBranches({ branches, at }) {
   const { isFixed = false } = branches[at];
   const { question, without } = itemOf(now.place);
   part("#what-if-mark").hidden = at === 0 || isFixed;
-  part("#asked").textContent = (isFixed && without?.question) || question;
+  const [, story, asked] = /^(.*[.!] )?(.*)$/.exec((isFixed && without?.question) || question);
+  part("#asked").textContent = asked; // the title is the question alone
+  part("#story-of").textContent = story ?? "";
   const button = ({ name }, index) =>
     tag("button", { class: "small", "data-do": "branch", "data-branch": index, "aria-pressed": index === at }, index === 0 ? "" : "↳ ", name);
   box.innerHTML = branches.map(button).join("");

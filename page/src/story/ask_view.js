@@ -1,12 +1,11 @@
-// Ask, then show: a run stops at its question; the reader says what comes; the run plays on, and the reply says why.
+// Guess, then see: a run stops at its question, the reader predicts, the run continues, and the reply explains.
 import { slideAddress } from "../data/lecture.js";
 import { isLecture, now } from "../page/now.js";
 import { QUESTIONS } from "./ask.js";
 import { ALL, CHECK_WORDS, drawBranches, goBack, isEmbed, itemOf, openBranch, seeAgain, takeBranch, talkOfBranch, whatIf, withoutCheck } from "./ask_branches.js";
-import { isNarrow } from "./figure_parts.js";
-import { keepStory, keptStory } from "./kept.js";
+import { keepStory, keptStory } from "./progress.js";
 import { LiveRun } from "./live_run.js";
-import { drawOn, FIGURE_AND_TALK, head, LIST_WORDS, numberOfKey, openScene, optionButtons, part, replyTo, scene, setScene, talk, threadOfKey } from "./scene.js";
+import { drawOn, onStage, head, LIST_WORDS, numberOfKey, openScene, optionButtons, part, replyTo, scene, setScene, talk, threadOfKey } from "./scene.js";
 
 const here = () => itemOf(now.place);
 
@@ -18,10 +17,10 @@ function html(place) {
   const kicker = `${isEmbed() ? "Guess, then see" : '<a href="#ask">Guess, then see</a>'} · ${which} · ${LIST_WORDS[item.list]}`;
   const out = `<a class="button quiet small" target="_blank" href="${location.pathname}#ask=${item.name}">open in a page ↗</a>`;
   const all = '<a class="button quiet" href="#ask">All questions</a>';
-  return `<section class="screen">${head(kicker, `<span id="what-if-mark" class="what-if" hidden>What if?</span><span id="asked">${item.question}</span>`)}
-    <div id="branches" class="branches" hidden></div>${FIGURE_AND_TALK}</section>
+  const top = head(kicker, '<span id="what-if-mark" class="what-if" hidden>What if?</span><span id="asked"></span>', '<p id="story-of" class="prose"></p>');
+  return `${onStage(`${top}<div id="branches" class="branches" hidden></div>`)}
     <footer class="foot">${isEmbed() ? "" : all}<span class="spread"></span>${isEmbed() ? out : ""}
-    <button id="show-me" class="primary" data-do="show">${isNarrow() ? "Show me" : "I do not know: show me"}</button>
+    <button id="show-me" class="quiet" data-do="show">${isLecture() ? "Reveal" : "Show me"}</button>
     <a id="go-on" class="button quiet" href="${place.slide > 0 ? slideAddress(place.slide + 1) : `#ask=${next.name}`}" ${isEmbed() ? "hidden" : ""}>Skip →</a></footer>`;
 }
 

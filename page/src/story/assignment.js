@@ -1,4 +1,4 @@
-// An assignment is its address, #assignment=Week+3&learn=one-lock.lost-pred&break=6.7&judge=lazy.2.5.2.17: nothing is kept for it anywhere.
+// An assignment is its address, #assignment=Week+3&learn=one-lock.lost-pred&break=6.7&judge=lazy.2.5.2.17. It is stored nowhere else.
 import { BOOK, BOOK_NAME } from "../../made/book.js";
 import { LACKING } from "../../made/classics.js";
 import { LISTS } from "../../made/rows.js";
@@ -13,7 +13,7 @@ import { saveText } from "../page/files.js";
 import { keptUnder } from "../page/kept.js";
 import { askNow, now } from "../page/now.js";
 import { addressOfAssignment } from "../page/visit.js";
-import { brokenLines, keepStory, keptStory, startAfresh } from "./kept.js";
+import { brokenLines, keepStory, keptStory, startAfresh } from "./progress.js";
 import { copyText, foot, head, part } from "./scene.js";
 
 const known = { course: null };
@@ -21,8 +21,8 @@ export const bookCourse = () => (known.course ??= triedCourse(askNow, BOOK));
 export const allLevels = () => Object.keys(BREAK_LEVELS).filter((name) => name !== NO_TASK).map((name) => ({ name, number: numberOfLevel(name) }));
 const wordsIn = (text, sign = ".") => (text ?? "").split(sign).filter((word) => word !== "");
 
-export function addressOfTasks(title, { learn, levels, seeds }) {
-  const parts = Object.entries({ learn: learn.join("."), break: levels.join("."), judge: seeds.join(",") });
+export function addressOfTasks(title, { learn, levels, seeds, due = "" }) {
+  const parts = Object.entries({ learn: learn.join("."), break: levels.join("."), judge: seeds.join(","), due });
   return addressOfAssignment({ id: title, given: Object.fromEntries(parts.filter(([, value]) => value !== "")) });
 }
 
@@ -50,7 +50,7 @@ function seedTask(seed) {
   return { id: `judge ${seed}`, kind: "Judge", title: `Run ${number}, ${LISTS[kind].name}`, says, href: `#seed=${seed}&judge`, seed };
 }
 
-// The assignment that was opened last, where a place, or the run that is judged there, is one of its tasks; else null.
+// Returns the assignment opened last if the place, or the run judged there, is one of its tasks, else null.
 export function homeworkOf({ activity, id }, task = { kind: "", id: "" }) {
   const { homework } = keptStory();
   const isRun = activity === "judge" && task.kind === "seed";
@@ -58,7 +58,7 @@ export function homeworkOf({ activity, id }, task = { kind: "", id: "" }) {
   return wordsIn(homework.given[activity], isRun ? "," : ".").includes(isRun ? task.id : id) ? homework : null;
 }
 
-// Where a place leads on: a task of the assignment that was opened last to the next one or back to all, others their own way.
+// Returns the link that follows a place. A task of the assignment leads to its next task, or back to the assignment.
 export function wayOn({ activity, id }, own) {
   const homework = homeworkOf({ activity, id });
   if (homework === null) return own;
@@ -80,7 +80,7 @@ export function tasksOf(given) {
   return { tasks: [...learn, ...levels, ...taken(wordsIn(given.judge, ","), seedTask, "run")], unknown };
 }
 
-// ---- what this browser has done: what the page keeps of lessons, levels and judged runs
+// ---- the progress in this browser: solved lessons, broken levels, judged runs
 function textOfRun(run) {
   try {
     return run.includes("#") ? readAddress(run.slice(run.indexOf("#"))).text : null;
@@ -109,7 +109,7 @@ function linesDone(tasks) {
   return Object.fromEntries(tasks.map((task) => [task.id, lineOf[task.kind](task)]));
 }
 
-// ---- What a student opens: the tasks of one link, what of them is done in this browser, and the text to hand in.
+// ---- The student's view: the tasks of a link, which of them are done, and the text to hand in.
 export const titleOfAssignment = ({ id }) => id || "Assignment";
 
 function doneOf(place) {
@@ -129,14 +129,15 @@ const HAND = ({ student, number }, count) => `<section class="panel hand" id="ha
   <label>Student number <input id="hand-number" inputmode="numeric" value="${escaped(number)}"></label>
   <button data-do="copy">Copy the text</button><button data-do="save">Save as a file</button>
   <button class="quiet" data-do="afresh">Start afresh on this computer</button></div>
-  <p class="small" id="scene-told" role="status">The text has your ${counted(count, "solution")}. Your teacher’s page runs ${count === 1 ? "it" : "each of them"} again.</p>
+  <p class="small" id="scene-told" role="status">${count === 0 ? "No task is solved yet. Solved tasks are added to this text, and your teacher’s page runs each of them again." : `The text has your ${counted(count, "solution")}. Your teacher’s page runs ${count === 1 ? "it" : "each of them"} again.`}</p>
   <details><summary>See the text</summary><pre id="hand-text"></pre></details></section>`;
 
 function html(place) {
   const { tasks, unknown, lines, done } = doneOf(place);
   const first = tasks.find(({ id }) => lines[id] === undefined);
-  const wrong = unknown.length === 0 ? "" : `<p class="again">This page does not know: ${escaped(unknown.join(", "))}. Tell your teacher.</p>`;
-  const lead = `<p class="lead">${counted(tasks.length, "task")}, ${done.length} done in this browser. Come back by the same link: what is done stays ticked.</p>
+  const wrong = unknown.length === 0 ? "" : `<p class="again">This page does not have ${escaped(unknown.join(", "))}. Please tell your teacher.</p>`;
+  const due = place.given.due === undefined ? "" : `<p class="due"><b>Due: ${escaped(place.given.due.slice(0, 40))}</b></p>`;
+  const lead = `${due}<p class="lead">${counted(tasks.length, "task")}, ${done.length} done in this browser. Come back by the same link: what is done stays ticked.</p>
     <progress max="${tasks.length || 1}" value="${done.length}" aria-label="${done.length} of ${tasks.length} done"></progress>${wrong}
     <p class="small">New to this? <a href="#story=1">Why not just one lock?</a> Twenty minutes, from nothing.</p>`;
   const verb = done.length === 0 ? "Begin" : "Go on";
@@ -164,7 +165,7 @@ const fill = () => (part("#hand-text").textContent = textNow());
 
 function isNamed() {
   if (part("#hand-student").value.trim() !== "") return true;
-  part("#scene-told").textContent = "Your name first, please.";
+  part("#scene-told").textContent = "Please enter your name first.";
   part("#hand-student").focus();
   return false;
 }

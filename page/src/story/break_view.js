@@ -1,4 +1,4 @@
-// Break it: the threads step until no order of the calls explains their answers; then the reader says which check is missing.
+// Break it: step the threads until no order of the calls explains their replies, then name the missing check.
 import { LACKING } from "../../made/classics.js";
 import { LISTS } from "../../made/rows.js";
 import { BREAK_LEVELS, TEN, levelOfNumber, numberOfLevel, whyWrong } from "../data/levels.js";
@@ -6,9 +6,9 @@ import { askNow, now } from "../page/now.js";
 import { addressOf } from "../run/address.js";
 import { departureOf, isTaskDone, NO_TASK } from "../run/broken.js";
 import { wayOn } from "./assignment.js";
-import { isBrokenOnce, isNamed, keepBrokenLine, keepNamed } from "./kept.js";
+import { isBrokenOnce, isNamed, keepBrokenLine, keepNamed } from "./progress.js";
 import { runOfText } from "./live_run.js";
-import { drawHintAndOn, drawLedger, FIGURE_AND_TALK, foot, head, hintAndOn, isOddRun, LACKS_ONE, numberOfKey, optionButtons, pressThread, scene, setScene, takeFreeFigure, talk } from "./scene.js";
+import { drawHintAndOn, drawLedger, onStage, foot, head, hintAndOn, isOddRun, LACKS_ONE, numberOfKey, optionButtons, pressThread, scene, setScene, takeFreeFigure, talk } from "./scene.js";
 
 const HINTS = 3;
 const levelOf = ({ id }) => levelOfNumber(id);
@@ -18,9 +18,8 @@ function html(place) {
   const name = levelOf(place);
   const at = TEN.indexOf(name);
   const next = TEN[(at + 1) % TEN.length];
-  const which = at === -1 ? "one more" : `${at + 1} of ${TEN.length}`;
-  const kicker = `<a href="#break">Break it</a> · ${which} · ${LISTS[LACKING[name]].name} without one check`;
-  return `<section class="screen">${head(kicker, BREAK_LEVELS[name].story)}${FIGURE_AND_TALK}</section>
+  const kicker = `<a href="#break">Break it</a> · level ${numberOfLevel(name)} · ${LISTS[LACKING[name]].name} without one check`;
+  return `${onStage(head(kicker, BREAK_LEVELS[name].story))}
     ${foot('<a class="button quiet" href="#break">All lists</a>', hintAndOn(wayOn(place, { href: `#break=${numberOfLevel(next)}`, words: "Next list →" })))}`;
 }
 
@@ -30,13 +29,13 @@ function begin(place) {
   const list = LACKING[name];
   const given = place.given.text === undefined ? { opening: [3, 7] } : runOfText(place.given.text);
   const operations = ["add", "remove", "contains", ...(name === "mark-in-ceiling" ? ["ceiling"] : [])];
-  const figure = takeFreeFigure(list, { lacks: name, ...given, chosen: { 0: start[0], 1: start[1] }, high: 0.24, operations, codeNote: LACKS_ONE, struck: name === NO_TASK ? missing : undefined });
+  const figure = takeFreeFigure(list, { lacks: name, ...given, chosen: { 0: start[0], 1: start[1] }, operations, codeNote: LACKS_ONE, struck: name === NO_TASK ? missing : undefined });
   figure.onStep = looked;
   setScene({ stage: "task", text: figure.run.schedule });
   if (place.given.text !== undefined) looked();
 }
 
-// Whether the run is the one that was opened, broken as it is: that was shown, and not found.
+// Whether the broken run was opened from a link, and so was not found by the reader.
 const isShown = (run) => now.place.given.text !== undefined && run.lines.join() === run.first.join() && !isBrokenOnce(nameNow());
 
 function looked() {
@@ -53,24 +52,27 @@ function looked() {
   setScene({ stage: "done", note: whyOf(verdict, wasShown) });
 }
 
-// Of a number that hangs outside it is said what is left to do; else why the run is not broken, though it looks so.
-function notYet(run, { kind }) {
+// Says what is left to do if a key is outside the list, else why the run is not broken although it looks so.
+function notYet(run, { kind, isExplained }) {
   const lost = run.promised().filter((key) => !run.has().includes(key));
-  if (run.trace.calls.some(({ ended }) => ended === null)) return lost.length === 0 ? "" : `${lost.join(" and ")} is not in the list any more. Now let each call come to its answer.`;
-  return kind === "points" ? "That looks wrong. But calls that overlap may count in either order, and one order explains these answers: not broken yet." : "";
+  if (run.trace.calls.some(({ ended }) => ended === null)) return lost.length === 0 ? "" : `${lost.join(" and ")} is no longer in the list. Now let each call return.`;
+  const order = isExplained ? "one order explains" : "some order can explain";
+  if (kind === "points") return `That looks wrong. But calls that overlap can take effect in either order, and ${order} these answers: not broken yet.`;
+  const hasEach = scene.figure.shown.every((thread) => run.trace.calls.some((call) => call.thread === thread));
+  return hasEach ? "Every call has returned, and one order explains the answers: not broken this time. Start over, or begin another call." : "";
 }
 
 const whyOf = ({ why }, wasShown) => {
   const ofList = why.replace(/the set (has|does not have) it/, "the list $1 it"); // no set is this
-  return `${ofList}. No order of the calls explains that; it is proved.${wasShown ? " This run was shown to you: find one of your own." : ""}`;
+  return `${ofList}. No order of the calls explains that. This verdict comes from the proved checker.${wasShown ? " This run was shown to you: find one of your own." : ""}`;
 };
 
-const NOBODY_KNOWS = "Nobody knows a run that breaks this list. Try it, and say why.";
+const NOBODY_KNOWS = "No run is known that breaks this list. Try it, and say why.";
 
 function taskHtml({ hints, note }) {
   const items = BREAK_LEVELS[nameNow()].hints.slice(0, hints).map((text) => `<li>${text}</li>`);
   const list = items.length === 0 ? "" : `<ol class="hints">${items.join("")}</ol>`;
-  const ask = nameNow() === NO_TASK ? NOBODY_KNOWS : "Let A and B step until the list lacks a number that was promised, or two answers contradict each other.";
+  const ask = nameNow() === NO_TASK ? NOBODY_KNOWS : "Step A and B until a number is missing that an add reported as added, or until two answers contradict each other.";
   return `<p class="ask">${ask}</p>${note === "" ? "" : `<p class="again">${note}</p>`}${list}`;
 }
 
@@ -84,8 +86,8 @@ function wonHtml({ note, wrong }) {
   const reply = wrong.length === 0 ? "" : whyWrong(name, wrong.at(-1));
   const asked = `<p class="ask">What does this list do wrong?</p>${optionButtons(optionsOf(name), wrong)}<p role="status">${reply}</p>`;
   const { total } = run.trace;
-  const own = `${total} steps, of which one press makes several; ${total < shortest[0] ? "the shortest known before had" : "the shortest known has"} ${shortest[0]}.`;
-  const named = `<p><b class="yes">✓ ${lacks}</b> It is struck out in the code. <span class="small">Yours has ${own}</span></p>
+  const known = total > shortest[0] ? ` A run with ${shortest[0]} steps is known.` : "";
+  const named = `<p><b class="yes">✓ ${lacks}</b> The code shows it struck out. <span class="small">Your run has ${total} steps (one press can make several).${known}</span></p>
     <p class="line"><button data-do="replay">See your run again</button> <button data-do="afresh" class="quiet">Break it in another way</button></p>`;
   const ledger = isOddRun(run) ? drawLedger(run) : "";
   return `<div class="reveal won">${ledger}<div><p class="why"><b>Broken.</b> ${note}</p>${isDone ? named : asked}</div></div>`;
@@ -119,7 +121,7 @@ function answer(index) {
   replay();
 }
 
-// The winning run once more, from where the whole list would have gone another way.
+// Replays the winning run from the step at which the correct list differs.
 function replay() {
   const { figure } = scene;
   figure.replay(Math.max(0, (departureOf(askNow, figure.run.trace) ?? 1) - 2));

@@ -1,4 +1,4 @@
-// The algorithm beside the picture, and the way to step: each line is a button. `plain` leaves out the lines of the lock.
+// The algorithm beside the list. Each line is a button that steps a thread. `plain` leaves out the lines about the lock.
 import { chipOf, colourOf, escaped, letterOf, tag } from "../run/markup.js";
 
 const WORDS = /\b(while|if|else|return|start again|loop|until|unlock|lock|find|validate|CAS|new)\b/g;
@@ -58,7 +58,7 @@ function drawOwnLine({ text, rows = [], isPlain = false }, { next, made, fresh =
 /** @param {CodeSpec} spec */
 export const drawOwnCode = (spec) => tag("ol", { class: "steps" }, ...linesShown(spec).map((line) => drawOwnLine(line, spec)));
 
-// ---- the algorithm of each list as the book has it: `rows` of the table for which a line stands, `of` the calls that make it
+// ---- The algorithm of each list. `rows` are the table rows that a line stands for, `of` the operations that run it.
 
 const CHANGES = ["add", "remove"];
 

@@ -1,9 +1,9 @@
-// Step by the code: one list, two threads, any calls. The lines are the buttons. The run is in the address.
+// Step by the code: one list, two threads, any calls. The lines are buttons. The address has the run.
 import { LISTS } from "../../made/rows.js";
 import { now } from "../page/now.js";
 import { addressOfCode, linesOfCode, linkTo, SET_OF_CODE, START_OF_CODE } from "../page/visit.js";
 import { tag } from "../run/markup.js";
-import { copyText, head, LIST_WORDS, part, pressThread, scene, setScene, takeFreeFigure } from "./scene.js";
+import { copyText, head, LIST_WORDS, onStage, part, pressThread, scene, setScene, takeFreeFigure } from "./scene.js";
 
 const listOf = ({ id }) => (id in LISTS ? id : "lazy");
 const numbersIn = (text) => [...new Set(text.split(/\D+/).filter((key) => /^\d{1,3}$/.test(key)).map(Number))].sort((one, other) => one - other);
@@ -19,10 +19,10 @@ function html(place) {
   const tab = ([kind, name]) => tag("button", { class: "small", "data-do": "list", "data-list": kind, "aria-pressed": kind === list }, name);
   const prose = `<p class="prose">Each thread’s letter stands at the line that it makes next. Press that line to make it; press another line, and
     the thread runs there. Let an idle thread begin any call.</p>`;
-  return `<section class="screen">${head("", "Press a line, and its thread makes it.", prose)}
+  return `${onStage(`${head("", "Press a line, and its thread makes it.", prose)}
     <div class="line"><span class="branches">${Object.entries(LIST_WORDS).map(tab).join("")}</span>
     <label class="small">begins with <input id="code-opening" value="${openingOf(place).join(" ")}" size="8"></label></div>
-    <div id="figure"></div><div class="talk"><p id="code-told" class="again" role="status" hidden></p></div></section>
+    <p id="code-told" class="again" role="status" hidden></p>`)}
     <footer class="foot"><span class="small" id="scene-told" role="status"></span><span class="spread"></span>
     <button class="quiet" data-do="copy">Copy link</button><button class="primary" data-do="step">Step</button></footer>`;
 }
@@ -30,7 +30,7 @@ function html(place) {
 function figureOf(place, lines) {
   const list = listOf(place);
   const chosen = { 0: ["add", 5], 1: [list === "coarse" ? "contains" : "remove", 7] };
-  return takeFreeFigure(list, { lines, opening: openingOf(place), ...setOfPlace(place), high: 0.27, chosen });
+  return takeFreeFigure(list, { lines, opening: openingOf(place), ...setOfPlace(place), chosen, opensCode: true, talk: false });
 }
 
 function begin(place) {
@@ -51,7 +51,7 @@ function takeList({ dataset }) {
   location.hash = addressOfCode(dataset.list, openingOf(now.place), [...first.values()], setOfPlace(now.place));
 }
 
-// The button of ink: the thread that moved last goes on; an idle one begins the call that is chosen for it.
+// The Step button: steps the thread that moved last, or begins the chosen call of an idle thread.
 function stepOn() {
   const { figure } = scene;
   const thread = figure.run.isIdle(figure.active) ? (figure.shown.find((one) => !figure.run.isIdle(one)) ?? figure.active) : figure.active;

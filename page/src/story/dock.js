@@ -1,11 +1,12 @@
-// Below the list of a figure: of each thread what it wants and what it does next, the history, and the slider of the moments.
+// The parts below the list: a row for each thread with its call and its next step, the history, and the slider.
 import { callText, chipOf, colourOf, letterOf, tag } from "../run/markup.js";
 import { drawContents } from "../draw/tables.js";
-import { drawCalls, scaleOf } from "../draw/history.js";
+import { drawCalls, HISTORY_LEFT, scaleOf } from "../draw/history.js";
 import { redraw, setHtml } from "../page/dom.js";
+import { isLecture } from "../page/now.js";
 import { answerText, phaseText } from "./tale.js";
 
-const AGAIN = `<span class="again"><button data-undo class="quiet small" title="take the last press back">↶ One back</button>
+const AGAIN = `<span class="again"><button data-undo class="quiet small" title="undo the last press">↶ One back</button>
   <button data-again class="quiet small">↺ Start over</button></span>`;
 
 export function showDock(figure) {
@@ -31,7 +32,7 @@ function rowOf(figure, thread) {
   return threadRow(thread, button, callText(call));
 }
 
-// The thread's letter, below it its call, and beside them what it may do.
+// Returns the row of a thread: its letter, its call, and its button or fields.
 function threadRow(thread, inside, call = "") {
   const given = { class: `thread ${colourOf(thread)}`, "data-thread": thread, role: "group", "aria-label": `thread ${letterOf(thread)}` };
   return tag("div", given, tag("span", { class: "own" }, chipOf(thread), call === "" ? "" : ` <code>${call}</code>`), " ", inside);
@@ -57,14 +58,19 @@ function chooser(figure, thread, own) {
 
 export function showStrip(figure) {
   const { run } = figure;
-  const wide = Math.max(280, figure.stripWide);
+  const wide = Math.max(250, figure.stripWide / zoomOf(figure));
   const room = 26 + 9 * `{${run.promised().join(", ")}}`.length; // right of the last event, for what is in the set then
-  const scale = scaleOf(run.trace, run.count, wide - room, figure.hides);
+  const scale = scaleOf(run.trace, run.count, wide - room, figure.hides, isLow() && (!figure.spec.isPath || isLecture()));
   Object.assign(scale, { edge: scale.edge + room, width: wide });
   figure.scale = scale;
+  figure.part("strip").style.setProperty("--zoom", String(zoomOf(figure)));
   setHtml(figure.part("strip"), tag("div", { class: "calls" }, drawCalls(run.trace, scale)) + drawContents(run.trace, scale) + LEGEND);
 }
-const LEGEND = '<p class="small legend">● changes the set · ○ first moment at which its answer is right</p>';
+const isLow = () => innerHeight < 760 || innerWidth < 761 || isLecture();
+// The path draws its bars larger, and aligns the list with them.
+const zoomOf = ({ spec, stripWide }) => (isLecture() ? innerHeight / 450 : !spec.isPath ? 1 : stripWide < 600 ? 1.34 : stripWide < 1500 ? 1.35 : 1.55);
+export const barEnds = (figure) => [(HISTORY_LEFT - 6) * zoomOf(figure), 16 * zoomOf(figure)];
+const LEGEND = '<p class="small legend">● the call changes the set · ○ earliest moment at which its answer is correct</p>';
 const MOST_CALLS = 400; // pixels: of more threads the bars scroll
 
 export function scrollToLane(figure) {
@@ -93,7 +99,7 @@ export function showScrub(figure) {
   box.hidden = !figure.isOpen;
 }
 
-// ---- What a press on a part of a figure does: a thread's button, a line of the code, the slider's ends, what takes a press back.
+// ---- Presses on a figure: a thread's button, a line of code, the ends of the slider, One back, Start over.
 const MOST_KEY = 999;
 
 export function pressed(figure, event) {
@@ -109,14 +115,14 @@ export function pressed(figure, event) {
   else if (begin !== undefined) beginOwn(figure, Number(begin));
 }
 
-// A line of the code was pressed: who stands there steps off it; else the thread that moved last runs there.
+// Handles a press on a line of code. A thread at this line makes the step; otherwise the active thread runs to the line.
 function pressLine(figure, button) {
   if (figure.isBusy || !figure.canStep) return;
   const rows = button.closest("[data-rows]").dataset.rows.split(" ").map(Number);
   const here = (button.dataset.threads ?? "").split(" ").filter((text) => text !== "").map(Number);
   const thread = here.length === 0 || here.includes(figure.active) ? figure.active : here[0];
   const isIdle = figure.run.isIdle(thread);
-  if (isIdle && figure.left(thread).length === 0) return figure.tell(`${chipOf(thread)} has no call under way.`);
+  if (isIdle && figure.left(thread).length === 0) return figure.tell(`${chipOf(thread)} has no pending call.`);
   figure.leaves();
   const from = figure.run.trace.total;
   if (isIdle) figure.run.begin(thread, figure.left(thread)[0]);
@@ -128,6 +134,12 @@ function pressLine(figure, button) {
 export function chooseCall(figure, row) {
   const call = [row.querySelector("select").value, row.querySelector("input").value];
   figure.chosen = { ...figure.chosen, [row.dataset.thread]: call };
+}
+
+// Asks the reader which call an idle thread begins, and focuses its fields.
+export function askCall(figure, thread) {
+  figure.tell(`Which call is ${chipOf(thread)} to begin? Choose its operation and its number, then press <b>begin</b>.`);
+  figure.box.querySelector(`[data-thread="${thread}"] select`)?.focus();
 }
 
 export function beginOwn(figure, thread) {

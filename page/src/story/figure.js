@@ -1,8 +1,8 @@
-// A live figure: the list, a sentence, the code, and a button for each thread. Pressing a button lets that thread do its next bit.
-import { isSceneSlide } from "../page/now.js";
+// A live figure: the list, a sentence, the code, and a button for each thread that makes its next steps.
+import { fallTime } from "../draw/glide.js";
 import { momentAt } from "../run/sentences.js";
-import { drawFigure, frameOf, isNarrow, markLostNodes } from "./figure_parts.js";
-import { beginOwn, chooseCall, pressed } from "./dock.js";
+import { drawFigure, frameOf, markLostNodes } from "./figure_parts.js";
+import { askCall, beginOwn, chooseCall, pressed } from "./dock.js";
 import { LiveRun } from "./live_run.js";
 
 const BIT = 300; // milliseconds between two steps of one press
@@ -12,8 +12,8 @@ const sleep = (time) => new Promise((done) => setTimeout(done, time));
 const drawn = { count: 0 };
 const tellBusy = (isBusy) => (document.body.dataset.busy = isBusy ? "yes" : "no");
 
-// A spec has what a run needs; of each thread its `calls`; the threads with a button (`shown`); and what is shown besides the list.
-export const STILL = { dock: false, names: true, strip: true, short: true, again: false }; // of a run that is made elsewhere
+// A spec describes a run, the `calls` of each thread, the threads with a button (`shown`), and the parts beside the list.
+export const STILL = { dock: false, names: true, strip: true, talk: false, again: false }; // of a run that is made elsewhere
 
 export class Figure {
   id = `f${drawn.count++}`;
@@ -27,16 +27,15 @@ export class Figure {
   isPlayed = false; // the page steps, and not the reader
   isGuess = false; // what would tell the answer is not shown
   isLost = false; // the nodes that are lost are lit
+  isSlow = false; // a node falls out of the chain, in slow motion
   hides = true; // of the history, what comes later
-  most = { width: 0, height: 0 }; // of the list, in its own units: with room for a node that may come
+  drawn = { count: 0, chain: [], slots: 0, tight: 0 }; // the moment and the chain that were drawn last, the most nodes and the tightest form so far
   wide = 0; // of the list, in pixels
-  fitted = {}; // how high it may be, where what the spec says is too much
   tall = 0;
   stripWide = 0;
   scroll = 0;
   told = null;
   onStep = null;
-  onFit = null;
   onFork = null;
 
   /** @param {any} box @param {import("./live_run.js").RunSpec & { [name: string]: any }} spec */
@@ -51,20 +50,17 @@ export class Figure {
     box.addEventListener("input", ({ target }) => target.closest(".choose") !== null && chooseCall(this, target.closest("[data-thread]")));
     this.stretch = new ResizeObserver(() => {
       const { clientWidth, clientHeight } = this.part("list");
-      if (clientWidth !== this.wide || (isSceneSlide() && clientHeight !== this.tall)) requestAnimationFrame(() => this.isEnded || this.fit());
+      if (clientWidth !== this.wide || clientHeight !== this.tall) requestAnimationFrame(() => this.isEnded || this.fit());
     });
     this.stretch.observe(this.part("list"));
     this.fit();
   }
 
   fit() {
-    [this.wide, this.stripWide] = ["list", "strip"].map((name) => this.part(name).clientWidth);
-    this.tall = this.part("list").clientHeight;
-    this.fitted = {};
-    const isRoomy = !isSceneSlide() && (this.spec.isPath || this.spec.free) && this.spec.again !== false && !isNarrow();
-    if (isRoomy) this.most.height = Math.max(this.most.height, 270 + 18 * this.shown.length);
+    const { clientWidth, clientHeight } = this.part("list");
+    if (clientWidth !== this.wide) Object.assign(this.drawn, { slots: 0, tight: 0 });
+    Object.assign(this, { wide: clientWidth, tall: clientHeight, stripWide: this.part("strip").clientWidth });
     this.draw();
-    this.onFit?.(this);
   }
 
   end() {
@@ -91,13 +87,13 @@ export class Figure {
     return own.slice(this.run.trace.calls.filter((call) => call.thread === thread).length);
   }
 
-  // What is shown now is left by a deed: it may be taken back.
+  // Records the lines before a change, for undo.
   leaves() {
     this.onFork?.(this);
     this.past.push([...this.run.lines]);
   }
 
-  // The next bit of a thread, with its call's begin where it is idle.
+  // Makes the next steps of a thread. An idle thread begins its call first.
   async step(thread) {
     if (!this.isOpen) return;
     if (this.isBusy) return void (this.isHurried = true);
@@ -110,10 +106,12 @@ export class Figure {
     await this.play(thread, next.steps, before);
   }
 
-  // A thread by its key: it steps, or begins the call that stands in its fields.
+  // Handles the key of a thread: it steps, or begins the call in its fields.
   press(thread) {
     if (!this.canStep || !this.shown.includes(thread)) return;
-    if (this.run.isIdle(thread) && this.left(thread).length === 0 && this.spec.free) beginOwn(this, thread);
+    const isFree = this.run.isIdle(thread) && this.left(thread).length === 0 && this.spec.free;
+    if (isFree && this.spec.asksCall && this.chosen[thread] === undefined) askCall(this, thread);
+    else if (isFree) beginOwn(this, thread);
     else this.step(thread);
   }
 
@@ -124,7 +122,7 @@ export class Figure {
     if (!this.isEnded) this.onStep?.(this);
   }
 
-  // Shows the steps from a moment to another; another press meanwhile shows the end at once.
+  // Plays the steps between two events. Another press skips to the last of them.
   show(from, total = this.run.trace.total) {
     return (this.playing = this.showSteps(from, total));
   }
@@ -141,6 +139,7 @@ export class Figure {
       this.part("tale").setAttribute("aria-live", count < total ? "off" : "polite"); // of a play only the last sentence is read out
       this.isBusy = count < total;
       this.draw(true);
+      if (this.isSlow) await sleep(fallTime()); // what is lost is seen before it is said
       if (count < total) await sleep(BIT);
     }
     this.isBusy = false;
@@ -154,7 +153,7 @@ export class Figure {
     await this.show(from);
   }
 
-  // Between two presses that the page makes.
+  // Waits between two presses that the page makes.
   async rest() {
     tellBusy(true);
     await sleep(wantsStill() ? 0 : BETWEEN);
@@ -173,11 +172,12 @@ export class Figure {
     if (this.isBusy) return;
     this.run.take(this.run.first);
     Object.assign(this, { past: [], told: null, isLost: false });
+    Object.assign(this.drawn, { slots: 0, tight: 0 });
     this.draw();
     this.onStep?.(this);
   }
 
-  // Shows a run that is made elsewhere; where it is the same run one event on or back, what moves glides.
+  // Shows a run made elsewhere. A move by one event within the same run is animated.
   showRun(run, moment = momentAt(run.state, run.count), hides = true) {
     const isNear = run.trace.kind === this.run.trace.kind && Math.abs(run.count - this.run.count) === 1;
     Object.assign(this, { run, hides });

@@ -1,37 +1,38 @@
-// What a figure looks like: the list in the middle of its stage, the sentence, the code, the threads' buttons, the history.
+// Draws the parts of a figure: list, sentence, code, thread buttons, history.
 import { glide } from "../draw/glide.js";
-import { drawList } from "../draw/list.js";
-import { arranged, shapeFor } from "../draw/places.js";
-import { isSceneSlide } from "../page/now.js";
+import { arranged } from "../draw/places.js";
+import { drawStage } from "../draw/stage.js";
+import { isLecture, isSceneSlide } from "../page/now.js";
 import { callText, colourOf, letterOf } from "../run/markup.js";
 import { momentAt } from "../run/sentences.js";
 import { setHtml } from "../page/dom.js";
 import { drawOwnCode } from "./code.js";
-import { scrollToLane, showDock, showScrub, showStrip } from "./dock.js";
+import { barEnds, scrollToLane, showDock, showScrub, showStrip } from "./dock.js";
 import { taleOf } from "./tale.js";
 
-const MOST_SCALE = 1.75;
-const MOST_HEIGHT = 0.4; // of the window, for the list
 export const NARROW = "(max-width: 760px)";
+const ROOMY = "(min-width: 1500px)"; // beside the list the code has room too
 export const isNarrow = () => matchMedia(NARROW).matches;
+const opensCode = ({ opensCode: isAsked }) => !isNarrow() && !isLecture() && (isAsked === true || matchMedia(ROOMY).matches);
 
-const CAS = "CAS x: a → b makes x point to b, if it still points to a. succ is the node after curr.";
-const codeBox = ({ list, isPath, codeTitle, codeNote = "" }) => `<details class="codebox" ${isNarrow() ? "" : "open"}><summary><b>${codeTitle}</b></summary>
-    <p class="small code-note" ${codeNote === "" ? "hidden" : ""}>${codeNote}</p><span class="runs"></span><div class="lines"></div>
-    <p class="small hint">${list === "lock-free" && !isPath ? CAS : "A letter stands at its thread’s next line. Press the line to step, another one to run there."}</p></details>`;
+const CAS = "CAS x: a → b makes x point to b if x still points to a. succ is the node after curr.";
+const LETTERS = "The letter shows the thread’s next line. Click that line to execute it, or another line to run to it.";
+const codeBox = (spec) => `<details class="codebox" ${opensCode(spec) ? "open" : ""}><summary>code<span>: <b>${spec.codeTitle}</b></span></summary>
+    <p class="small code-note" ${spec.codeNote ? "" : "hidden"}>${spec.codeNote ?? ""}</p><span class="runs"></span><div class="lines"></div>
+    <p class="small hint">${spec.list === "lock-free" && !spec.isPath ? CAS : LETTERS}</p></details>`;
 
 export function frameOf({ box, spec }) {
+  const talk = spec.talk === false ? "" : '<div id="talk" class="talk" aria-live="polite"></div>';
   box.innerHTML = `<div class="stage"><div class="list" tabindex="0" role="group" aria-label="the list"></div>
-    <p class="tale" aria-live="polite"></p><div class="strip"></div><div class="scrub"></div><div class="dock"></div></div>
+    <p class="tale" aria-live="polite"></p><div class="strip"></div><div class="scrub"></div>${talk}<div class="dock"></div></div>
     ${spec.code === false ? "" : codeBox(spec)}`;
   box.classList.add("fig");
-  box.classList.toggle("wide", spec.code === false);
   box.classList.toggle("plain", spec.plain === true);
-  box.classList.toggle("short", spec.short === true);
-  box.classList.toggle("undoes", spec.again !== false);
+  box.classList.toggle("timed", spec.isTimed === true);
+  box.classList.toggle("undoes", spec.again !== false && spec.dock !== false);
 }
 
-// The layout is not asked while anything is drawn: each question would have the whole page laid out once more.
+// Reads no layout while drawing: each read would lay out the whole page again.
 export function drawFigure(figure, moment, isNear) {
   const { run, spec, box } = figure;
   placeTheList(figure, moment, isNear);
@@ -47,12 +48,11 @@ export function drawFigure(figure, moment, isNear) {
   scrollSoon(figure, moment.event?.thread ?? figure.active);
 }
 
-// Once the drawing is laid out, what has moved is brought in sight.
+// Scrolls what has moved into view, after the next layout.
 function scrollSoon(figure, moved) {
   cancelAnimationFrame(figure.scroll);
   figure.scroll = requestAnimationFrame(() => {
     if (figure.isEnded) return;
-    if (isSceneSlide()) fitCode(figure.part("lines"));
     scrollToTouched(figure);
     scrollToLit(figure, moved);
     if (figure.spec.strip) scrollToLane(figure);
@@ -67,38 +67,28 @@ function taleHere({ run, spec }, moment) {
   const { answer, call } = moment.event;
   const before = taleOf(momentAt(run.state, run.count - 1), spec);
   run.state.moveTo(run.count);
-  return `${before} <b>${callText(call)} answers ${answer}.</b>`;
+  return `${before} <b>${callText(call)} returns ${answer}.</b>`;
 }
+
+const HIDDEN = { false: ["succ"], true: [] }; // a reader of the path has two hands to follow; the code of the lock-free list names a third
+export const lockShown = ({ list, plain, locks = true }) => (!locks || plain ? "" : list === "coarse" ? "list" : list === "lock-free" ? "" : "nodes");
 
 function placeTheList(figure, { state, event }, isNear) {
+  const { id, run, spec, wide, tall, drawn } = figure;
+  if (wide === 0) return;
   const box = figure.part("list");
-  const { id, most, spec, wide: room } = figure;
-  if (room === 0) return;
-  const shape = shapeFor(room);
-  const list = arranged(state, event, shape);
-  most.height = Math.max(most.height, list.height);
-  most.width = Math.max(most.width, list.width, (isSceneSlide() ? 0 : (spec.roomFor ?? 0)) * shape.share);
-  const draw = () => {
-    box.innerHTML = drawList(state, event, list, most.height, id);
-    const svg = box.firstElementChild;
-    fitList(figure, svg, room, list.width);
-    if (event !== null) svg.classList.add(colourOf(event.thread));
-    if (spec.names) return;
-    for (const sign of svg.querySelectorAll("text.pointer")) plainSign(spec, sign);
-    for (const name of svg.querySelectorAll("text.name")) if (/^n\d+$/.test(name.textContent)) name.remove();
-  };
-  glide(box, draw, isNear);
-}
-
-function fitList({ spec, fitted, tall: left, most: { width } }, svg, room, own) {
-  const { high: part = MOST_HEIGHT, least: lowest = 180 } = { ...spec, ...fitted };
-  const [, top, , high] = svg.getAttribute("viewBox").split(" ").map(Number);
-  const tall = isSceneSlide() ? left : Math.max(innerHeight * part, lowest);
-  const [least, most] = isSceneSlide() ? [0.1, Infinity] : [0.5, MOST_SCALE];
-  const scale = Math.max(least, Math.min(most, (room - 4) / width, tall / high));
-  svg.setAttribute("viewBox", `${(own - width) / 2} ${top} ${width} ${high}`);
-  svg.setAttribute("width", width * scale);
-  svg.setAttribute("height", high * scale);
+  const { names = false, slots = 4, flat, strip, isPath = false } = spec;
+  const hides = HIDDEN[String(names || (spec.list === "lock-free" && !isPath))];
+  const least = innerWidth >= 1900 ? 1 : 0;
+  const room = { wide, high: tall, least, slots: Math.max(slots, drawn.slots), lock: lockShown(spec), flat, tight: drawn.tight, hides, names, ends: strip && isPath ? barEnds(figure) : undefined };
+  const list = arranged(state, event, room);
+  const fallen = drawn.chain.filter((name) => !list.chain.includes(name) && !state.nodes[name]?.link.endsWith("*"));
+  const isStep = isNear && run.count === drawn.count + 1;
+  const isLoss = isStep && fallen.length > 0 && event?.call?.operation === "add"; // an add unlinks nothing: what falls out is lost
+  figure.isSlow = isLoss;
+  Object.assign(drawn, { count: run.count, chain: list.chain, slots: Math.max(drawn.slots, list.slots), tight: list.units.tight });
+  glide(box, () => (box.innerHTML = drawStage(state, event, room, id, list)), isNear, isLoss ? fallen : null);
+  if (event !== null) box.firstElementChild.classList.add(colourOf(event.thread));
 }
 
 function scrollToTouched(figure) {
@@ -112,18 +102,10 @@ function scrollToTouched(figure) {
   if (at < box.scrollLeft + 60 || at > box.scrollLeft + room - 120) box.scrollLeft = at - room / 2;
 }
 
-// A thread's fingers are pred and curr; succ is told only where the code names it, and the finger of a second walk by what it does.
-function plainSign(spec, sign) {
-  const [, letter, given] = /^(▲ \w+) (.*)$/.exec(sign.textContent);
-  const isTold = spec.list === "lock-free" && spec.isPath !== true;
-  const names = given.split(", ").filter((name) => name !== "succ" || isTold).map((name) => (name === "node" ? "2nd walk" : name));
-  if (names.length === 0) sign.remove();
-  else sign.textContent = `${letter} ${names.join(", ")}`;
-}
-
 export function markLostNodes({ run, box }) {
   const has = run.has();
-  const isLost = ({ key }) => run.promised().some((one) => String(one) === key && !has.includes(one));
+  const promised = run.promised();
+  const isLost = ({ key }) => /^\d+$/.test(key) && promised.includes(Number(key)) !== has.includes(Number(key));
   for (const [name, node] of Object.entries(run.state.nodes)) {
     if (isLost(node)) box.querySelector(`.list [data-part="node ${name}"]`)?.classList.add("lost");
   }
@@ -150,19 +132,10 @@ function showCode(figure, { state, event, before }) {
   setHtml(figure.part("runs"), canStep && spec.free && toggles.length > 1 ? `who runs: ${toggles.join("")}` : "");
 }
 
-// On a slide the code is as large as all of it has room.
-function fitCode(box) {
-  for (let size = Math.round(innerHeight / 26); box !== null && size > SMALLEST_CODE; size--) {
-    box.style.fontSize = `${size}px`;
-    if (box.scrollHeight <= box.clientHeight && box.scrollWidth <= box.clientWidth) return;
-  }
-}
-const SMALLEST_CODE = 10;
-
 const toggleOf = (thread, active) => `<button class="who ${colourOf(thread)}" data-active="${thread}" aria-pressed="${thread === active}"
   title="${letterOf(thread)} runs to another line that is pressed">${letterOf(thread)}</button>`;
 
-// In sight is the next line of the thread that has moved; where its call has ended, its last one.
+// Scrolls to the next line of the thread that moved, or to its last line if its call has returned.
 function scrollToLit(figure, moved) {
   const box = figure.part("lines");
   const line = box?.querySelector(`.lit.${colourOf(moved)}`) ?? box?.querySelector(".made") ?? box?.querySelector(".lit") ?? box?.querySelector(".line:has(del)");

@@ -11,13 +11,13 @@ const MANY = 10; // a schedule that one in so many students has is no sign of a 
 
 const stripped = (name) => name.replace(/^.*\//, "").replace(/\.[A-Za-z]+$/, "");
 
-// The name and the number of a student, as "Ada Lovelace (1234567)".
+// Splits "Ada Lovelace (1234567)" into the name and the number of a student.
 function studentOf(text, file) {
   const [, name, number] = /^(.*?)\s*(?:[([#]\s*((?=\D*\d)\w[\w-]{0,20})\s*[)\]]?)?\s*$/.exec(text ?? "") ?? [];
   return { name: name || stripped(file), number: number ?? "" };
 }
 
-// The assignment of a link, with its title and its tasks, or the sentence why it is none.
+// Returns the assignment of a link, with title and tasks, or a sentence that says why the link is none.
 export function assignmentOfLink(link) {
   const { assignment: title, ...given } = Object.fromEntries(new URLSearchParams(link.replaceAll("&amp;", "&").replace(/^[^#]*#?/, "")));
   const { tasks, unknown } = tasksOf(given);
@@ -26,7 +26,7 @@ export function assignmentOfLink(link) {
   return tasks.length === 0 ? { fault: "The assignment of this link has no task." } : { title, tasks };
 }
 
-// files: { name, text }. `assignment` as its link gives it, or null: then all that was handed in. The rows, one of a student.
+// Returns the rows of the table, one for each student. A file is { name, text }. Without an `assignment` the columns are all tasks that were handed in.
 export async function checkAll(files, assignment, tellProgress = (_at, _of) => {}) {
   const found = files.flatMap(({ name, text }) => textsIn(text).map((one) => ({ ...one, file: name })));
   const without = files.filter(({ name }) => !found.some(({ file }) => file === name));
@@ -47,7 +47,7 @@ export async function checkAll(files, assignment, tellProgress = (_at, _of) => {
   return { rows, columns, empty, common: common.map((task) => titleOf(task, courses)) };
 }
 
-// The texts of a student are those with one number and name; without a number each is a row of its own.
+// Groups the texts by number and name. A text without a number gets a row of its own.
 function takeText(students, text, courses, assignment) {
   const read = readHandIn(text);
   const who = studentOf(read.student, text.file);
@@ -55,19 +55,21 @@ function takeText(students, text, courses, assignment) {
   const own = students.get(key) ?? { ...who, files: [], solved: new Map(), wrong: new Set(), notes: [], faults: 0, copies: [] };
   students.set(key, own);
   if (!own.files.includes(text.file)) own.files.push(text.file);
-  if (assignment !== null && ![null, assignment.title].includes(read.assignment)) own.notes.push(`handed in for “${read.assignment}”`);
+  const isOther = assignment !== null && ![null, assignment.title].includes(read.assignment);
+  if (isOther) own.notes.push(`handed in for “${read.assignment}”: not counted`);
+  else if (read.solutions.length === 0) own.notes.push("handed in, no solution");
   own.notes.push(...read.faults.map(({ line, fault }) => `line ${line}: ${fault}`));
   const course = read.course === null ? courses[0] : courses.find(({ name }) => name === read.course);
   if (course === undefined) own.notes.push(`the course “${read.course}” is not among the files`);
   own.faults += read.faults.length + (course === undefined ? 1 : 0);
   const odd = { others: new Set(), answers: new Set() };
-  for (const { line } of read.solutions) judgePart(own, course?.lessons ?? [], line, assignment?.tasks ?? null, odd);
+  for (const { line } of isOther ? [] : read.solutions) judgePart(own, course?.lessons ?? [], line, assignment?.tasks ?? null, odd);
   const [others, answers] = [odd.others, odd.answers].map((some) => [...some].map((task) => titleOf(task, courses)));
   if (others.length > 0) own.notes.push(`${counted(others.length, "solution")} of tasks not asked: ${others.join("; ")}`);
   if (answers.length > 0) own.notes.push(`the very answer of the lesson: ${answers.join("; ")}`);
 }
 
-// `odd`: the solutions of what is no task of the assignment, and those that are the lesson's own.
+// `odd`: solutions of tasks that are not in the assignment, and solutions that are the lesson's own answer.
 function judgePart(own, lessons, line, tasks, odd) {
   const verdict = judgedPart(askNow, lessons, line);
   const task = (line.startsWith("judge ") ? taskOfJudged(line, tasks ?? [])?.id : undefined) ?? verdict.task;
@@ -84,7 +86,7 @@ function judgePart(own, lessons, line, tasks, odd) {
   if (verdict.ofExample) own.notes.push(`${title}: the very run of the example ${verdict.ofExample}`);
 }
 
-// The title of what was handed in: a lesson, a level, or a run that was judged.
+// Returns the title of a task: a lesson, a level, or a judged run.
 function titleOf(task, courses) {
   const [kind, name] = task.split(" ");
   if (kind === "break") return tasksOf({ break: String(numberOfLevel(name)) }).tasks[0]?.title ?? task;
@@ -106,7 +108,7 @@ function notesOnNames(row, rows) {
   return notes.filter(([some]) => some.length > 1).map(([, note]) => note);
 }
 
-// The steps of a schedule, one a line, however its text groups them.
+// Returns the steps of a schedule, one on each line, so that differently grouped texts compare equal.
 const oneByOne = (schedule) => schedule.replace(/^go (\d+) (\d+)$/gm, (_, thread, count) => Array(Number(count)).fill(`go ${thread}`).join("\n"));
 
 // Of each row with whom it shares schedules, step by step: { count, of, isTold, rows }. Schedules that many have are no sign, and named; one
@@ -132,15 +134,19 @@ function noteCopies(rows) {
   return [...new Set([...byText.keys()].filter((key) => !isRare(key)).map((key) => key.split("\n")[0]))];
 }
 
-// "3 of 3 with David Maier, Vera Peters": what is told, or with all of the others, as in the table for a spreadsheet.
+// Returns "3 of 3 with David Maier, Vera Peters". With `all`, also pairs that the page does not report (for the spreadsheet).
 export function copiesText({ copies }, all = false) {
   const nameOf = ({ name, number }) => (number === "" ? name : `${name} (${number})`);
   const groups = copies.filter(({ isTold }) => all || isTold);
   return groups.map(({ count, of, rows }) => `${count} of ${of} with ${rows.map(nameOf).join(", ")}`).join("; ");
 }
 
-// A table for a spreadsheet. A cell that a spreadsheet would compute is made a plain text.
-export function csvOf({ rows, columns }) {
+// Counts for each task the students who solved it.
+export const sumsOf = ({ rows, columns }) => columns.map(({ id }) => rows.filter(({ solved }) => solved.has(id)).length);
+
+// A table for a spreadsheet, whose cells are `parted` as its language wants: German and French ones by semicolons. A cell that a spreadsheet would
+// compute is made a plain text.
+export function csvOf({ rows, columns }, parted = ",") {
   const cell = (value) => {
     const text = String(value).replace(/^[=+\-@\t\r]/, "'$&");
     return /[",\n;]/.test(text) ? `"${text.replaceAll('"', '""')}"` : text;
@@ -150,5 +156,5 @@ export function csvOf({ rows, columns }) {
     const marks = columns.map((column) => ({ solved: 1, wrong: 0, none: "" })[markOf(row, column)]);
     return [row.name, row.number, ...marks, countOf(row, columns), columns.length, copiesText(row, true), row.notes.join(" | "), row.files.join(" ")];
   };
-  return `\ufeff${[head, ...rows.map(line)].map((cells) => cells.map(cell).join(",")).join("\r\n")}\r\n`;
+  return `\ufeff${[head, ...rows.map(line)].map((cells) => cells.map(cell).join(parted)).join("\r\n")}\r\n`;
 }

@@ -1,9 +1,9 @@
-// For teachers: the files of a class are dropped, and checked here; a table of students and tasks, and the same as CSV.
+// Checks the hand-ins of a class: files are dropped here, and shown as a table of students and tasks, and as CSV.
 import { textOfBytes } from "../course/hand_in.js";
 import { saveText } from "../page/files.js";
 import { linkTo } from "../page/visit.js";
 import { counted, escaped, tag } from "../run/markup.js";
-import { assignmentOfLink, checkAll, copiesText, countOf, csvOf, markOf } from "./handins.js";
+import { assignmentOfLink, checkAll, copiesText, countOf, csvOf, markOf, sumsOf } from "./handins.js";
 import { part } from "./scene.js";
 
 const MOST_BYTES = 2_000_000; // of a file
@@ -13,15 +13,19 @@ const MARKS = { solved: '<b class="yes">✓</b>', wrong: '<b class="no" title="h
 const piece = (name) => part(`#in-${name}`);
 
 export const handInsHtml = () => `<section class="panel" id="handins"><h2>What they handed in</h2>
-  <p class="prose">Drop the files of a class: each solution is run again and judged, here in your browser. No file leaves this computer. A file may
-  hold many hand-ins, also as mail quotes them.</p>
+  <p class="prose">Drop the files of a class: each solution is run again and judged, here in your browser. No file leaves this computer. One file can
+  contain several hand-ins, also quoted in an e-mail.</p>
   <label class="wide-label">The link of the assignment, if there is one
     <input id="in-link" placeholder="${escaped(linkTo("#assignment=…"))}"></label>
   <label class="drop" id="in-drop"><input type="file" multiple id="in-files"><b>Drop files or a folder here</b>
     <span class="small">or press to choose them</span></label>
   <progress id="in-progress" hidden aria-label="files checked"></progress><p id="in-told" role="status"></p>
   <div id="in-table" class="scroll" tabindex="0" role="group" aria-label="what was handed in"></div>
-  <p class="line" id="in-save" hidden><button class="primary" data-do="csv">Save as CSV</button><button class="quiet" data-do="clear">Clear</button></p></section>`;
+  <p class="line" id="in-save" hidden><button class="primary" data-do="csv">Save as CSV</button>
+  <button data-do="csv" data-parted=";">Save with semicolons (German, French)</button>
+  <label><input type="checkbox" id="in-wrong"> only rows with a wrong solution</label><button class="quiet" data-do="clear">Clear</button></p>
+  <p class="small">In the CSV a wrong solution is 0, a missing one an empty cell. The check shows that a solution solves its task, and that two students
+  have the same schedule. It cannot show who wrote a text: use it to admit students to an exam rather than for marks.</p></section>`;
 
 async function check() {
   const turn = ++given.turn; // what was begun before and is not done yet is not shown
@@ -62,6 +66,7 @@ export function beginHandIns() {
   const drop = piece("drop");
   piece("files").onchange = ({ target }) => take([...target.files].map((file) => ({ name: file.name, file })));
   piece("link").oninput = check;
+  piece("wrong").onchange = showRows;
   drop.ondragover = (event) => {
     event.preventDefault();
     drop.classList.add("over");
@@ -74,6 +79,11 @@ export function beginHandIns() {
     take((await Promise.all(entries.map(filesOf))).flat());
   };
   check();
+}
+
+// Shows only the rows with a wrong solution or a note, if the box is ticked.
+function showRows() {
+  for (const row of piece("table").querySelectorAll("tbody tr")) row.hidden = piece("wrong").checked && row.querySelector(".no") === null;
 }
 
 function notesOf({ notes }) {
@@ -89,7 +99,7 @@ function drawRow(row, columns) {
 
 function drawResult({ rows, columns, empty, common }) {
   const full = rows.filter((row) => countOf(row, columns) === columns.length).length;
-  const odd = [["Without a hand-in", empty], ["Too long", given.tooLong], ["Same schedules: left out, as many have them", common]];
+  const odd = [["Without a hand-in", empty], ["Too long", given.tooLong], ["Identical schedules are ignored, since too many students have the same one", common]];
   const wrong = odd.filter(([, names]) => names.length > 0).map(([what, names]) => tag("span", { class: "odd" }, `${what}: ${escaped(names.join(", "))}.`));
   const merged = rows.reduce((sum, { files }) => sum + files.length - 1, 0);
   const files = `${counted(given.files.length + given.tooLong.length, "file")}: <b>${counted(rows.length, "student")}</b>`;
@@ -97,7 +107,10 @@ function drawResult({ rows, columns, empty, common }) {
   const head = (name, at) => tag("th", { scope: "col" }, tag("button", { "data-do": "sort", "data-at": at }, escaped(name)));
   const heads = ["Student", "Number", ...columns.map(({ title }) => title), "Solved", "Same schedules", "Notes"].map(head);
   const body = rows.map((row) => drawRow(row, columns)).join("");
-  piece("table").innerHTML = `<table class="class"><thead><tr>${heads.join("")}</tr></thead><tbody>${body}</tbody></table>`;
+  const sums = sumsOf({ rows, columns }).map((sum) => `<td class="mark">${sum} of ${rows.length}</td>`).join("");
+  piece("table").innerHTML = `<table class="class"><thead><tr>${heads.join("")}</tr></thead><tbody>${body}</tbody>
+    <tfoot><tr><th scope="row">solved by</th><td></td>${sums}<td></td><td></td><td></td></tr></tfoot></table>`;
+  showRows();
   piece("save").hidden = false;
 }
 
@@ -114,7 +127,7 @@ function clear() {
 }
 
 export const handInDeeds = {
-  csv: () => saveText("hand-ins.csv", csvOf(given.result), "text/csv"),
+  csv: ({ dataset }) => saveText("hand-ins.csv", csvOf(given.result, dataset.parted), "text/csv"),
   clear,
   sort({ dataset: { at } }) {
     const body = piece("table").querySelector("tbody");

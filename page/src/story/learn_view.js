@@ -1,4 +1,4 @@
-// Solve it, a lesson: after each deed what the run shows gets a tick. No answer is told unasked.
+// Solve it, one lesson. After each step the conditions that hold get a tick. The answer is shown on request only.
 import { conditionTexts } from "../course/lesson.js";
 import { setHtml } from "../page/dom.js";
 import { now } from "../page/now.js";
@@ -7,7 +7,7 @@ import { escaped, inLetters, tag } from "../run/markup.js";
 import { wayOn } from "./assignment.js";
 import { learning } from "./learning.js";
 import { linesOf, runOfText } from "./live_run.js";
-import { drawHintAndOn, FIGURE_AND_TALK, foot, head, hintAndOn, LACKS_ONE, LIST_WORDS, part, pressThread, scene, setScene, takeFreeFigure, talk } from "./scene.js";
+import { drawHintAndOn, onStage, foot, head, hintAndOn, LACKS_ONE, LIST_WORDS, part, pressThread, scene, setScene, takeFreeFigure, talk } from "./scene.js";
 
 const HINT = 1; // of `hints`, in the scene: the hint is shown; the answer is shown
 const ANSWER = 2;
@@ -24,7 +24,7 @@ function html(place) {
   const kicker = `<a href="#learn">${escaped(name)}</a> · ${at + 1} of ${lessons.length} · ${LIST_WORDS[lesson.list]}, ${numbers}`;
   const asked = `<p class="asked">${escaped(inLetters(lesson.question))}</p>`;
   const goal = '<div class="goal"><p class="kicker">A solution shows</p><div id="goal" aria-live="polite"></div></div>';
-  return `<section class="screen"><div class="two">${head(kicker, escaped(lesson.title), asked)}${goal}</div>${FIGURE_AND_TALK}</section>
+  return `${onStage(`<div class="two">${head(kicker, escaped(lesson.title), asked)}${goal}</div>`)}
     ${foot('<a class="button quiet" href="#learn">All lessons</a>', hintAndOn(wayOn(place, own)))}`;
 }
 
@@ -38,7 +38,7 @@ function begin({ id, given }) {
   const operations = ["add", "remove", "contains", ...more];
   const codeNote = lesson.lacks === null ? "" : LACKS_ONE;
   const run = { ...runOfText(lesson.begun), version: versionOf(lesson.begun), lacks: lesson.lacks };
-  const figure = takeFreeFigure(lesson.list, { ...run, scrub: true, high: 0.3, operations, codeNote });
+  const figure = takeFreeFigure(lesson.list, { ...run, scrub: true, operations, codeNote, asksCall: true });
   Object.assign(figure, { onStep: looked, onFork: goOnFromHere });
   if (own !== null && own !== lesson.begun && fits(own)) takeTry(figure, linesOf(own));
   looked();

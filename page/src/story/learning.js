@@ -1,4 +1,4 @@
-// Solve, what is open: the course, its lesson, the tries of that which are kept, and the verdict on a run.
+// The state of Solve: the open course, its lesson, the stored attempts, and the verdict on a run.
 import { BOOK, BOOK_NAME } from "../../made/book.js";
 import { courseAddress } from "../course/course_text.js";
 import { judged, triedCourse } from "../course/lesson.js";
@@ -7,7 +7,7 @@ import { askNow } from "../page/now.js";
 import { visit } from "../page/visit.js";
 import { eventsAsked } from "../run/schedule_text.js";
 import { bookCourse } from "./assignment.js";
-import { KeptLessons } from "./kept.js";
+import { KeptLessons } from "./progress.js";
 import { linesOf } from "./live_run.js";
 
 class Learning {
@@ -18,7 +18,7 @@ class Learning {
     this.takeCourse(course.faults.length === 0 ? course : bookCourse());
   }
 
-  // Takes a course without faults. Its link is packed meanwhile.
+  // Opens a course without errors, and packs its link in the background.
   takeCourse(course) {
     this.course = course;
     this.kept.course = course.name;
@@ -31,7 +31,7 @@ class Learning {
     courseAddress(course.text).then(take, () => null);
   }
 
-  // The lesson of this name: of the course that is open, else of the book, else of a course that is kept, which is opened.
+  // Returns the lesson of this name: from the open course, else from the book, else from a stored course, which is then opened.
   lessonNamed(name) {
     const find = ({ lessons }) => lessons.find((lesson) => lesson.name === name);
     if (find(this.course) !== undefined) return find(this.course);
@@ -67,7 +67,7 @@ class Learning {
     works.set(this.workName, { text, box: text, count: eventsAsked(text), lacks: this.lesson.lacks, task });
   }
 
-  // What is said of a try. A solution is kept, unless it is the answer that the reader has looked at.
+  // Judges an attempt. Stores a solution, unless it is the answer that the reader has looked at.
   judge(text) {
     const { lesson, own } = this;
     const { name, solution } = lesson;
@@ -84,7 +84,7 @@ class Learning {
   }
 }
 
-// It is made when it is asked for first: its lessons are tried then, which takes the engine a while.
+// Created on first use, since checking its lessons takes the engine a while.
 export const learning = {
   get panel() {
     return (made.panel ??= new Learning());

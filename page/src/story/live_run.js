@@ -1,4 +1,4 @@
-// A run that is made while it is watched. No step is computed here: how far a thread goes is read off the engine's own trace.
+// A run that the reader builds step by step. The engine computes each step; this module reads the engine's trace.
 import { askNow } from "../page/now.js";
 import { askList, verdictOnLacking } from "../run/broken.js";
 import { openingIn, scheduleOfDraft, scheduleOfTrace, scheduleText } from "../run/schedule_text.js";
@@ -32,7 +32,7 @@ export class ShownRun {
     return this.state.threads[thread].pc === 0;
   }
 
-  // The keys that the answers promise, and those that a walk over the list finds.
+  // The keys in the set according to the replies, and the keys that a walk over the list finds.
   promised() {
     return promisedKeys(this.trace);
   }
@@ -75,6 +75,7 @@ export class LiveRun extends ShownRun {
 
   take(lines) {
     this.lines = [...lines];
+    this.nexts = {}; // what was asked of these lines
     this.trace = this.traceOf(this.lines);
     this.state = new State(this.trace);
     this.moveTo(this.trace.total);
@@ -96,6 +97,11 @@ export class LiveRun extends ShownRun {
   // What a thread would do next, up to where something else begins: the number of its steps, its phase, and for whom it waits. That
   // it waits it knows once it has tried.
   nextOf(thread, call = null) {
+    const asked = [thread, this.state.threads[thread].pc, call].join();
+    return (this.nexts[asked] ??= this.newNextOf(thread, call));
+  }
+
+  newNextOf(thread, call) {
     const isBegin = this.isIdle(thread);
     const lines = isBegin ? [...this.lines, `begin ${thread} ${call.join(" ")}`] : this.lines;
     const trace = this.traceOf([...lines, `go ${thread} ${MOST_STEPS}`]);
@@ -128,7 +134,7 @@ export class LiveRun extends ShownRun {
     return { steps, phase: phase === "unlock" && last?.answer === undefined ? "restart" : phase, waits: false, last };
   }
 
-  // The moment at which the bit ends that is made after this one.
+  // Returns the event at which the next press, made after event `count`, ends.
   endOfBit(count) {
     this.moveTo(count);
     const { thread, deed, changes } = this.trace.event(count + 1);
@@ -136,7 +142,7 @@ export class LiveRun extends ShownRun {
     return begun + this.chunk(this.trace, begun, row).steps;
   }
 
-  // How many steps lead a thread to where this is so, end its call, or lead to a lock for which it waits.
+  // Returns how many steps a thread makes until `isThere` holds, its call returns, or it waits for a lock.
   stepsUntil(thread, isThere) {
     const { total } = this.trace;
     const trace = this.traceOf([...this.lines, `go ${thread} ${MOST_STEPS}`]);
@@ -166,4 +172,32 @@ export class LiveRun extends ShownRun {
   isBroken() {
     return this.spec.lacks !== null && this.verdict().kind === "broken";
   }
+}
+
+// Returns the state of a run as text. Runs with equal texts continue alike.
+function placeOf({ state: { nodes, lock, threads }, trace }) {
+  return JSON.stringify([nodes, lock, threads.map(({ call, ...own }) => own), trace.calls.map(({ reply }) => reply)]);
+}
+
+/**
+ * The fewest presses that lead on from the lines of a run to a broken one, as threads, or null if none do. `calls` are those of each thread.
+ * @param {RunSpec} spec @param {string[]} lines @param {Record<number, any[]>} calls @returns {number[] | null}
+ */
+export function waysOn(spec, lines, calls) {
+  const seen = new Set();
+  const waiting = [{ lines, way: [] }];
+  for (const { lines: begun, way } of waiting) {
+    const run = new LiveRun({ ...spec, lines: begun });
+    if (seen.has(placeOf(run))) continue; // as after a press that changes nothing, of a thread that waits
+    seen.add(placeOf(run));
+    const left = (thread) => calls[thread].slice(run.trace.calls.filter((call) => call.thread === thread).length);
+    const able = Object.keys(calls).map(Number).filter((thread) => !run.isIdle(thread) || left(thread).length > 0);
+    if (able.length === 0 && run.isBroken()) return way;
+    for (const thread of able) {
+      const [call] = left(thread);
+      const { isBegin, steps } = run.nextOf(thread, call);
+      waiting.push({ lines: [...begun, ...(isBegin ? [`begin ${thread} ${call.join(" ")}`] : []), `go ${thread} ${steps}`], way: [...way, thread] });
+    }
+  }
+  return null;
 }

@@ -1,39 +1,61 @@
-// The path: one screen at a time, with Continue. A screen is done by a deed or by a guess; "Show me" makes the next deed of one way.
+// The path, one screen at a time. A screen is done by a task or a guess. "Show me" makes the next press of one solution.
+import { byId } from "../page/dom.js";
 import { isLecture, now } from "../page/now.js";
 import { Figure } from "./figure.js";
-import { keepStory, keptStory, startAfresh } from "./kept.js";
+import { keepStory, keptStory, startAfresh } from "./progress.js";
+import { waysOn } from "./live_run.js";
 import { SCREENS } from "./path.js";
 import { barHtml, dots, drawBar, endHtml, GONE, HERO, LAST, openContents, talkOf, welcome } from "./path_parts.js";
-import { FIGURE_AND_TALK, head, numberOfKey, openScene, part, pressThread, scene, setScene, takeFigure, talk, threadOfKey } from "./scene.js";
+import { head, numberOfKey, onStage, openScene, part, pressThread, scene, setScene, takeFigure, talk, threadOfKey } from "./scene.js";
 import { toSlide } from "./slide.js";
 
-const numberOf = ({ id }) => Math.max(1, Math.min(LAST, Number(id) || 1));
-const screenOf = (place) => SCREENS[numberOf(place) - 1] ?? null;
+// The address names a screen and its part: #story=4 is the first part of screen 4, #story=4.2 the next.
+const placeIn = ({ id }) => {
+  const [number, part = "1"] = id.split(".");
+  return { number: Math.max(1, Math.min(LAST, Number(number) || 1)), part: Number(part) };
+};
+const partsOf = (number) => {
+  const screen = SCREENS[number - 1];
+  return screen === undefined ? [null] : [screen, ...(screen.parts ?? []).map((one) => ({ id: screen.id, ...one }))];
+};
+const screenOf = (place) => {
+  const { number, part } = placeIn(place);
+  return partsOf(number)[part - 1];
+};
 const here = () => screenOf(now.place);
-const shown = { count: 0 }; // how many deeds of the way were shown
-const goTo = (number) => (location.hash = `#story=${number}`);
-const goBy = (by) => (now.place.slide > 0 ? toSlide(by) : goTo(numberOf(now.place) + by));
+const isLastPart = ({ number, part }) => part === partsOf(number).length;
+
+function nextOf({ number, part }, by) {
+  if (by > 0) return isLastPart({ number, part }) ? `${number + 1}` : `${number}.${part + 1}`;
+  if (part > 1) return part === 2 ? `${number}` : `${number}.${part - 1}`;
+  return partsOf(number - 1).length > 1 ? `${number - 1}.${partsOf(number - 1).length}` : `${number - 1}`;
+}
+
+function goBy(by) {
+  const at = placeIn(now.place);
+  if (now.place.slide > 0) return toSlide(by); // a slide has the first part alone
+  location.hash = `#story=${nextOf(at, by)}`;
+}
 
 function html(place) {
-  const number = numberOf(place);
+  const { number, part } = placeIn(place);
   const { done } = keptStory();
   const screen = screenOf(place);
   const path = dots(number, done) + (place.given.gone === "yes" ? GONE : place.given.back === "yes" ? welcome(done) : "");
   if (screen === null) return path + endHtml(done);
   const question = head("", screen.question, `<p class="prose">${screen.prose}</p>`);
-  const top = number === 1 ? `<div class="two">${HERO}${question}</div>` : question;
-  return `${path}<section class="screen${number === 1 ? " first" : ""}">${top}${FIGURE_AND_TALK}</section>${barHtml(number)}`;
+  const isFirst = number === 1;
+  return path + onStage(isFirst ? `<div class="two">${HERO}${question}</div>` : question, isFirst ? "first" : "") + barHtml(number, part);
 }
 
 function begin(place) {
-  keepStory({ at: numberOf(place) });
+  keepStory({ at: placeIn(place).number });
   const screen = screenOf(place);
-  shown.count = 0;
   if (screen === null) return;
+  const isGuess = screen.ask !== undefined;
   const figure = takeFigure(new Figure(part("#figure"), { ...screen.figure, isPath: true }));
   figure.onStep = looked;
   figure.box.classList.toggle("hides-points", screen.figure.hidesPoints === true);
-  const isGuess = screen.ask !== undefined;
   setScene({ stage: isGuess ? "guess" : "task" });
   if (isGuess) figure.set({ isOpen: false, isGuess: true, told: screen.figure.told ?? null });
 }
@@ -42,7 +64,8 @@ function draw(state) {
   const screen = here();
   if (screen === null || state.stage === "") return;
   if (state.stage !== "done" || part(".reveal") === null) talk(talkOf(screen, state, scene.figure)); // the reader may go on after it
-  drawBar(state.stage, numberOf(now.place));
+  drawBar(state.stage, placeIn(now.place).number, screen.onWords);
+  byId("scene").dataset.stage = state.stage;
 }
 
 function looked() {
@@ -70,16 +93,18 @@ async function guessed(index) {
   return playOn();
 }
 
-// The play of a screen, bit by bit: [thread] is one, [thread, "out"] are all of its call. On a slide each waits for a press.
+// Plays a screen after the guess. [thread] is one press, [thread, "out"] all presses until its call returns. A slide waits for a key before each.
 async function playOn() {
   const { figure } = scene;
   const { play, then } = here();
-  const [thread, many] = play[shown.count];
+  const { at } = now.scene;
+  const [thread, many] = play[at];
   await figure.step(thread);
   if (!isLecture()) await figure.rest();
   if (scene.figure !== figure) return;
-  if (many !== "out" || figure.run.isIdle(thread)) shown.count++;
-  if (shown.count < play.length) return isLecture() || playOn();
+  const next = many !== "out" || figure.run.isIdle(thread) ? at + 1 : at;
+  setScene({ at: next });
+  if (next < play.length) return isLecture() || playOn();
   figure.set({ isPlayed: false });
   if (then === undefined) return done();
   setScene({ stage: "moment" });
@@ -100,57 +125,43 @@ function pressedMoment(contents, index) {
 function done() {
   const { figure } = scene;
   if (here().ledger) figure.set({ isLost: true });
-  keepStory({ done: { ...keptStory().done, [here().id]: true } });
+  if (isLastPart(placeIn(now.place))) keepStory({ done: { ...keptStory().done, [here().id]: true } });
   setScene({ stage: "done" });
   focusOn();
 }
 
-// The next key goes on, where no other button has the focus.
+// Focuses Continue, unless another button has the focus.
 function focusOn() {
   if (!isLecture() && document.activeElement.closest("button, a, input, [tabindex='0']") === null) part("#go-on").focus({ preventScroll: true });
 }
 
-const isOver = (thread) => scene.figure.run.isIdle(thread) && scene.figure.left(thread).length === 0;
-const nextWhy = () => [1, 0].find((thread) => !isOver(thread));
-
-// A list without the check, in place of the reader's own: the button makes the steps that show why it is there, B's before A's.
-function showWhy(button) {
-  const { figure, without } = here();
-  if (scene.figure.spec.lacks === without.lacks) return scene.figure.step(nextWhy());
-  const own = takeFigure(new Figure(part("#figure"), { ...figure, ...without, isPath: true }));
-  part(".reveal p.small").hidden = true;
-  button.textContent = "Next step";
-  own.onStep = () => {
-    button.hidden = nextWhy() === undefined;
-    if (button.hidden) part("#go-on").focus({ preventScroll: true });
-    own.set({ isLost: own.run.isBroken() });
-  };
+// Returns the presses that complete the task from here: found by a search if the task can fail, else those of its help.
+function nextPress(figure, { help, ledger }) {
+  if (ledger) return waysOn(figure.spec, figure.run.lines, figure.spec.calls)?.[0];
+  const isOver = (thread) => figure.run.isIdle(thread) && figure.left(thread).length === 0;
+  return [...help.slice(figure.past.length).map(([thread]) => thread), ...figure.shown].find((thread) => !isOver(thread));
 }
 
 async function showMe() {
   const { figure } = scene;
-  const screen = here();
   const { stage } = now.scene;
   if (figure.isBusy) figure.isHurried = true;
   else if (stage === "guess") return guessed(-1);
   else if (stage === "playing" && isLecture()) return playOn();
   else if (stage === "moment") pressedMoment("{}", 1);
-  else if (stage === "again") {
-    shown.count = 0;
-    figure.again();
-  } else if (stage === "task") {
-    const way = [...screen.help.slice(shown.count), ...figure.shown.map((thread) => [thread])];
-    const next = way.find(([thread]) => !isOver(thread));
-    shown.count++;
-    if (next !== undefined) return figure.step(next[0]);
+  else if (stage === "again") figure.again();
+  else if (stage === "task") {
+    const next = nextPress(figure, here());
+    if (next !== undefined) return figure.step(next);
+    setScene({ stage: "again", note: "From here nothing can go wrong any more. Start over." });
   }
 }
 
 function press(event) {
-  const number = numberOf(now.place);
+  const { number, part: at } = placeIn(now.place);
   const { stage } = now.scene;
-  if (event.key === "ArrowLeft" && number > 1) return goTo(number - 1);
-  if (["ArrowRight", "PageDown"].includes(event.key) && number < LAST) return stage === "done" && goTo(number + 1);
+  if (event.key === "ArrowLeft" && (number > 1 || at > 1)) return goBy(-1);
+  if (["ArrowRight", "PageDown"].includes(event.key) && number < LAST) return stage === "done" && goBy(1);
   if (stage === "guess" && numberOfKey(event) !== -1 && numberOfKey(event) < here().options.length) guessed(numberOfKey(event));
   else {
     if (isLecture() && stage === "guess" && here().playTask !== undefined && threadOfKey(event) !== -1) guessed(-1);
@@ -164,7 +175,7 @@ async function goes(by) {
   return true;
 }
 
-// Takes back the last press of a task, or the answer to a question; false at the start.
+// Undoes the last press of a task, or the answer to a question. Returns false at the start.
 function takeBack() {
   const { figure } = scene;
   const { stage } = now.scene;
@@ -172,17 +183,22 @@ function takeBack() {
   if (figure === null || (figure.past.length === 0 && (ask === undefined || stage === "guess"))) return false;
   if (play !== undefined || figure.past.length === 0) openScene(now.place);
   else {
-    shown.count = Math.max(0, shown.count - 1);
     if (stage === "done") setScene({ stage: "task" });
     figure.undo();
   }
   return true;
 }
 
+const isPlace = ({ id }) => {
+  if (!/^(\d+(\.\d)?)?$/.test(id) || Number(id.split(".")[0]) > LAST) return false;
+  const { number, part } = placeIn({ id });
+  return part >= 1 && part <= partsOf(number).length;
+};
+
 export const pathView = {
   kind: "path",
-  fault: ({ id }) => (/^\d*$/.test(id) && Number(id) <= LAST ? null : `the path has no screen "${id}"`),
+  fault: (place) => (isPlace(place) ? null : `the path has no screen "${place.id}"`),
   title: (place) => `${screenOf(place)?.question ?? "So, why not just one lock?"} · Why not just one lock?`,
   html, begin, draw, press, goes,
-  deeds: { answer: ({ dataset }) => guessed(Number(dataset.option)), show: showMe, why: showWhy, on: () => goBy(1), back: () => goBy(-1), afresh: startAfresh },
+  deeds: { answer: ({ dataset }) => guessed(Number(dataset.option)), show: showMe, on: () => goBy(1), back: () => goBy(-1), afresh: startAfresh },
 };

@@ -1,4 +1,4 @@
-// A slide of the lecture: a presenter's keys go on and back in it, and from its end to the next one. No key is lost while a step is shown.
+// A slide of the lecture. A presenter's keys move within the slide, and from its end to the next slide. Keys pressed during a step are kept.
 import { LECTURE, slideAddress } from "../data/lecture.js";
 import { isLecture, now } from "../page/now.js";
 import { goByHand } from "../page/play.js";
@@ -7,7 +7,7 @@ import { scene } from "./scene.js";
 const queue = { last: Promise.resolve(), waiting: 0 };
 const hurry = () => scene.figure?.isBusy && (scene.figure.isHurried = true);
 
-// What a key does comes after what the keys before it do, whose steps are shown at once then.
+// Runs the keys one after the other. Steps of earlier keys are then shown without delay.
 function inTurn(deed) {
   queue.waiting++;
   hurry();
@@ -22,7 +22,7 @@ function inTurn(deed) {
 
 export const pressInScene = (event) => (isLecture() ? inTurn(() => scene.view?.press?.(event)) : scene.view?.press?.(event));
 
-// The slide after this one or before it, once it is there; false where there is none.
+// Opens the next or the previous slide. Returns false if there is none.
 export function toSlide(by) {
   const number = now.place.slide + by;
   if (now.place.slide === 0 || LECTURE[number - 1] === undefined) return false;

@@ -1,4 +1,4 @@
-// What belongs together in one press of a thread's button, by the rows of the tables; and what the button says.
+// Groups the rows of the tables into the presses of a thread's button, and names each press.
 import { callText, chipOf, keyText } from "../run/markup.js";
 import { isLock, ownerIn } from "../run/outcomes.js";
 
@@ -25,36 +25,36 @@ const PHASES = {
 };
 
 export const phaseAt = (list, row, plain) => PHASES[plain ? "plain" : list][row] ?? "answer";
-// Rows that belong to what comes before them, whatever that is.
+// Rows that always belong to the press before them.
 export const joinedRows = (list, plain) => (plain ? [10] : list === "lock-free" || list === "lazy" ? [22, 25] : []);
 
 const WORDS = {
   walk: ({ key }) => `walk to the place of ${key}`,
   make: ({ key }) => `make a node for ${key}`,
-  link: ({ key }) => `hang ${key} in`,
-  unlink: ({ key }) => `point past ${key}`,
-  answer: () => "answer",
+  link: ({ key }) => `link ${key} in`,
+  unlink: ({ key }) => `unlink ${key}`,
+  answer: () => "return",
   lock: () => "take the lock",
-  unlock: () => "let go, and answer",
-  restart: () => "let go, and start again",
+  unlock: () => "release, and return",
+  restart: () => "release, and start again",
   first: () => "lock the head",
   next: () => "lock the next node",
-  letgo: () => "let go of pred",
+  letgo: () => "release pred",
   locks: () => "lock pred and curr",
-  again: () => "look again",
-  check: () => "look at the marks",
+  again: () => "walk again",
+  check: () => "check the marks",
   mark: ({ key }) => `mark ${key}: removed`,
-  tidy: ({ key }) => `take ${key} out`,
-  look: () => "look at the mark",
-  snip: () => "take the marked node out",
-  swing: ({ key }) => `try to hang ${key} in`,
+  tidy: ({ key }) => `unlink ${key}`,
+  look: () => "read the mark",
+  snip: () => "unlink the marked node",
+  swing: ({ key }) => `try to link ${key} in`,
   marktry: ({ key }) => `try to mark ${key}`,
-  tidytry: ({ key }) => `try to take ${key} out`,
+  tidytry: ({ key }) => `try to unlink ${key}`,
 };
 
 export const phaseText = (phase, call) => WORDS[phase](call);
 
-// ---- One short sentence about an event, for who has not read the book: nodes go by their numbers, threads by their letters.
+// ---- One short sentence about an event, for readers without the book: nodes by their keys, threads by their letters.
 const bold = (text) => `<b>${text}</b>`;
 
 const nodeName = (state, name) => {
@@ -70,7 +70,7 @@ export function taleOf(moment, { plain = false } = {}) {
   if (event === null) return "";
   const said = toldBy(moment, plain);
   const { call } = event;
-  const answer = event.answer === undefined ? "" : ` ${bold(`${callText(call)} answers ${answerText(event.answer)}.`)}`;
+  const answer = event.answer === undefined ? "" : ` ${bold(`${callText(call)} returns ${answerText(event.answer)}.`)}`;
   return `${chipOf(event.thread)} ${said}${answer}`;
 }
 
@@ -85,26 +85,26 @@ function toldBy(moment, plain) {
   const key = event.call.key;
   if (event.deed === "load" && event.word.endsWith(".key")) return keyTold(event, owner, key, phase, held);
   if (event.deed === "load") return linkTold(moment, owner, who, phase);
-  if (event.deed === "store" && event.word.endsWith(".key")) return `makes a node for ${key}. Nobody else sees it yet.`;
+  if (event.deed === "store" && event.word.endsWith(".key")) return `makes a node for ${key}. No other thread sees it yet.`;
   return writeTold(moment, owner, who);
 }
 
 function lockTold(event, who, plain, waits) {
-  if (plain) return event.deed === "store" ? "is done." : "sets out.";
+  if (plain) return event.deed === "store" ? "is done." : "starts.";
   const what = who === undefined || event.word === "list.lock" ? "the lock" : `the lock of ${who}`;
-  if (event.deed === "store") return `gives back ${what}.`;
+  if (event.deed === "store") return `releases ${what}.`;
   if (event.saw === event.from) return `takes ${what}.`;
-  return `wants ${what}, but ${chipOf(event.saw.slice(1))} has it. ${bold(waits ? "It waits." : "It goes on all the same.")}`;
+  return `wants ${what}, but ${chipOf(event.saw.slice(1))} holds it. ${bold(waits ? "It waits." : "It continues all the same.")}`;
 }
 
 function keyTold(event, owner, key, phase, held) {
   if (phase === "again") {
-    if (held.pc === 14 && held.reply === "none") return `is past the place of its pred: ${bold("pred is not in the list any more.")} It starts again.`;
+    if (held.pc === 14 && held.reply === "none") return `is past the place of its pred: ${bold("pred is no longer in the list.")} It starts again.`;
     return held.node === held.pred ? "meets its pred: it is still in the list." : "walks on: this is not its pred.";
   }
-  if (owner === "tail") return "has come to the tail: here is the place.";
+  if (owner === "tail") return "has reached the tail: here is the place.";
   const seen = Number(event.saw);
-  if (seen < key) return `reads ${bold(seen)}: too small, it goes on.`;
+  if (seen < key) return `reads ${bold(seen)}: too small, so it walks on.`;
   if (event.call.operation === "ceiling") return `reads ${bold(seen)}: big enough.`;
   if (seen === key) return `reads ${bold(seen)}: found.`;
   return `reads ${bold(seen)}: too big. The place of ${key} is just before it.`;
@@ -114,26 +114,26 @@ function linkTold(moment, owner, who, phase) {
   const { trace, state, event, held, before } = moment;
   const isMarked = event.saw.endsWith("*");
   const to = nodeName(state, bare(event.saw));
-  if (phase === "look" || (event.answer !== undefined && isMarked)) return isMarked ? `sees the mark: ${bold(`this ${who} has been removed.`)}` : `sees no mark: ${who} is in.`;
+  if (phase === "look" || (event.answer !== undefined && isMarked)) return isMarked ? `sees the mark: ${bold(`this ${who} has been removed.`)}` : `sees no mark: ${who} is in the set.`;
   if (phase === "check") {
     if (held.reply === "none" && held.pc === 13) {
-      if (owner === before.pred && isMarked) return `sees a mark on its pred: ${bold("it was removed meanwhile.")} It lets go and starts again.`;
-      return isMarked ? `sees a mark on ${who}. It lets go and starts again.` : `sees that ${who} points to ${to} now. It lets go and starts again.`;
+      if (owner === before.pred && isMarked) return `sees a mark on its pred: ${bold("it was removed meanwhile.")} It starts again.`;
+      return isMarked ? `sees a mark on ${who}. It starts again.` : `sees that ${who} points to ${to} now. It starts again.`;
     }
-    return owner === before.pred ? "sees no mark on its pred, which still points to curr." : `sees no mark on ${who}. It may write.`;
+    return owner === before.pred ? "sees no mark on its pred, which still points to curr." : `sees no mark on ${who}. It can write.`;
   }
   if (phase === "again") {
     if (owner === before.pred && before.pc === 8) {
-      if (held.pc === 14 && held.reply === "none") return `sees that ${who} points to ${to} now: ${bold("something came in between.")} It lets go and starts again.`;
+      if (held.pc === 14 && held.reply === "none") return `sees that ${who} points to ${to} now: ${bold("something was linked in between.")} It starts again.`;
       return "sees that pred still points to curr.";
     }
     return `walks from ${who} once more.`;
   }
   if (phase === "unlink" || before.pc === 8) return `reads what comes after ${who}: ${to}.`;
   if (trace.kind === "lock-free" && event.changes.curr === undefined) {
-    return isMarked ? `meets ${who}, which is marked: it will take it out on its way.` : `looks at the arrow of ${who}: no mark.`;
+    return isMarked ? `meets ${who}, which is marked: it will unlink it on its way.` : `reads the arrow of ${who}: no mark.`;
   }
-  return owner === "head" ? `sets out from the head: curr is on ${to}.` : `moves on: curr is on ${to}.`;
+  return owner === "head" ? `starts at the head: curr is at ${to}.` : `moves on: curr is at ${to}.`;
 }
 
 function writeTold(moment, owner, who) {
@@ -143,18 +143,18 @@ function writeTold(moment, owner, who) {
   const isDone = event.deed === "store" || event.saw === event.from;
   if (event.to.endsWith("*")) {
     if (isDone) return `marks ${who}: ${bold(`${key} is removed.`)}`;
-    return event.saw.endsWith("*") ? `wants to mark ${who}, but it is marked already. ${bold("It was too late")}, and looks again.` : `wants to mark ${who}, but its arrow has changed. It looks again.`;
+    return event.saw.endsWith("*") ? `wants to mark ${who}, but it is marked already. ${bold("It was too late")}, and walks again.` : `wants to mark ${who}, but its arrow has changed. It walks again.`;
   }
   if (!state.nodes[owner].reached && event.put === undefined && event.took === undefined && event.deed === "store" && owner !== before.pred) {
     return `lets its node point to ${to}.`;
   }
   if (event.put !== undefined) {
     const isIn = state.chain().includes(bare(event.to));
-    return isIn ? `lets ${who} point to ${key}: ${bold(`${key} is in.`)}` : `lets its pred point to ${key}. ${bold("But that pred is not in the list.")}`;
+    return isIn ? `lets ${who} point to ${key}: ${bold(`${key} is in the list.`)}` : `lets its pred point to ${key}. ${bold("But that pred is not in the list.")}`;
   }
   if (!isDone) {
-    const rest = event.answer !== undefined ? "That does not matter: the mark counts." : "It looks again.";
-    return `wants to change the arrow of ${who}, but it is not what it saw. ${rest}`;
+    const rest = event.answer !== undefined ? "That does not matter: the mark counts." : "It walks again.";
+    return `wants to change the arrow of ${who}, but it is no longer what it read. ${rest}`;
   }
-  return `lets ${who} point to ${to}: ${nodeName(state, before.curr)} is out of the chain.`;
+  return `lets ${who} point to ${to}: ${nodeName(state, before.curr)} is unlinked.`;
 }

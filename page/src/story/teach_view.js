@@ -1,4 +1,4 @@
-// For teachers: a lecture as links, a question for one's own pages, homework as one link, and what a class handed in.
+// The page for teachers: lecture, embedding, homework as one link, checking of hand-ins.
 import { LACKING } from "../../made/classics.js";
 import { LISTS } from "../../made/rows.js";
 import { LECTURE, slideAddress } from "../data/lecture.js";
@@ -9,7 +9,7 @@ import { linkTo } from "../page/visit.js";
 import { QUESTIONS } from "./ask.js";
 import { addressOfTasks, allLevels, bookCourse } from "./assignment.js";
 import { beginHandIns, handInDeeds, handInsHtml } from "./handins_view.js";
-import { startAfresh } from "./kept.js";
+import { startAfresh } from "./progress.js";
 import { copyText, head, part } from "./scene.js";
 
 const PANELS = { slides: "Lecture", embed: "Embed", homework: "Homework", handins: "Hand-ins", own: "Your own lessons" };
@@ -22,7 +22,8 @@ function lectureHtml() {
   const sum = LECTURE.reduce((total, [minutes]) => total + minutes, 0);
   return `<section class="panel" id="slides"><h2>A lecture of ${sum} minutes</h2>
     <p class="prose">Each slide is as large as the screen. A presenter’s keys, the arrows and Space go on and back, through all of them; A and B
-    let a thread step; Escape leads back here. Ask the class first, then step.</p><ol class="plan">${LECTURE.map(slide).join("")}</ol></section>`;
+    let a thread step; Escape leads back here. Ask the class first, then step.</p>
+    <p class="line"><a class="button" target="_blank" href="#notes">Notes and a clock, for your own screen ↗</a><a class="button" target="_blank" href="#handout">A handout to print ↗</a></p><ol class="plan">${LECTURE.map(slide).join("")}</ol></section>`;
 }
 
 const titleOf = (name) => QUESTIONS.find((item) => item.name === name).title;
@@ -64,7 +65,7 @@ goal
   say A contains of thread 0 answers false; a remove of thread 1 begins after it, and answers true while it is open.
 `;
 
-// ---- homework, put together by ticks from lessons, levels and numbered runs, as one link that has all of it
+// ---- Homework: ticked lessons, levels and numbered runs become one link.
 const FIRST_NUMBER = 17;
 const work = { seeds: [] };
 const piece = (name) => part(`#hw-${name}`);
@@ -80,11 +81,12 @@ const picks = (kind, title, items) => `<fieldset><legend>${title} <button class=
 function homeworkHtml() {
   const lessons = bookCourse().lessons.map(({ name, title, list }, at) => pick("learn", name, at + 1, title, LISTS[list].name));
   const levels = allLevels().map(({ name, number }) => pick("break", number, number, LISTS[LACKING[name]].name, BREAK_LEVELS[name].story));
-  return `<section class="panel" id="homework"><h2>Homework, as one link</h2><p class="prose">Tick tasks. The link holds all of it: it needs no server, it
-    can be bookmarked, forwarded and opened on another computer, and it stays the same for ever.</p>
-    <label class="wide-label">Title <input id="hw-title" value="Concurrent lists, week 1" maxlength="60"></label>
+  return `<section class="panel" id="homework"><h2>Homework, as one link</h2><p class="prose">Tick tasks. The link contains the whole assignment: it needs no server, it
+    can be bookmarked, forwarded and opened on another computer, and it never changes.</p>
+    <div class="line"><label class="wide-label">Title <input id="hw-title" value="Concurrent lists, week 1" maxlength="60"></label>
+    <label class="wide-label">Due (optional; students see it) <input id="hw-due" type="date"></label></div>
     <div class="columns">${picks("learn", "Solve", lessons)}${picks("break", "Break", levels)}
-    <fieldset><legend>Judge: runs by their number</legend><p class="small">All students get the same run, and say what each call answers and where it
+    <fieldset><legend>Judge: numbered runs</legend><p class="small">All students get the same run and state what each call returns and where it
       takes effect.</p><div class="line"><select id="hw-kind" aria-label="list of the run">${listOptions("lazy")}</select>
       <input id="hw-number" type="number" min="1" max="9999" value="${FIRST_NUMBER}" aria-label="number of the run">
       <button data-do="add">Add this run</button></div><ul id="hw-seeds"></ul></fieldset></div>
@@ -95,7 +97,7 @@ function homeworkHtml() {
 
 const ticked = (kind) => [...part("#homework").querySelectorAll(`[data-kind=${kind}]:checked`)].map(({ value }) => value);
 const addressNow = () =>
-  addressOfTasks(piece("title").value.trim() || "Assignment", { learn: ticked("learn"), levels: ticked("break"), seeds: work.seeds });
+  addressOfTasks(piece("title").value.trim() || "Assignment", { learn: ticked("learn"), levels: ticked("break"), seeds: work.seeds, due: piece("due").value });
 
 function fill() {
   const address = addressNow();
@@ -139,20 +141,20 @@ const homeworkDeeds = {
 };
 
 const OWN = `<section class="panel" id="own"><h2>Lessons of your own</h2>
-  <p class="prose">A course is a text: of each lesson a question, a list, the numbers in it, and what a solution shows. Write it under Solve,
-  “Courses”: it names errors by their lines, and makes a link with the whole course in it. The start of a lesson must not reach its goal. With
-  <code>lacks</code> and the name of a check below its list, a lesson is solved when that list is broken. <a class="button" href="#learn">Open Solve</a></p>
+  <p class="prose">A course is a text file. Each lesson has a question, a list, its initial keys, and the conditions that a solution meets. Write it under Solve,
+  “Courses”: it names errors by their lines, and makes a link with the whole course in it. The start of a lesson must not reach its goal. If
+  the line after the list is <code>lacks</code> and the name of a check, the lesson is solved by breaking that list. <a class="button" href="#learn">Open Solve</a></p>
   <details><summary>A course of one lesson</summary><pre class="snippet" tabindex="0">${escaped(OWN_COURSE)}</pre></details>
   <h2>A computer that others use too</h2><p class="prose">Names and solutions are kept in the browser. <button data-do="afresh">Start afresh</button>
-  takes all of them away.</p></section>`;
+  deletes all of them.</p></section>`;
 
 function html() {
   const jump = ([id, name]) => tag("button", { class: "quiet", "data-do": "jump", "data-panel": id }, name);
-  const lead = `<p class="lead">A lecture of 45 minutes, figures for your own pages, homework as one link, and hand-ins that check themselves.
+  const lead = `<p class="lead">A lecture of 45 minutes, figures for your own pages, homework as a single link, and automatic checking of what is handed in.
     No account, no server: all of it happens in the browser.</p><p class="jump">${Object.entries(PANELS).map(jump).join("")}</p>`;
   return `${head("", "For teachers", lead, "title")}${lectureHtml()}${embedHtml()}${homeworkHtml()}${handInsHtml()}${OWN}
     <footer class="foot"><span id="scene-told" class="small" role="status"></span><span class="spread"></span>
-    <button class="primary" data-do="jump" data-panel="homework">Put homework together</button></footer>`;
+    <button class="quiet" data-do="jump" data-panel="homework">Homework</button><button class="quiet" data-do="jump" data-panel="handins">Hand-ins</button></footer>`;
 }
 
 function begin() {

@@ -1,4 +1,4 @@
-"""Scenarios: what a person does in the page, and what is seen then. In each browser that is installed, by keys, clicks and touches.
+"""Scenarios: a person uses the page by keys, clicks and touches, and sees the results. They run in each installed browser.
 
     pytest page/tests/scenarios [--browser chromium] [--shots FOLDER]"""
 
@@ -19,7 +19,7 @@ SCENARIOS = {"webkit": 8}  # for which one browser is used, as WebKit's driver g
 
 
 class Quiet(http.server.SimpleHTTPRequestHandler):
-    """Gives the files of the page; slow.html is the page over a slow network, cases.json has what the program answers."""
+    """Serves the files of the page. slow.html is the page over a slow network, cases.json has the program's answers."""
 
     cases = None
 
@@ -42,7 +42,7 @@ class Quiet(http.server.SimpleHTTPRequestHandler):
 
 
 class Visitor(webdriver.Browser):
-    """A person with a browser of their own in front of the page."""
+    """A person with their own browser."""
 
     def __init__(self, name, place):
         super().__init__(name)
@@ -50,18 +50,18 @@ class Visitor(webdriver.Browser):
         self.size(1300, 900)
 
     def open(self, address="", file="index.html"):
-        """Opens an address of the page in a tab, as if it was typed."""
+        """Opens an address of the page as if it was typed."""
         self.go("about:blank")
         self.go(f"{self.place}/{file}{address}")
         self.wait("return document.body.dataset.ready === 'yes'")
 
     def inside(self, text, *given):
-        """What some words mean with the names that the page's modules export, which a script from outside does not see."""
+        """Evaluates a script in the page, with `listsets` for what its modules export."""
         words = f"JSON.stringify(((...given) => {{ {text} }})(...{json.dumps(given)}) ?? null)"
         return json.loads(self.script("return (window.wrappedJSObject ?? window).eval(arguments[0])", words))
 
     def wait(self, text, *given, seconds=SECONDS):
-        """What some words mean in the page once that is no longer nothing or false."""
+        """Waits until a script returns a true value, and returns the value."""
         end = time.monotonic() + seconds
         while not (found := self.script(text, *given)):
             assert time.monotonic() < end, f"not seen in {seconds} s: {text} {given}"
@@ -69,32 +69,32 @@ class Visitor(webdriver.Browser):
         return found
 
     def idle(self):
-        """Waits until what is played has come to its end."""
+        """Waits until no play is running."""
         self.wait("return document.body.dataset.busy !== 'yes'")
 
     def revealed(self):
-        """Waits until the answer is told, and the play is at its end."""
+        """Waits until the answer is shown and no play is running."""
         self.wait("return document.querySelector('.reveal') !== null && document.body.dataset.busy !== 'yes'")
 
     def step(self, keys):
-        """Presses the letters of threads, each once the step before is shown."""
+        """Presses the letters of threads. Waits after each until its steps are shown."""
         for key in keys:
             self.press(key)
             self.idle()
 
     def settle(self):
-        """Waits as long as the address and what is kept follow behind."""
+        """Waits until the address and the stored state are up to date."""
         time.sleep(0.6)
 
     def text(self, what):
         return self.script("return document.querySelector(arguments[0])?.innerText ?? ''", what)
 
     def is_seen(self, what):
-        """Whether a part has room on the page."""
+        """Whether a part has a box on the page."""
         return self.script("return [...document.querySelectorAll(arguments[0])].some((it) => it.getClientRects().length > 0)", what)
 
     def in_window(self, what):
-        """Whether a part is in the window, or comes there in a moment, and nothing lies over it."""
+        """Whether a part is in the window within two seconds, and not covered."""
         return any(self.is_in_window(what) or time.sleep(0.1) for _ in range(20))
 
     def is_in_window(self, what):
@@ -110,7 +110,7 @@ class Visitor(webdriver.Browser):
             const box = it.getBoundingClientRect(); return [box.left + box.width / 2, box.top + box.height / 2]""", what, words)
 
     def unfold(self, what):
-        """Opens what is folded, where it is."""
+        """Opens a fold, unless it is open."""
         if not self.script("return document.querySelector(arguments[0]).open", what):
             self.click(f"{what} > summary")
 
@@ -121,7 +121,7 @@ class Visitor(webdriver.Browser):
         self.point(*self.middle(what, words), "touch")
 
     def choose(self, what, value):
-        """Picks an option: the browser's own list is not driven, only what it tells the page."""
+        """Chooses an option. Sends the page the event; the browser's own list is not opened."""
         self.script("""const it = document.querySelector(arguments[0]); it.focus(); it.value = arguments[1];
             it.dispatchEvent(new Event("change", { bubbles: true }))""", what, value)
 
@@ -130,7 +130,7 @@ class Visitor(webdriver.Browser):
             it.dispatchEvent(new Event("input", { bubbles: true }))""", what, text)
 
     def focus(self):
-        """What has the focus: its name and its id or words."""
+        """Returns the focused element: its tag, and its id or text."""
         return self.script("const it = document.activeElement; return `${it.tagName} ${it.id || it.innerText.trim()}`")
 
     def event(self):
@@ -166,7 +166,7 @@ def place(request):
 
 
 class Turns:
-    """Browsers of one kind, one after the other: each for some scenarios, and a new one in place of one that has died."""
+    """Browsers of one kind, one after the other. Each serves some scenarios. A dead one is replaced."""
 
     def __init__(self, name, place):
         self.name, self.place, self.one, self.left = name, place, None, 0
@@ -194,7 +194,7 @@ def turns(browser, place):
 
 @pytest.fixture
 def visitor(turns, place, request):
-    """A person who has not been here before."""
+    """A first-time visitor."""
     one = turns.next()
     one.size(1300, 900)
     one.go(f"{place}/tests/nothing.html")
@@ -209,6 +209,6 @@ def visitor(turns, place, request):
 
 @pytest.fixture
 def another(browser, place, turns):
-    """A second person, with a profile of their own."""
+    """A second person with their own profile."""
     with Visitor(browser, place) as one:
         yield one

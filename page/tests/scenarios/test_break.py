@@ -53,7 +53,7 @@ def test_a_won_level_can_be_explored_on(visitor):
     won(visitor)
     visitor.press("a")
     visitor.idle()
-    assert "answers true" in visitor.text(".tale")
+    assert "returns true" in visitor.text(".tale")
     visitor.settle()
     assert visitor.hash.startswith("#break=1&list=coarse")
     where = visitor.hash
@@ -94,12 +94,27 @@ def test_each_level_is_broken_by_the_schedule_of_the_examples(visitor):
 
 def test_a_self_loop_does_not_cross_its_key(visitor):
     visitor.open("#example=marked-in-chain&event=20")
-    corners = visitor.inside("""const { now, drawList, arranged, shapeFor } = listsets;
+    points = visitor.inside("""const { now, drawStage } = listsets;
         const name = now.run.state.chain()[1];
         now.run.state.nodes[name].link = name;
-        document.getElementById("order").innerHTML = drawList(now.run.state, null, arranged(now.run.state, null, shapeFor(900)));
-        return document.querySelector(`#order [data-part="link ${name}"] path`).getAttribute("d").split(" L").length""")
-    assert corners > 3
+        document.getElementById("order").innerHTML = drawStage(now.run.state, null, { wide: 900, high: 300, slots: 4, lock: "nodes", hides: [] });
+        const node = document.querySelector(`#order [data-part="node ${name}"]`);
+        const path = document.querySelector(`#order [data-part="link ${name}"] path`).getAttribute("d").match(/[\\d.]+/g).map(Number);
+        return path.filter((_, at) => at % 2 === 1).slice(1).map((y) => y - Number(node.dataset.y))""")
+    assert all(y < 0 for y in points)  # it goes around above the node
+
+
+def test_a_run_that_ends_rightly_is_told(visitor):
+    visitor.open("#break=2")
+    visitor.step("aaabbbababab")
+    assert "not broken this time" in visitor.text("#talk") and visitor.is_seen("[data-again]")
+
+
+def test_a_level_has_one_number(visitor):
+    visitor.open("#break")
+    assert visitor.text(".card[href='#break=7'] i").startswith("level 7 ")
+    visitor.open("#break=7")
+    assert visitor.is_seen("#figure") and "level 7" in visitor.script("return document.querySelector('.kicker').textContent")
 
 
 def test_a_key_begins_no_second_call(visitor):

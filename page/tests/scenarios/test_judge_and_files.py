@@ -16,13 +16,41 @@ def test_points_by_keys_keep_the_focus(visitor):
 
 
 def test_recorded_calls_are_judged(visitor):
-    visitor.open("#judge")
-    visitor.click("#recorded-box summary")
+    visitor.open("#read")
+    visitor.click("nav a[href='#judge']")
+    visitor.wait("return document.getElementById('recorded-text') !== null")
     visitor.click("#recorded-example")
     visitor.wait("return document.getElementById('recorded-verdict').innerText.startsWith('Not linearizable')")
     visitor.type("#recorded-text", "listset-calls 1\ncall 0 add 05 1 4 true\nend\n")
     visitor.click("#recorded-judge")
     visitor.wait("return document.getElementById('recorded-verdict').innerText.startsWith('listset: line 2')")
+
+
+def test_what_a_recording_says_of_its_end_is_told(visitor):
+    visitor.size(1366, 760)
+    visitor.open("#judge")
+    visitor.type("#recorded-text", "listset-calls 1\ncall 0 add 5 1 4 true\nend\n")
+    visitor.click("#recorded-judge")
+    visitor.wait("return document.getElementById('recorded-verdict').innerText.startsWith('Not linearizable')")
+    assert "no line key" in visitor.text("#recorded-reasons") and "A is thread 0" in visitor.text("#recorded-reasons")
+    assert visitor.in_window("#recorded-verdict") and visitor.in_window("#recorded-judge")
+    visitor.type("#recorded-text", "listset-calls 1\nend\n")
+    visitor.click("#recorded-judge")
+    visitor.wait("return document.getElementById('recorded-verdict').innerText.includes('no call')")
+    assert visitor.script("return document.getElementById('recorded-verdict').className") == "fault"
+
+
+def test_a_refusal_has_its_headline_its_picture_and_its_threads(visitor):
+    visitor.size(1366, 900)
+    visitor.open("#judge")
+    calls = ["0 add 7 1 6 true", "1 contains 3 2 5 true", "0 remove 3 8 14 true", "1 contains 7 9 12 false", "2 add 5 10 15 true"]
+    visitor.type("#recorded-text", "\n".join(["listset-calls 1", "opening 3", *[f"call {it}" for it in calls], "key 5", "key 7", "end\n"]))
+    visitor.click("#recorded-judge")
+    visitor.wait("return document.querySelector('#recorded-reasons b') !== null")
+    assert visitor.text("#recorded-reasons b") == "contains(7) returned false, expected true"
+    reasons = visitor.text("#recorded-reasons")
+    assert "expected true" in reasons and "A is thread 0, B is thread 1, C is thread 2 of the recording" in reasons
+    assert visitor.script("return document.querySelectorAll('#recorded-picture .bar').length") == 2
 
 
 def opened(visitor, name, text):

@@ -74,6 +74,13 @@ def test_three_threads_and_the_goal_are_in_sight(visitor):
     assert all(visitor.is_in_window(it) for it in ("#goal", "[data-thread='0']", "[data-thread='1']", "[data-thread='2']"))
 
 
+def test_a_key_asks_which_call(visitor):
+    visitor.open("#learn=marked-in-chain")
+    visitor.press("a")
+    assert "Which call" in visitor.text(".tale") and visitor.script("return document.activeElement.dataset.call") == "0"
+    assert not visitor.is_seen("[data-step='0']")
+
+
 def test_the_last_try_is_there_again(visitor):
     visitor.open("#learn=one-lock")
     visitor.step("ab")

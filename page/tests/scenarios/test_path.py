@@ -11,11 +11,11 @@ def guess(visitor, key):
 def test_a_first_visit_opens_the_path(visitor):
     visitor.open()
     assert visitor.hash in ("", "#story=1") and "Why not just one lock?" in visitor.text("#scene .hero")
-    assert visitor.text("h1") == "How does a thread put 5 into a sorted list?" and visitor.in_window("[data-step]")
-    assert visitor.title.startswith("How does a thread put 5")
+    assert visitor.text("h1") == "How does a thread add 5 to a sorted list?" and visitor.in_window("[data-step]")
+    assert visitor.title.startswith("How does a thread add 5")
 
 
-@pytest.mark.parametrize("number", range(1, 10))
+@pytest.mark.parametrize("number", ["1", "2", "3", "4", "4.2", "4.3", "5", "6", "7", "7.2", "8", "9", "9.2"])
 def test_who_presses_show_me_gets_through(visitor, number):
     visitor.open(f"#story={number}")
     for _ in range(60):
@@ -25,9 +25,9 @@ def test_who_presses_show_me_gets_through(visitor, number):
         visitor.click("#show-me")
         visitor.idle()
     visitor.revealed()
-    assert len(visitor.text(".why")) > 60 and visitor.text("#go-on").startswith(("Continue", "And now?"))
+    assert len(visitor.text(".why")) > 60 and visitor.text("#go-on").endswith("→") and visitor.text("#go-on") != "Skip →"
     assert visitor.script("return scrollY") == 0 and visitor.in_window(".reveal")
-    assert visitor.script("const it = document.querySelector('.lines'); return it === null || it.scrollHeight <= it.clientHeight")
+    assert visitor.script("const it = document.querySelector('.lines'); return it === null || it.closest('details').open === false || it.scrollHeight <= it.clientHeight")
 
 
 @pytest.mark.parametrize(("keys", "lost"), [("abbbaa", 6), ("baaabb", 5), ("abaabb", 5), ("aabbba", 6)])
@@ -67,6 +67,7 @@ def test_buttons_stay_where_they_are(visitor):
 
 
 def test_who_waits_has_a_pale_button(visitor):
+    visitor.size(1300, 1000)
     visitor.open("#story=3")
     guess(visitor, "3")
     assert visitor.text("[data-step='1']").startswith("waits for A") and visitor.script("return document.querySelector('[data-step=\"1\"]').ariaDisabled") == "true"
@@ -78,18 +79,53 @@ def test_who_waits_has_a_pale_button(visitor):
 def test_why_two_locks(visitor):
     visitor.open("#story=4")
     guess(visitor, "2")
-    for _ in range(20):
-        if not visitor.is_seen("[data-do=why]"):
-            break
-        visitor.click("[data-do=why]")
-        visitor.idle()
-        assert visitor.is_seen("[data-thread='1']") and visitor.is_seen(".steps del")
-    assert visitor.is_seen(".list .lost") and visitor.is_seen(".reveal")
+    visitor.click("#go-on")
+    visitor.wait("return location.hash === '#story=4.2'")
+    visitor.step("bbbaaaabbb")
+    visitor.revealed()
+    assert visitor.text(".why b") == "The remove of 8 is lost: B’s call returned true, and 8 is still in the list."
+    assert visitor.text(".ledger .odd") == "8" and visitor.is_seen(".list .lost")
     visitor.click("[data-undo]")
-    assert visitor.is_seen("[data-do=why]") and not visitor.is_seen(".list .lost")
-    visitor.click("[data-step='0']")
-    visitor.idle()
-    assert visitor.is_seen(".list .lost") and not visitor.is_seen("[data-do=why]")
+    assert not visitor.is_seen(".reveal") and not visitor.is_seen(".list .lost")
+    visitor.step("b")
+    visitor.revealed()
+    visitor.click("#go-on")
+    visitor.wait("return location.hash === '#story=4.3'")
+    visitor.step("bbbaaaabbbb")
+    visitor.revealed()
+    assert visitor.text(".why b").startswith("8 is lost") and visitor.is_seen(".ledger .gap")
+    visitor.click("#go-on")
+    visitor.wait("return location.hash === '#story=5'")
+    visitor.press("Left")
+    visitor.wait("return location.hash === '#story=4.3'")
+
+
+def test_show_a_step_leads_on_from_where_the_reader_is(visitor):
+    for address, keys in (("#story=2", "a"), ("#story=5", "ab"), ("#story=4.2", "bb")):
+        visitor.open(address)
+        visitor.step(keys)
+        for _ in range(20):
+            if visitor.is_seen(".reveal"):
+                break
+            visitor.click("#show-me")
+            visitor.idle()
+        assert "lost" in visitor.text(".why b") or "no longer in the list" in visitor.text(".why b"), address
+    visitor.open("#story=5")
+    visitor.step("aabb")  # A holds its locks before B has removed anything: nothing can be lost any more
+    visitor.click("#show-me")
+    assert "Start over" in visitor.text("#talk") and visitor.text("#show-me") == "Start over"
+    visitor.click("#show-me")
+    assert not visitor.is_seen("[data-undo]") and visitor.text("#show-me") == "Show a step"
+
+
+def test_a_mark_warns_an_add_and_a_thread_helps(visitor):
+    for address, told, word in (("#story=7.2", "sees a mark on its pred", "the mark warned A"), ("#story=9.2", "5 is unlinked", "Neither.")):
+        visitor.open(address)
+        seen = ""
+        while not visitor.is_seen(".reveal"):
+            visitor.step("a")
+            seen += visitor.text(".tale")
+        assert told in seen and word in visitor.text(".why b"), address
 
 
 def test_a_wrong_guess_has_its_reply_and_steps_are_no_entries(visitor):
@@ -146,6 +182,21 @@ def test_the_moment_is_found_and_not_told(visitor):
         assert "5 was in the set" in visitor.text("#talk")
     visitor.script("document.querySelectorAll('.content')[1].focus()")
     visitor.press("Enter")
+    visitor.revealed()
+    assert "linearizable" in visitor.text(".reveal")
+
+
+def test_tab_leads_through_the_times_of_the_set(visitor):
+    visitor.open("#story=8")
+    visitor.press("2")
+    visitor.wait("return document.querySelectorAll('.content.press').length === 3")
+    at = "return [...document.querySelectorAll('.content')].indexOf(document.activeElement)"
+    visitor.script("document.querySelector('.content').focus()")
+    visitor.press("Tab")
+    assert visitor.script(at) == 1
+    visitor.press("Shift+Tab")
+    assert visitor.script(at) == 0
+    visitor.press("Tab", "Enter")
     visitor.revealed()
     assert "linearizable" in visitor.text(".reveal")
 
@@ -219,6 +270,6 @@ def test_a_slide_by_a_presenters_keys(visitor):
 
 
 def test_wrong_addresses_are_told(visitor):
-    for address, word in (("#story=77", "77"), ("#ask=nothing", "nothing"), ("#break=99", "99"), ("#story=2&view=small", "small")):
+    for address, word in (("#story=77", "77"), ("#ask=nothing", "nothing"), ("#break=99", "99"), ("#story=2&view=small", "small"), ("#story=4.7", "4.7"), ("#story=2.2", "2.2")):
         visitor.open(address)
         assert word in visitor.text("#told"), address

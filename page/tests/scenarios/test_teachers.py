@@ -30,6 +30,25 @@ def test_homework_is_one_link_that_lasts(visitor, another):
     student.wait("return document.querySelector('h1').innerText === 'Week 3'")
 
 
+def test_a_due_day_is_in_the_link(visitor):
+    visitor.open("#teachers")
+    visitor.click("[value=one-lock]")
+    visitor.type("#hw-due", "2026-12-04")
+    link = visitor.text("#hw-link")
+    assert link.endswith("&due=2026-12-04")
+    visitor.open("#" + link.split("#")[1])
+    assert visitor.text(".due") == "Due: 2026-12-04"
+
+
+def test_notes_follow_the_slides_and_a_handout_is_printed(visitor):
+    visitor.open("#notes")
+    assert visitor.text("h1") == "1. Lose a number" and ":" in visitor.text("#notes-clock")
+    visitor.press("Right")
+    assert visitor.text("h1") == "2. One lock"
+    visitor.open("#handout")
+    assert visitor.script("return document.querySelectorAll('.sheet .list svg').length") == 13
+
+
 def test_an_assignment_names_what_it_does_not_know(visitor):
     visitor.open("#assignment=x&learn=no-such&break=99&judge=bad")
     assert "lesson no-such, level 99, run bad" in visitor.text("#scene")
@@ -41,7 +60,7 @@ def test_what_is_done_is_ticked_and_handed_in(visitor):
     visitor.open(LINK)
     assert "5 tasks, 2 done" in visitor.text(".lead") and visitor.is_seen(".tasks .done")
     visitor.click("[data-do=copy]")
-    assert visitor.text("#scene-told") == "Your name first, please." and visitor.focus() == "INPUT hand-student"
+    assert visitor.text("#scene-told") == "Please enter your name first." and visitor.focus() == "INPUT hand-student"
     visitor.type("#hand-student", "Ada Lovelace")
     visitor.type("#hand-number", "4711000")
     visitor.unfold("#hand details")
@@ -82,11 +101,15 @@ def test_a_class_is_checked(visitor):
     visitor.wait("return document.querySelectorAll('.class tbody tr').length === 33", seconds=60)
     told = visitor.text("#in-told")
     assert "34 files: 33 students, 0 merged, 1 without a hand-in. 31 with all 2 tasks." in told and "notes.txt" in told
-    assert "many have them: Level 1, CoarseList" in told
+    assert "too many students have the same one: Level 1, CoarseList" in told
     row = lambda name: visitor.script("return [...document.querySelectorAll('.class tbody tr')].find((it) => it.innerText.includes(arguments[0])).innerText", name)
     assert "2 of 2 with Student 8 (1008), Student 9 (1009)" in row("Student 7\t") and " of 2 with" not in row("Student 6\t")
     assert "2 rows with this name, since a number is missing: max.txt, max-2.txt" in row("Max Maier")
-    assert "handed in for “Week 2”; 1 solution of tasks not asked: Hand over hand" in row("Eva")
+    assert "handed in for “Week 2”: not counted" in row("Eva")
+    assert visitor.text(".class tfoot").split()[2:5] == ["31", "of", "33"]
+    visitor.click("#in-wrong")
+    assert visitor.script("return [...document.querySelectorAll('.class tbody tr')].filter((it) => it.getClientRects().length > 0).length") == 0
+    visitor.click("#in-wrong")
     visitor.click(".class thead button", "Same schedules")
     assert "2 of 2 with" in visitor.text(".class tbody tr")
     visitor.type("#in-link", "http://example.org/foo")
@@ -125,7 +148,7 @@ def test_start_afresh(visitor):
     assert "Press again" in visitor.text("#own [data-do=afresh]")
     visitor.click("#own [data-do=afresh]")
     visitor.wait("return location.hash === '#story=1' && document.body.dataset.ready === 'yes'")
-    assert visitor.text(".welcome") == "All that was kept here is gone."
+    assert visitor.text(".welcome") == "All saved data has been deleted."
     visitor.open("#assignment=x&learn=one-lock")
     assert visitor.script("return document.getElementById('hand-student').value") == ""
 
@@ -143,7 +166,7 @@ def test_the_lecture_goes_on_by_one_key(visitor):
     seen = slides[:1]
     for at in range(120):
         assert visitor.script("""return document.documentElement.scrollHeight <= innerHeight + 1
-            && [...document.querySelectorAll('.lines')].every((it) => it.scrollHeight <= it.clientHeight + 1
+            && [...document.querySelectorAll('.codebox[open] .lines')].every((it) => it.scrollHeight <= it.clientHeight + 1
             && it.getBoundingClientRect().bottom <= it.closest('.fig').getBoundingClientRect().bottom)"""), visitor.hash
         assert visitor.text("#leave").startswith(f"{len(seen)} of {len(slides)}")
         visitor.press("Space" if at % 2 else "PageDown")
@@ -176,9 +199,9 @@ def test_a_slide_takes_every_key_and_stops_where_it_is_decided(visitor):
     visitor.open("#lecture=5")
     visitor.press("PageDown")
     visitor.revealed()
-    assert "pred is not in the list any more" in visitor.text(".tale") and "No." in visitor.text(".why")
+    assert "pred is no longer in the list" in visitor.text(".tale") and "No." in visitor.text(".why")
     visitor.press("PageDown")
-    visitor.wait("return document.querySelector('.tale').innerText.includes('answers true')")
+    visitor.wait("return document.querySelector('.tale').innerText.includes('returns true')")
 
 
 def test_a_slide_follows_its_window(visitor):

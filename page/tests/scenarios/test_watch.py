@@ -8,7 +8,7 @@ def test_one_goes_on_from_here_by_the_code(visitor):
     assert "marks 5" in visitor.text(".tale")
     visitor.press("b")
     visitor.idle()
-    assert "5 is out of the chain" in visitor.text(".tale")
+    assert "5 is unlinked" in visitor.text(".tale")
     visitor.back()
     visitor.wait("return document.getElementById('question-box').getClientRects().length > 0")
     assert visitor.event() == 20

@@ -1,4 +1,4 @@
-"""The browsers that are installed, each driven by its own driver: a person's keys, clicks and touches, and what can be seen.
+"""Drives the installed browsers by a person's keys, clicks and touches, and reads what is visible.
 
 Chromium and WebKit speak WebDriver over HTTP (chromedriver, WebKitWebDriver). Firefox speaks Marionette, the same commands over a
 socket of its own, so that no geckodriver is needed."""
@@ -25,11 +25,12 @@ SHIFT, CONTROL = "\ue008", "\ue009"
 COMMANDS = {"go": ("POST", "url", "WebDriver:Navigate"), "back": ("POST", "back", "WebDriver:Back"),
             "reload": ("POST", "refresh", "WebDriver:Refresh"), "script": ("POST", "execute/sync", "WebDriver:ExecuteScript"),
             "act": ("POST", "actions", "WebDriver:PerformActions"), "picture": ("GET", "screenshot", "WebDriver:TakeScreenshot"),
-            "size": ("POST", "window/rect", "WebDriver:SetWindowRect"), "end": ("DELETE", "", "WebDriver:DeleteSession"), "log": ("POST", "se/log", None)}
+            "size": ("POST", "window/rect", "WebDriver:SetWindowRect"), "end": ("DELETE", "", "WebDriver:DeleteSession"), "log": ("POST", "se/log", None),
+            "devtools": ("POST", "goog/cdp/execute", None)}
 
 
 def installed(name):
-    """The path of the driver, or None."""
+    """Returns the path of the driver, or None."""
     path = next((found for found in map(shutil.which, NEEDS[name][1]) if found), None)
     return None if name == "webkit" and not shutil.which("xvfb-run") else path
 
@@ -41,7 +42,7 @@ def free_port():
 
 
 def started(words, folder):
-    """A process that ends with this one, with a folder for what it keeps."""
+    """Starts a process that ends with this one. `folder` holds its settings."""
     homes = {f"XDG_{it}_HOME": folder for it in ("CONFIG", "DATA", "CACHE")}
     silent = {"stdin": subprocess.DEVNULL, "stdout": subprocess.DEVNULL, "stderr": subprocess.DEVNULL}
     return subprocess.Popen([*processes.guarded(), *words], **silent, env={**os.environ, **homes})
@@ -102,7 +103,7 @@ class OverMarionette:
 
 
 def until(deed, fault, seconds=120):
-    """What a deed gives once it does not fail this way."""
+    """Retries a deed until it does not raise `fault`, and returns its value."""
     end = time.monotonic() + seconds
     while True:
         try:
@@ -127,7 +128,7 @@ def connection(name, path, folder):
 
 
 class Browser:
-    """A browser with a profile of its own, which ends at the end of the `with`."""
+    """A browser with its own profile. It ends with the `with`."""
 
     def __init__(self, name):
         self.name, self.folder = name, tempfile.TemporaryDirectory(ignore_cleanup_errors=True)
@@ -163,6 +164,11 @@ class Browser:
     def size(self, width, height):
         self.at.command("size", {"width": width, "height": height})
 
+    def devtools(self, name, **given):
+        """Sends a command of Chromium's DevTools protocol. Does nothing in other browsers."""
+        if self.name == "chromium":
+            self.at.command("devtools", {"cmd": name, "params": given})
+
     def script(self, text, *given):
         return self.at.command("script", {"script": text, "args": list(given)})
 
@@ -170,7 +176,7 @@ class Browser:
         pathlib.Path(path).write_bytes(base64.b64decode(self.at.command("picture", {"full": False})))
 
     def press(self, *keys):
-        """Presses keys, one after the other; `Shift+Left` holds the first."""
+        """Presses keys one after the other. `Shift+Left` holds the first."""
         deeds = []
         for key in keys:
             *held, last = key.split("+") if len(key) > 1 else [key]
@@ -182,7 +188,7 @@ class Browser:
         self.at.command("act", {"actions": [{"type": "key", "id": "keys", "actions": deeds}]})
 
     def faults(self):
-        """What scripts have failed with since this was asked last, where a browser tells that."""
+        """Returns the script errors since the last call, if the browser reports them."""
         if self.name != "chromium":
             return []
         return [it["message"] for it in self.at.command("log", {"type": "browser"}) if it["source"] == "javascript"]

@@ -1,4 +1,4 @@
-// Draws the bars on which the reader puts points: each is a slider for the keyboard; the call that clashes is red.
+// Draws the bars on which the reader places points. Each bar is a slider for the keyboard. The clashing call is red.
 import { lastMoment, nameOfCall } from "../run/judged.js";
 import { callText, chipOf, colourOf, escaped, label, tag, title } from "../run/markup.js";
 import { recordedInWords } from "../run/recorded.js";
@@ -12,7 +12,7 @@ const SLOT_WIDTH = 60; // of the words of a point
 const leftOf = ({ begun }, { x, step }) => x(begun) - step / 2;
 const rightOf = (call, { x, step, last }) => x(call.ended ?? last) + step / 2;
 
-// The widest text that a call can have above its bar: with its reply, or with the sign for one that is not said yet.
+// Returns the width of the widest label that a call can have, with its reply or the sign for a missing reply.
 function widthOfCall(call) {
   if (call.ended === null) return widthOf(callText(call), OPEN);
   const replies = [call.reply ?? "", ...(call.operation === "ceiling" ? ["nothing"] : ["false"])];
@@ -64,7 +64,7 @@ function drawJudgedBar(call, reply, scale, y) {
 
 const frameOf = ({ width, height }) => ({ width, height, viewBox: `0 0 ${width} ${height}` });
 
-// Recorded calls as bars, their moments one after the other; a line stands where those of a refusal begin to have no order.
+// Draws recorded calls as bars, at equal distances of their moments. A line shows from where the calls of a refusal have no order.
 export function drawRecorded(calls, from, width) {
   const inOrder = (numbers) => [...new Set(numbers)].sort((one, other) => (one < other ? -1 : 1));
   const threads = inOrder(calls.map(({ thread }) => thread));
@@ -98,7 +98,7 @@ function drawOwnPoint(call, at, y, scale) {
   return tag("g", { class: `point own ${colourOf(call.thread)}` }, stem, tag("circle", { cx: x, cy: y, r: 8 }), drawWhen(call, at, y, scale));
 }
 
-// When a point is, beside it where its own bar has room for that: over the bar of another call it would be read as that one's.
+// Labels a point with its moment, if its own bar has room. Over another call's bar the label would seem to belong to that call.
 function drawWhen(call, at, y, scale) {
   const x = scale.x(at);
   const isRoomy = (room) => room >= SLOT_WIDTH;
@@ -116,7 +116,7 @@ export function drawJudged(judged) {
   return tag("svg", frame, ...lanes, at === 0 ? "" : tag("line", line), ...calls);
 }
 
-// The reader's order as text, and behind it, pale, the calls that are not in it yet: so it takes the same space from the start.
+// Writes the reader's order. The calls that are not placed yet follow in pale, so the line keeps its size.
 export function drawOwnOrder(answer) {
   const { calls } = answer.exercise;
   const placed = answer.order().map(({ call, at, reply }) => {

@@ -1,4 +1,4 @@
-// What the page is at: one value with five parts, and what each action makes of it. Nothing of the browser is asked here.
+// The state of the page, one value with five parts, and its reducer. Uses nothing of the browser.
 //
 // @ts-check
 /**
@@ -52,7 +52,7 @@ const MAKES = {
   task: (state, { task, lacks = null }) =>
     onStage({ ...state, task: { ...NO_TASK_YET, ...task }, run: { ...state.run, lacks }, exercise: null }),
   run: (state, { type, ...given }) => ({ ...state, run: { ...state.run, ...given } }),
-  // A trace is there: the exercise was about the one before.
+  // Takes a trace. An exercise about the previous trace ends.
   trace(state, { trace, state: ofTrace, source, count }) {
     const isGood = trace.refused === null;
     const faultLine = isGood ? null : trace.refused.line;

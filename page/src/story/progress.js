@@ -1,4 +1,4 @@
-// What the browser keeps of the story: the screens that are done, what was answered, the lists that were broken, the student's name.
+// The progress stored in this browser: finished screens, guesses, broken lists, the student's name.
 import { BOOK_NAME } from "../../made/book.js";
 import { LACKING } from "../../made/classics.js";
 import { isText, keepUnder, keptUnder } from "../page/kept.js";
@@ -19,7 +19,7 @@ export const keepBrokenLine = (name, line) => keepUnder(BROKEN, { ...keptUnder(B
 export const isNamed = (name) => (keptUnder(NAMED) ?? []).includes(name);
 export const keepNamed = (name) => keepUnder(NAMED, [...new Set([...(keptUnder(NAMED) ?? []), name])]);
 
-// All that the page has kept in this browser goes, for whoever comes next, once the button is pressed a second time.
+// Deletes all that the page has stored in this browser, when the button is pressed a second time.
 export function startAfresh(button) {
   if (button.dataset.isSure !== "yes") {
     button.dataset.isSure = "yes";
@@ -30,13 +30,13 @@ export function startAfresh(button) {
   try {
     for (const name of Object.keys(localStorage)) if (name.startsWith("listset-")) localStorage.removeItem(name);
   } catch {
-    // nothing is kept in this browser
+    // this browser stores nothing
   }
   location.hash = "#story=1&gone=yes"; // the first screen says so
   location.reload();
 }
 
-// ---- the courses that were opened, the schedules that solved a lesson, and the lessons whose answer was looked at
+// ---- opened courses, solutions of lessons, and lessons whose answer was looked at
 const LESSONS_KEPT = "listset-lessons-2";
 const textsKept = (kept) => Object.entries(kept ?? {}).filter(([, text]) => isText(text));
 const namesKept = (kept) => (Array.isArray(kept) ? kept.filter(isText) : []);

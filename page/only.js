@@ -1,0 +1,60 @@
+// `judge --only KEY`: a recording of the calls of one key; if no order explains them, of the few that show it.
+"use strict";
+
+const ENOUGH = 16; // if a part of the calls is enough, the most that are printed
+const MOST_TRIED = 64; // the most calls that are tried as the first of a part
+
+// A part of the calls of a key: those before the one at `behind`, from the one at `first` on; whether the key is in the set before them,
+// and after them, `null` if the recording was cut off.
+/** @typedef {{ first: number, behind: number, opening: boolean, left: boolean | null }} Part */
+
+// The recording of a key by the text of all keys; `null` if no call is of this key. `verdictOn` is what the judge says of a text.
+function onlyKey(text, key, verdictOn) {
+  const lines = text.split("\n");
+  const calls = lines.filter((line) => line.startsWith("call ") && line.split(" ")[3] === key).map(callOf);
+  if (calls.length === 0) return null;
+  const left = lines.includes("cut") ? null : lines.includes(`key ${key}`);
+  const all = { first: 0, behind: calls.length, opening: lines.includes(`opening ${key}`), left };
+  const refusal = (/** @type {Part} */ part) => /^not linearizable\n.* of key \d+(?: up to moment (\d+))?/.exec(verdictOn(textOf(calls, key, part)));
+  const refused = refusal(all);
+  return textOf(calls, key, refused === null ? all : partOf(calls, all, refused[1], refusal));
+}
+
+function callOf(line) {
+  const [begin, end] = line.split(" ").slice(4);
+  return { line, begin: BigInt(begin), end: end === "-" ? null : BigInt(end) };
+}
+
+function textOf(calls, key, { first, behind, opening, left }) {
+  const ends = left === null ? ["cut"] : [...(left ? [`key ${key}`] : []), "end"];
+  const made = calls.slice(first, behind).map(({ line }) => line);
+  return ["listset-calls 1", ...(opening ? [`opening ${key}`] : []), ...made, ...ends, ""].join("\n");
+}
+
+// The part that shows a refusal up to a moment, or to the end: from the last call on that begins while none is pending and when the state
+// of the key is known; or from an earlier one, if few calls are between.
+function partOf(calls, all, moment, refusal) {
+  const behind = moment === undefined ? all.behind : calls.filter(({ begin }) => begin <= BigInt(moment)).length;
+  const part = moment === undefined ? all : { ...all, behind, left: null };
+  const rests = restsOf(calls.slice(0, behind));
+  const early = rests.filter((first) => first >= behind - ENOUGH);
+  const late = rests.filter((first) => first < behind - ENOUGH).reverse();
+  for (const first of [...early.slice(0, MOST_TRIED), ...late.slice(0, MOST_TRIED)]) {
+    const [there, absent] = [true, false].map((left) => refusal({ ...all, behind: first, left }) === null);
+    if (first === 0 || there !== absent) return { ...part, first, opening: first === 0 ? all.opening : there };
+  }
+  return part;
+}
+
+// The calls that begin while none is pending, by their places.
+function restsOf(calls) {
+  const rests = [];
+  let latest = 0n;
+  for (const [place, { begin, end }] of calls.entries()) {
+    if (latest !== null && latest < begin) rests.push(place);
+    latest = latest === null || end === null ? null : end > latest ? end : latest;
+  }
+  return rests;
+}
+
+module.exports = { onlyKey };

@@ -1,0 +1,97 @@
+// Judges calls recorded from the reader's own set, pasted or opened as a file, with the proved judge.
+import { drawRecorded } from "../draw/judged_bars.js";
+import { byId } from "../page/dom.js";
+import { onFile } from "../page/files.js";
+import { askLong, LONG_TEXT } from "../page/long_run.js";
+import { askNow, held } from "../page/now.js";
+import { escaped, letterOf, tag } from "../run/markup.js";
+import { RECORDED_EXAMPLE, recordedInWords, verdictOnCalls, withNewline } from "../run/recorded.js";
+import { diagnosisIn } from "../run/why.js";
+
+const WIDEST = 800; // pixels of a drawing, before it is made larger
+const recorded = { text: "" }; // what stands in the box when another activity is shown
+const recordedPart = (name) => byId(`recorded-${name}`);
+
+const PARTS = `<p class="prose">The templates in the folder <code>judge</code> run a stress test on your own set. They record when each
+    call begins and ends, and save every recording that fails. Paste its text, or open the file: the proved <code>judge</code> says whether any order
+    explains the calls.</p>
+  <div class="halves"><div><textarea id="recorded-text" rows="9" spellcheck="false" autocapitalize="off" wrap="off" aria-label="recorded calls"
+    placeholder="listset-calls 1"></textarea>
+  <p class="line"><button id="recorded-judge" class="primary">Judge these calls</button>
+    <label class="button">Open a file<input type="file" id="recorded-file"></label>
+    <button id="recorded-example" class="quiet">Load an example</button></p></div>
+  <div id="recorded-result"><p id="recorded-verdict" role="status">The verdict stands here.</p><ul id="recorded-reasons"></ul></div></div>
+  <div id="recorded-picture"></div>`;
+
+export const drawRecordedBox = () => tag("section", { id: "recorded-box", class: "panel" }, "<h2>Judge calls recorded from your own set</h2>", PARTS);
+
+// Returns which letter stands for which thread number of the recording.
+function threadsInWords(calls) {
+  const threads = [...new Set(calls.map(({ thread }) => Number(thread)))].sort((one, other) => one - other);
+  return threads.length === 0 ? [] : [`Threads: ${threads.map((thread) => `${letterOf(thread)} is thread ${thread}`).join(", ")} of the recording.`];
+}
+
+// A recording without `key` lines says that the set is empty at the end. Returns a remark if that can be a mistake.
+function keysInWords(text, { kind }) {
+  const isEmptied = kind === "none" && !/^key /m.test(text) && /^call \d+ add \S+ \S+ \S+ true/m.test(text) && /^end$/m.test(text);
+  return isEmptied ? ["The recording has no line <code>key</code>, so it says that the set is empty at the end. Add a line <code>key 5</code> for each key, here 5, that is left."] : [];
+}
+
+// Replaces the judge's reasons by the diagnosis, if there is one.
+async function withDiagnosis(verdict, text) {
+  const hasIt = WebAssembly.Module.exports(held.engine.module).some(({ name }) => name === WHY);
+  const why = verdict.kind === "none" && hasIt ? diagnosisIn((await askLong(WHY, text, false)).text) : null;
+  if (why === null) return verdict;
+  const inWords = (mark) => (mark === "either" ? "one of the two is wrong" : mark.replace("leaves", "leaves the key"));
+  const marked = why.calls.filter(({ mark }) => mark !== "").map((call) => `${recordedInWords(call)}: ${inWords(call.mark)}`);
+  const likely = why.likely === null ? [] : [`Likely: ${why.likely}.`, `Because ${why.because}.`];
+  const also = why.also.length === 0 ? [] : [`At the same time: ${why.also.map(recordedInWords).join("; ")}.`];
+  const reasons = [`<b>${escaped(why.headline)}</b>`, ...[...marked, ...why.facts, ...likely, ...also].map(escaped)];
+  return { ...verdict, reasons, calls: why.calls, also: why.also, from: null };
+}
+const WHY = "listset_why_record";
+
+function withRemarks(verdict, text) {
+  const hasCalls = /^call /m.test(text);
+  if (verdict.kind === "ok" && !hasCalls) return { ...verdict, kind: "fault", says: "This recording has no call, so nothing was judged." };
+  return { ...verdict, reasons: [...verdict.reasons, ...keysInWords(text, verdict), ...threadsInWords([...verdict.calls, ...(verdict.also ?? [])])] };
+}
+
+function showVerdict({ kind, says, reasons, calls, from }) {
+  recordedPart("verdict").className = kind;
+  recordedPart("verdict").textContent = says;
+  recordedPart("reasons").innerHTML = reasons.map((reason) => tag("li", {}, reason)).join("");
+  const wide = recordedPart("picture").clientWidth;
+  const zoom = wide > WIDEST ? 1.25 : 1;
+  recordedPart("picture").style.setProperty("--zoom", String(zoom));
+  recordedPart("picture").innerHTML = calls.length > 0 ? drawRecorded(calls, from, Math.min(Math.max(300, wide / zoom), WIDEST)) : "";
+}
+
+const nothing = { kind: "", says: "", reasons: [], calls: [], from: null };
+
+async function judgeCalls() {
+  const text = withNewline(recordedPart("text").value);
+  recorded.text = text;
+  if (text === "") return showVerdict({ ...nothing, kind: "fault", says: "Paste the text of recorded calls first, or open a file." });
+  showVerdict({ ...nothing, says: text.length < LONG_TEXT ? "" : "Judging .." });
+  const said = await askLong("listset_judge_record", text, false);
+  const verdict = await withDiagnosis(verdictOnCalls(askNow, said, text), text);
+  if (recordedPart("text") !== null && withNewline(recordedPart("text").value) === text) showVerdict(withRemarks(verdict, text));
+}
+
+export function showRecorded(text) {
+  recordedPart("text").value = text;
+  judgeCalls();
+}
+
+export function listenToRecorded() {
+  const box = recordedPart("text");
+  box.value = recorded.text;
+  box.oninput = () => {
+    recorded.text = box.value;
+    showVerdict(nothing);
+  };
+  recordedPart("judge").onclick = judgeCalls;
+  recordedPart("example").onclick = () => showRecorded(RECORDED_EXAMPLE);
+  onFile(recordedPart("file"), showRecorded);
+}

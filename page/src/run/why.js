@@ -1,0 +1,23 @@
+// Reads the program's diagnosis of a refused recording from its record.
+
+/**
+ * A call of the key that shows the bug has a mark: the answer that was expected, the state that it leaves, or that either was allowed.
+ * @typedef {{ thread: string, operation: string, key: string, begun: bigint, ended: bigint | null, reply: string | null, mark: string }} CallOfBug
+ * @typedef {{ headline: string, calls: CallOfBug[], also: CallOfBug[], facts: string[], likely: string | null, because: string | null }} Diagnosis
+ */
+
+/** @param {string[]} words @returns {CallOfBug} */
+function callOf([thread, operation, key, begun, ended, reply, ...mark]) {
+  const isPending = ended === "-";
+  return { thread, operation, key, begun: BigInt(begun), ended: isPending ? null : BigInt(ended), reply: isPending ? null : reply, mark: mark.join(" ").replace(/^-$/, "") };
+}
+
+/** The diagnosis of a record, or null if the program has none. @param {string} text @returns {Diagnosis | null} */
+export function diagnosisIn(text) {
+  const lines = text.split("\n").filter((line) => line !== "").map((line) => ({ word: line.split(" ")[0], rest: line.slice(line.indexOf(" ") + 1) }));
+  const all = (word) => lines.filter((line) => line.word === word).map(({ rest }) => rest);
+  const [headline] = all("headline");
+  if (headline === undefined) return null;
+  const callsOf = (word) => all(word).map((rest) => callOf(rest.split(" ")));
+  return { headline, calls: callsOf("call"), also: callsOf("also"), facts: all("fact"), likely: all("likely")[0] ?? null, because: all("because")[0] ?? null };
+}

@@ -1,0 +1,93 @@
+// For lecturers: notes in a second window that follows the slides, and a printable handout.
+import { LECTURE, slideAddress } from "../data/lecture.js";
+import { drawStage } from "../draw/stage.js";
+import { HERE, keptUnder } from "../page/kept.js";
+import { tag } from "../run/markup.js";
+import { lockShown } from "./figure_parts.js";
+import { LiveRun } from "./live_run.js";
+import { SCREENS } from "./path.js";
+import { foot, head, part, setScene } from "./scene.js";
+
+const TICK = 1000; // milliseconds
+const clock = { timer: 0, began: 0 };
+const numberIn = (address) => Number(/^#lecture=(\d+)$/.exec(address ?? "")?.[1] ?? 0);
+const minutesTo = (number) => LECTURE.slice(0, number).reduce((sum, [minutes]) => sum + minutes, 0);
+const twoDigits = (count) => String(count).padStart(2, "0");
+
+function notesHtml() {
+  return `${head("Notes to the slides", "", '<p id="notes-says" class="lead"></p><p id="notes-next" class="prose"></p>', "title")}
+    <p class="clock" role="timer"><b id="notes-clock"></b> <span id="notes-plan" class="small"></span></p>
+    <p class="small">Keep this window on your own screen. In this browser it follows the slides; ← and → turn its pages by hand.</p>
+    ${foot('<a class="button quiet" href="#teachers">For teachers</a>', `<button data-do="restart">Restart</button>
+      <a class="button primary" target="_blank" href="${slideAddress(1)}">Open the slides ↗</a>`)}`;
+}
+
+const follow = ({ key }) => {
+  const number = key === HERE ? numberIn(keptUnder(HERE)) : 0;
+  if (number > 0) setScene({ at: number - 1 });
+};
+
+function drawClock() {
+  const seconds = Math.floor((Date.now() - clock.began) / TICK);
+  const box = part("#notes-clock");
+  if (box !== null) box.textContent = `${twoDigits(Math.floor(seconds / 60))}:${twoDigits(seconds % 60)}`;
+}
+
+function beginNotes() {
+  clock.began = Date.now();
+  clock.timer = window.setInterval(drawClock, TICK);
+  window.addEventListener("storage", follow);
+  setScene({ at: 0 });
+}
+
+function endNotes() {
+  window.clearInterval(clock.timer);
+  window.removeEventListener("storage", follow);
+}
+
+function drawNotes({ at }) {
+  const [minutes, title, , says] = LECTURE[at];
+  part("h1").textContent = `${at + 1}. ${title}`;
+  part("#notes-says").textContent = says;
+  part("#notes-next").textContent = at + 1 < LECTURE.length ? `Next: ${LECTURE[at + 1][1]}` : "The last slide.";
+  part("#notes-plan").textContent = `${minutes} minutes for this slide; by the plan it ends at ${twoDigits(minutesTo(at + 1))}:00.`;
+  drawClock();
+}
+
+function turn({ key }) {
+  const by = { ArrowRight: 1, PageDown: 1, ArrowLeft: -1, PageUp: -1 }[key];
+  const at = Number(part("h1").textContent.split(".")[0]) - 1 + (by ?? 0);
+  if (by !== undefined && LECTURE[at] !== undefined) setScene({ at });
+}
+
+export const notesView = {
+  kind: "notes",
+  title: () => "Notes to the slides · Why not just one lock?",
+  html: notesHtml, begin: beginNotes, draw: drawNotes, end: endNotes, press: turn,
+  deeds: { restart: () => ((clock.began = Date.now()), drawClock()) },
+};
+
+// ---- The handout: each screen of the path with its initial list, its question, and lines to write on.
+const ROOM = { wide: 720, high: 190, hides: ["succ"] };
+
+function pictureOf(figure) {
+  const run = new LiveRun(figure);
+  const { slots, flat } = figure;
+  return drawStage(run.state, null, { ...ROOM, slots, flat, lock: lockShown(figure) }, `h${figure.slots}${run.lines.length}`);
+}
+
+/** @param {any} screen @param {number} at */
+function sheetOf({ question, prose, figure, ask, options, task }, at) {
+  const choices = options === undefined ? "" : tag("ol", { class: "choices" }, ...options.map(({ text }) => tag("li", {}, text)));
+  return `<section class="sheet"><h2>${at + 1}. ${question}</h2><p>${prose}</p><div class="list">${pictureOf(figure)}</div>
+    <p><b>${ask ?? task}</b></p>${choices}<p class="lines-to-write" aria-hidden="true"></p></section>`;
+}
+
+export const handoutView = {
+  kind: "handout",
+  title: () => "Handout · Why not just one lock?",
+  html: () => `${head("Handout", "Why not just one lock?", "", "title")}
+    ${SCREENS.flatMap((screen) => [screen, ...(screen.parts ?? [])]).map(sheetOf).join("")}
+    ${foot('<a class="button quiet" href="#teachers">For teachers</a>', '<button class="primary" data-do="print">Print</button>')}`,
+  deeds: { print: () => print() },
+};

@@ -1,0 +1,160 @@
+"""The stage: on each screen, in windows of laptops, a large screen and a phone, labels are readable and nothing is cut or covered."""
+
+import pathlib
+
+import pytest
+
+SCHEDULES = pathlib.Path(__file__).resolve().parents[3] / "examples/schedules/lacks"
+SIZES = {(1366, 640): 16, (1280, 720): 16, (1536, 730): 16, (1920, 1080): 18, (390, 844): 13}  # windows, and the least size of a label
+FAULTS = r"""
+const least = arguments[0], found = [];
+const isSeen = (it) => it.getClientRects().length > 0 && getComputedStyle(it).visibility !== "hidden";
+const nameOf = (it) => `${it.tagName} ${it.id || it.getAttribute("class") || ""} "${(it.textContent ?? "").trim().slice(0, 24)}"`;
+const sizeOf = (it) => parseFloat(getComputedStyle(it).fontSize) * it.getScreenCTM().a;
+const boxOf = (it) => it.getBoundingClientRect();
+const all = (what) => [...document.querySelectorAll(what)].filter(isSeen);
+const foot = all(".foot").map((it) => boxOf(it).top)[0] ?? innerHeight;
+const isStage = document.querySelector(".on-stage") !== null;
+for (const it of all(".list svg text")) if (sizeOf(it) < least - .05) found.push(`${sizeOf(it).toFixed(1)} px: ${nameOf(it)}`);
+for (const it of all(".strip svg text")) if (sizeOf(it) < 11) found.push(`${sizeOf(it).toFixed(1)} px: ${nameOf(it)}`);
+for (const list of all(".list:has(svg)")) {
+  const box = boxOf(list);
+  for (const it of list.querySelectorAll("text, .box, rect.hot")) {
+    const { left, right, top, bottom } = boxOf(it);
+    if (left < box.left - 2 || right > box.right + 2 || top < box.top - 2 || bottom > box.bottom + 2) found.push(`cut: ${nameOf(it)}`);
+  }
+}
+if (isStage) {
+  if (document.documentElement.scrollHeight > innerHeight + 1) found.push("the page scrolls");
+  for (const it of all("#scene :is(.stage, .list, .talk, .tale)")) if (it.scrollHeight > it.clientHeight + 3) found.push(`scrolls: ${nameOf(it)}`);
+  for (const it of all(".stage > *")) if (boxOf(it).bottom > boxOf(it.parentElement).bottom + 1) found.push(`leaves the stage: ${nameOf(it)}`);
+  for (const it of all(".on-stage :is(p, h1, li, button, a, select, input, summary, td, th)")) {
+    if (it.closest("svg, .lines, .codebox:not([open]) > :not(summary), #sides-presets, .unseen")) continue;
+    const { left, right, top, bottom, width } = boxOf(it);
+    if (width > 0 && (bottom > foot + 1 || right > innerWidth + 1 || left < -1 || top < -1)) found.push(`under a bar or outside: ${nameOf(it)}`);
+  }
+}
+if (document.documentElement.scrollWidth > document.documentElement.clientWidth) found.push("the page is wider than its window");
+return found"""
+STILL = """const own = window.matchMedia.bind(window);
+    window.matchMedia = (asked) => (asked.includes("reduced-motion") ? { matches: true } : own(asked))"""
+
+
+def fit(visitor, width, height):
+    """Sizes the window. Chromium's narrow windows are a phone's, with touch. Firefox and WebKit have windows of 450 to 500 pixels at least."""
+    if width < 500 and visitor.name == "chromium":
+        visitor.devtools("Emulation.setDeviceMetricsOverride", width=width, height=height, deviceScaleFactor=1, mobile=True)
+        visitor.devtools("Emulation.setTouchEmulationEnabled", enabled=True)
+        return
+    visitor.size(width, height)
+    inner = visitor.script("return [innerWidth, innerHeight]")
+    visitor.size(2 * width - inner[0], 2 * height - inner[1])  # the window has a frame
+
+
+class Walk:
+    """A walk through the page in one window. Collects what is wrong, and reports it at the end."""
+
+    def __init__(self, visitor, size):
+        self.visitor, self.least, self.faults = visitor, SIZES[size], []
+        fit(visitor, *size)
+        visitor.open("#read")
+        visitor.script(STILL)
+
+    def go(self, address):
+        self.visitor.script("location.hash = '#read'")
+        self.visitor.wait("return document.body.dataset.activity === 'read'")
+        self.visitor.script("location.hash = arguments[0]", address)
+        self.visitor.wait("return document.querySelector('.list svg') !== null && document.body.dataset.activity !== 'read'")
+        self.look(address)
+
+    def look(self, where):
+        self.visitor.idle()
+        self.visitor.script("return new Promise((done) => setTimeout(() => requestAnimationFrame(() => requestAnimationFrame(done)), 60))")
+        self.faults += [f"{where}: {fault}" for fault in self.visitor.script(FAULTS, self.least)]
+
+    def boxes(self):
+        """Returns where the list and the threads' buttons are. Steps must not move them."""
+        return self.visitor.script("""return [...document.querySelectorAll("#figure :is(.list, .dock)")]
+            .flatMap((it) => [it.getBoundingClientRect().top, it.getBoundingClientRect().height].map(Math.round))""")
+
+    def stays(self, before, where):
+        if any(abs(one - other) > 4 for one, other in zip(before, self.boxes())):
+            self.faults.append(f"{where}: a step moves the list from {before} to {self.boxes()}")
+
+    def end(self):
+        assert self.faults == [], "\n" + "\n".join(self.faults[:40])
+
+
+@pytest.fixture(params=SIZES, ids=lambda size: "x".join(map(str, size)))
+def walk(visitor, request):
+    own = Walk(visitor, request.param)
+    yield own
+    visitor.devtools("Emulation.clearDeviceMetricsOverride")
+    visitor.devtools("Emulation.setTouchEmulationEnabled", enabled=False)
+    own.end()
+
+
+def test_the_path_is_readable(walk):
+    for number in (1, 2, 3, 4, 4.2, 4.3, 5, 6, 7, 7.2, 8, 9, 9.2):
+        walk.go(f"#story={number}")
+        stage = walk.visitor.inside("return listsets.now.scene.stage")
+        if stage == "guess":
+            walk.visitor.press("1")
+            walk.look(f"#story={number}, answered")
+        before = walk.boxes()
+        for _ in range(40):
+            if walk.visitor.inside("return listsets.now.scene.stage") == "done":
+                break
+            walk.visitor.click("#show-me")
+            walk.look(f"#story={number}, a step")
+            if walk.visitor.inside("return listsets.now.scene.stage") == "task":
+                walk.stays(before, f"#story={number}")
+        walk.look(f"#story={number}, done")
+
+
+def test_questions_are_readable(walk):
+    for name in walk.visitor.inside("return listsets.ALL.map(({ name }) => name)"):
+        walk.go(f"#ask={name}")
+        walk.visitor.press("1")
+        walk.visitor.revealed()
+        walk.look(f"#ask={name}, answered")
+    walk.visitor.press("a")
+    walk.look("a branch")
+
+
+def test_levels_are_readable(walk):
+    for number, name in enumerate(walk.visitor.inside("return Object.keys(listsets.BREAK_LEVELS)"), 1):
+        walk.go(f"#break={number}")
+        before = walk.boxes()
+        walk.visitor.step("aabb")
+        walk.look(f"#break={number}, stepped")
+        walk.stays(before, f"#break={number}")
+        if name != "mark-in-contains":
+            walk.go(walk.visitor.inside("return listsets.addressOf(given[0], 99, given[1])", (SCHEDULES / f"{name}.schedule").read_text(), name))
+
+
+def test_lessons_are_readable(walk):
+    for name in walk.visitor.inside("return listsets.learning.panel.course.lessons.map(({ name }) => name)"):
+        walk.go(f"#learn={name}")
+        walk.visitor.step("ab")
+        walk.look(f"#learn={name}, stepped")
+        walk.go(walk.visitor.inside("return `#learn=${given[0]}&${listsets.addressOf(listsets.learning.panel.lessonNamed(given[0]).solution, 1).slice(1)}`", name))
+
+
+def test_other_places_are_readable(walk):
+    for address in ("#code=lazy", "#code=coarse", "#code=lock-free", "#compare", "#example=snip&event=17", "#example=failed-tries&event=30", "#example=snip&judge",
+                    "#seed=lazy.3.2.5.7"):
+        walk.go(address)
+
+
+@pytest.mark.parametrize("size", [(1280, 720), (1920, 1080)], ids=["1280x720", "1920x1080"])
+def test_slides_are_readable(visitor, size):
+    walk = Walk(visitor, size)
+    for number in range(1, 12):
+        walk.go(f"#lecture={number}")
+        small = visitor.script("""return [...document.querySelectorAll("h1, .ask, .prose, .option, .tale, .legend, .codebox[open] code, .why, .foot button, .step")]
+            .filter((it) => it.getClientRects().length > 0 && parseFloat(getComputedStyle(it).fontSize) < .033 * innerHeight).map((it) => it.className || it.tagName)""")
+        assert small == [], number
+        visitor.press("PageDown")
+        walk.look(f"#lecture={number}, one key on")
+    walk.end()

@@ -1,0 +1,587 @@
+// node tests/verdicts.js [CASES]: what the page says of recordings, of runs of broken lists and of the reader's own orders, all drawn at random,
+// is true: each sentence is a property, which a search of all orders decides; also what the diagnosis of a refused recording says. Prints how many
+// checks passed, and what failed, as JSON.
+"use strict";
+
+const fs = require("fs");
+const path = require("path");
+const { inPage, startedEngine } = require("../in_node.js");
+
+const CASES = Number(process.argv[2] ?? 150); // of each kind
+const result = { passed: 0, failed: [] };
+const met = new Set(); // patterns
+const [verdictOnCalls, verdictOnLacking, verdictOn] = ["verdictOnCalls", "verdictOnLacking", "verdictOn"].map(inPage);
+const [OwnAnswer, exerciseOf, readReport, LACKING] = ["OwnAnswer", "exerciseOf", "readReport", "LACKING"].map(inPage);
+const LAST = Infinity;
+
+// ---- numbers drawn at random, the same in each run
+
+let seed = 1;
+function draw(most) {
+  seed = (seed + 0x6d2b79f5) | 0;
+  let it = Math.imul(seed ^ (seed >>> 15), seed | 1);
+  it ^= it + Math.imul(it ^ (it >>> 7), it | 61);
+  return ((it ^ (it >>> 14)) >>> 0) % most;
+}
+const pick = (some) => some[draw(some.length)];
+
+// ---- a search of all orders; a call has a thread, an operation, a key, begun, ended and a reply, which are null while it is pending
+
+function replyOf({ operation, key }, keys, hasRoom) {
+  if (operation === "ceiling") {
+    const above = keys.filter((one) => one >= key);
+    return above.length > 0 ? `at-${Math.min(...above)}` : "nothing";
+  }
+  if (operation === "add" && !keys.includes(key) && !hasRoom) return "full";
+  return String(keys.includes(key) !== (operation === "add"));
+}
+
+const mayChange = ({ operation, reply }) => ["add", "remove"].includes(operation) && [null, "true"].includes(reply);
+
+function keysAfter({ operation, key }, keys) {
+  if (operation === "remove") return keys.filter((one) => one !== key);
+  return operation === "add" && !keys.includes(key) ? [...keys, key].sort((one, other) => one - other) : keys;
+}
+
+// The sets that the orders leave which explain the calls, as texts.
+function leftByOrders(all, opening, quota = Infinity) {
+  const calls = all.filter((call) => call.ended !== null || mayChange(call));
+  const isBefore = (one, other) => one.ended !== null && one.ended < other.begun;
+  const left = new Set();
+  const seen = new Set();
+  const goOn = (placed, keys) => {
+    const name = `${placed} ${keys}`;
+    if (seen.has(name)) return;
+    seen.add(name);
+    const isPlaced = (at) => (placed & (1 << at)) !== 0;
+    if (calls.every((call, at) => call.ended === null || isPlaced(at))) left.add(keys.join());
+    calls.forEach((call, at) => {
+      if (isPlaced(at) || calls.some((other, number) => isBefore(other, call) && !isPlaced(number))) return;
+      const used = calls.filter((one, number) => isPlaced(number) && one.thread === call.thread && one.operation === "add" && mayChange(one));
+      if (replyOf(call, keys, used.length < quota) === (call.reply ?? "true")) goOn(placed | (1 << at), mayChange(call) ? keysAfter(call, keys) : keys);
+    });
+  };
+  goOn(0, opening);
+  return left;
+}
+
+// A call as the judge reads it: a ceiling, and an add that answered full, look at a key.
+function asLook(call) {
+  if (call.reply === "full") return { ...call, operation: "contains", reply: "false" };
+  if (call.operation !== "ceiling" || call.reply === null) return call;
+  const [, found] = /^at-(\d+)$/.exec(call.reply) ?? [];
+  return { ...call, operation: "contains", key: Number(found ?? call.key), reply: String(found !== undefined) };
+}
+
+// Returns the states in which the calls of a key can leave it, from a given state.
+function waysLeft(calls, key, isThere) {
+  const ofKey = calls.map(asLook).filter((call) => call.key === key);
+  return [...leftByOrders(ofKey, isThere ? [key] : [])].map((keys) => keys !== "");
+}
+
+const quotaIn = (report) => Number(/^quota (\d+)$/m.exec(report)[1]);
+
+// ---- what is judged, and the properties of the sentences
+
+// A case: the calls, the opening keys and the keys left, or null if these are not known, and the quota.
+const isExplained = ({ calls, opening, keys, quota }) => {
+  const left = leftByOrders(calls, opening, quota);
+  return keys === null ? left.size > 0 : left.has(keys.join());
+};
+
+function overlapped({ calls }) {
+  const meets = (one, other) => one !== other && one.key === other.key && one.begun < (other.ended ?? LAST) && other.begun < (one.ended ?? LAST);
+  const changes = calls.filter((call) => call.ended !== null && mayChange(call));
+  return calls.filter((call) => changes.some((other) => meets(call, other))).length;
+}
+
+const callNamed = (calls, name, reply) =>
+  calls.filter((call) => `${call.operation}(${call.key}) of ${"ABCD"[call.thread]}` === name && (reply === null || call.reply === reply));
+
+// Returns the call that a sentence describes, as in `add(5) of A answers true, from 1 to 4`.
+function callIn(calls, text) {
+  const [, name, reply, begun] = /^(.*) answers (\S+), from (\d+) to \d+$/.exec(text) ?? [];
+  return callNamed(calls, name, reply ?? null).find((call) => call.begun === Number(begun));
+}
+
+// The properties of a recording's sentences. `said` keeps the facts from earlier sentences.
+const OF_RECORDING = [
+  [/^Linearizable: an order explains (?:this one call|these (\d+) calls)(, whatever keys it leaves| and leaves the keys)\. This verdict is about this recording only\.$/,
+    (it, [count, keys]) => isExplained(it) && Number(count ?? 1) === it.calls.length && keys.startsWith(",") === (it.keys === null)],
+  [/^(\d+) of them overlap a change of their key\.$/, (it, [count]) => Number(count) === overlapped(it)],
+  [/^That is few, and a race shows only if calls meet: take fewer keys, more threads, or pauses in the set\.$/, (it) => 20 * overlapped(it) < it.calls.length],
+  [/^The recording was cut off: some keys left fit, and those that were left are not known\.$/, (it) => it.keys === null && isExplained(it)],
+  [/^Not linearizable: no order at all explains these calls( and leaves the keys)?\.$/, (it, [keys]) => !isExplained(it) && (keys === undefined) === (leftByOrders(it.calls, it.opening).size === 0 || it.keys === null)],
+  [/^No order explains the calls of key (\d+) up to moment (\d+)\.$/, (it, [key, moment], said) => {
+    Object.assign(said, { key: Number(key), moment: Number(moment) });
+    return waysLeft(it.calls.filter((call) => call.begun <= said.moment), said.key, it.opening.includes(said.key)).length === 0;
+  }],
+  [/^No order explains the calls of key (\d+) and leaves it as it was left\.$/, (it, [key], said) => {
+    Object.assign(said, { key: Number(key), moment: LAST });
+    const ways = waysLeft(it.calls, said.key, it.opening.includes(said.key));
+    return !ways.includes(it.keys.includes(said.key));
+  }],
+  [/^Key (\d+) is (present|absent) at first; (.*)\.$/, (it, [key, state, second], said) => {
+    Object.assign(said, { isPresent: state === "present", first: null });
+    return said.key === Number(key) && it.opening.includes(said.key) === said.isPresent && isSecond(it, said, second);
+  }],
+  [/^(.*), and leaves key (\d+) (present|absent); (.*)\.$/, (it, [first, key, state, second], said) => {
+    Object.assign(said, { isPresent: state === "present", first: callIn(it.calls, first) });
+    return said.key === Number(key) && said.first !== undefined && leaves(said.first) === said.isPresent && isSecond(it, said, second);
+  }],
+  [/^No (add|remove)\((\d+)\) that answered true or is pending overlaps the time of both(\. They contradict each other in the other order too)?\.$/,
+    (it, [operation, key, isBoth], said) => {
+      const { first, second, isPresent } = said;
+      const isThis = said.key === Number(key) && (operation === "remove") === isPresent && isNoneBetween(it, said.key, operation, first?.begun ?? 0, second?.ended ?? LAST);
+      if (first === null || second === null || second.begun > first.ended) return isThis && isBoth === undefined;
+      const other = leaves(second) ? "remove" : "add";
+      return isThis && isBoth !== undefined && needs(first) !== leaves(second) && isNoneBetween(it, said.key, other, second.begun, first.ended);
+    }],
+  [/^At the end the set (has it|does not have it)\.$/, (it, [words], said) => it.keys.includes(said.key) === (words === "has it")],
+];
+
+const leaves = ({ operation, reply }) => operation === "add" || (operation === "contains" && reply === "true");
+const needs = (call) => leaves(call) !== (call.operation !== "contains" && call.reply === "true");
+
+// Returns the second part of a contradiction: another call, or the final state of the key.
+function isSecond(it, said, text) {
+  const [, end] = /^it is (present|absent) at the end$/.exec(text) ?? [];
+  const [, call, need] = /^(.*), and needs it (present|absent)$/.exec(text) ?? [];
+  said.second = end === undefined ? callIn(it.calls, call) : null;
+  if (said.second === null) return it.keys.includes(said.key) === (end === "present") && said.isPresent !== (end === "present");
+  return said.second !== undefined && needs(said.second) === (need === "present") && said.isPresent !== (need === "present");
+}
+
+// Decides whether no call that brings the key into this state, and answered true or is pending, overlaps a time.
+function isNoneBetween(it, key, operation, since, until) {
+  return !it.calls.some((call) => call.key === key && call.operation === operation && mayChange(call) && call.begun < until && since < (call.ended ?? LAST));
+}
+
+function checkSentences(properties, it, sentences) {
+  const said = {};
+  for (const sentence of sentences) checkSentence(properties, it, sentence, said);
+}
+
+// `said` is what the sentences before have said, `line` what else the line of this one has.
+function checkSentence(properties, it, sentence, said, line) {
+  const [pattern, holds] = properties.find(([one]) => one.test(sentence)) ?? [null, () => false];
+  met.add(pattern);
+  const isTrue = holds(it, pattern?.exec(sentence).slice(1) ?? [], said, line);
+  if (isTrue) result.passed++;
+  else if (result.failed.length < 20) result.failed.push(`${pattern === null ? "no property is of" : "false:"} ${JSON.stringify(sentence)} on\n${it.text}`);
+}
+
+// ---- recordings
+
+function drawnRecording() {
+  const opening = [5, 7].filter(() => draw(3) === 0);
+  const calls = [];
+  const pending = new Map();
+  let [keys, moment] = [opening, 0];
+  const count = 3 + draw(6);
+  while (calls.length < count || pending.size > 0) {
+    moment++;
+    const idle = [0, 1, 2].filter((thread) => !pending.has(thread));
+    if (calls.length < count && idle.length > 0 && (pending.size === 0 || draw(2) === 0)) {
+      const call = { thread: pick(idle), operation: pick(["add", "remove", "contains"]), key: pick([5, 5, 7]), begun: moment, ended: null, reply: null };
+      calls.push(call);
+      pending.set(call.thread, call);
+    } else if (calls.length === count && draw(5) === 0) {
+      break;
+    } else {
+      const call = pick([...pending.values()]);
+      pending.delete(call.thread);
+      call.reply = replyOf(call, keys, true);
+      keys = call.reply === "true" ? keysAfter(call, keys) : keys;
+      if (draw(8) === 0) call.reply = call.reply === "true" ? "false" : "true";
+      call.ended = moment;
+    }
+  }
+  if (draw(8) === 0) keys = keys.includes(5) ? keys.filter((key) => key !== 5) : [5, ...keys];
+  const left = draw(5) === 0 ? null : keys;
+  const lines = calls.map(({ thread, operation, key, begun, ended, reply }) => `call ${thread} ${operation} ${key} ${begun} ${ended ?? "-"} ${reply ?? "-"}`);
+  const ends = left === null ? ["cut"] : [...left.map((key) => `key ${key}`), "end"];
+  const text = ["listset-calls 1", ...opening.map((key) => `opening ${key}`), ...lines, ...ends, ""].join("\n");
+  return { calls, opening, keys: left, quota: Infinity, text };
+}
+
+function checkRecording(ask) {
+  const it = drawnRecording();
+  const { kind, says, reasons } = verdictOnCalls(ask, ask("listset_judge_record", it.text), it.text);
+  checkSentences(OF_RECORDING, it, [says, ...reasons]);
+  if ((kind === "ok") !== isExplained(it)) result.failed.push(`${kind}: ${it.text}`);
+  if (kind === "none") checkWhy(ask, it);
+}
+
+// Returns the call of the recording that a line of a diagnosis describes.
+function callOfLine(it, words) {
+  const [thread, operation, key, begun] = words;
+  return it.calls.find((call) => call.thread === Number(thread) && call.operation === operation && call.key === Number(key) && call.begun === Number(begun)
+    && String(call.ended ?? "-") === words[4] && (call.reply ?? "-") === words[5]);
+}
+
+function checkWhy(ask, it) {
+  const lines = ask("listset_why_record", it.text).text.split("\n").filter((line) => line !== "").map((line) => line.split(" "));
+  const told = lines.map((words) => (["call", "also"].includes(words[0]) ? { call: callOfLine(it, words.slice(1)), says: [words[0], ...words.slice(7)].join(" "), mark: words.slice(7).join(" ") } : { says: words.join(" ") }));
+  const why = { shown: told.filter(({ says }) => says.startsWith("call ")), because: told.filter(({ says }) => says.startsWith("because ")), told: null };
+  for (const { call } of told.filter(({ says }) => /^(call|also)/.test(says))) if (call === undefined) return result.failed.push(`no such call on\n${it.text}`);
+  for (const line of told) checkSentence(OF_WHY, it, line.says, why, line);
+  return null;
+}
+
+// ---- what is wrong in a recording, by the same engine: a headline, calls and facts
+
+const holdsReply = (call) => call.ended !== null;
+const turned = (call) => ({ ...call, reply: call.reply === "true" ? "false" : "true" });
+const isChange = (call) => call.operation !== "contains" && call.reply !== "false";
+const needsKey = (call) => (call.reply === "true") === (call.operation !== "add");
+const ofKey = (it, key) => it.calls.filter((call) => call.key === key);
+const opens = (it, key) => it.opening.includes(key);
+
+// Whether calls of a key have an order from a state of it, which leaves it so, if that is given.
+function hasOrder(calls, key, isThere, left = null) {
+  const ways = waysLeft(calls, key, isThere);
+  return left === null ? ways.length > 0 : ways.includes(left);
+}
+const leftOf = (it, key) => (it.keys === null ? null : it.keys.includes(key));
+const hasOrderOf = (it, key) => hasOrder(ofKey(it, key), key, opens(it, key), leftOf(it, key));
+
+// Returns the calls as known at a moment: a change that ends later can have been made, any other later call is left out.
+const knownBy = (calls, moment) => calls.flatMap((call) => {
+  if (call.begun > moment) return [];
+  if (call.ended !== null && call.ended <= moment) return [call];
+  return isChange(call) ? [{ ...call, ended: null, reply: null }] : [];
+});
+
+// The moments after which a key's calls can be looked at by themselves, and its state: the first, and those at which no change runs and the
+// calls or the changes before leave but one state.
+function startsOf(calls, key, isThere) {
+  const changes = calls.filter(isChange);
+  const found = [[0, isThere]];
+  for (const { ended: moment } of calls.filter(holdsReply)) {
+    if (changes.some((call) => call.begun <= moment && moment < (call.ended ?? LAST))) continue;
+    const earlier = calls.filter((call) => call.ended !== null && call.ended <= moment);
+    for (const first of [0, ...earlier.map((call) => call.begun)]) {
+      if (changes.some((call) => call.begun < first && first < (call.ended ?? LAST))) continue;
+      const part = earlier.filter((call) => call.begun >= first);
+      for (const its of [part, part.filter(isChange)]) {
+        const ways = (first === 0 ? [isThere] : [true, false]).map((state) => waysLeft(its, key, state)).flat();
+        if (new Set(ways).size === 1) found.push([moment, ways[0]]);
+      }
+    }
+  }
+  return found;
+}
+
+// Returns the stretches of calls around a call: the state before, the calls, and the final state if the stretch reaches the end.
+function* around(it, key, call) {
+  const calls = ofKey(it, key);
+  for (const [start, isThere] of startsOf(calls, key, opens(it, key)).filter(([moment]) => moment < call.begun)) {
+    const part = calls.filter(({ begun }) => begun > start);
+    for (const until of [...part.map(({ begun }) => begun).filter((begun) => begun > call.begun), (call.ended ?? 0) + 0.5]) {
+      yield { isThere, calls: knownBy(part.filter(({ begun }) => begun < until), until), left: null, since: start, until };
+    }
+    yield { isThere, calls: part, left: leftOf(it, key), since: start, until: LAST };
+  }
+}
+
+// Decides whether the calls around a call have an order if and only if it has the other reply: with the changes of the key, or with all calls.
+function isExpected(it, call) {
+  const changes = knownBy(ofKey(it, call.key).filter((one) => isChange(one) && one !== call), call.ended);
+  const fits = (one, others, isThere, left) => hasOrder([...others, one], call.key, isThere, left);
+  const isOnlyTurned = (others, isThere, left) => !fits(call, others, isThere, left) && fits(turned(call), others, isThere, left);
+  if (isOnlyTurned(changes, opens(it, call.key), null)) return true;
+  return [...around(it, call.key, call)].some(({ calls, isThere, left }) => calls.includes(call) && isOnlyTurned(calls.filter((one) => one !== call), isThere, left));
+}
+
+// Decides whether the calls around a call, or all calls of the key, have an order if one change of the key is added at some moment.
+function isGone(it, key, wasThere, call) {
+  const calls = ofKey(it, key);
+  const near = call ?? [...calls].sort((one, other) => other.begun - one.begun)[0];
+  if (near === undefined) return opens(it, key) === wasThere && leftOf(it, key) === !wasThere;
+  const change = (begun) => ({ thread: 99, operation: wasThere ? "remove" : "add", key, begun: begun + 0.25, ended: null, reply: null });
+  return [...around(it, key, near)].some(({ calls: part, isThere, left }) =>
+    [0, ...part.flatMap(({ begun, ended }) => [begun, ended ?? begun])].some((moment) => hasOrder([...part, change(moment)], key, isThere, left)));
+}
+
+// Returns the answers of an operation that have no order together with the other operations, each answer tried alone. Returns null if the
+// other operations have no order by themselves.
+function wrongAnswers(it, operation, isAside) {
+  const wrong = [];
+  let count = 0;
+  for (const key of keysOf(it)) {
+    const left = isAside ? null : leftOf(it, key);
+    const answers = ofKey(it, key).filter((call) => call.operation === operation && holdsReply(call) && !isChange(call));
+    const others = ofKey(it, key).filter((call) => !answers.includes(call));
+    if (!hasOrder(others, key, opens(it, key), left)) return null;
+    count += answers.length;
+    wrong.push(...answers.filter((call) => !hasOrder([...others, call], key, opens(it, key), left)));
+  }
+  // whether the answers that fit alone have an order together too
+  const isAll = keysOf(it).every((key) => hasOrder(ofKey(it, key).filter((call) => !wrong.includes(call)), key, opens(it, key), isAside ? null : leftOf(it, key)));
+  return { wrong, count, isAll };
+}
+const keysOf = (it) => [...new Set([...it.calls.map(({ key }) => key), ...it.opening, ...(it.keys ?? [])])];
+
+const inTime = (call, since, until) => call.begun <= until && since <= (call.ended ?? LAST);
+const runsBeside = (it, call, operation) => it.calls.some((one) => one !== call && one.key === call.key && one.operation === operation && isChange(one) && inTime(one, call.begun, call.ended));
+
+function isHeadline(it, why, [key, gone, operation, ofCall, reply, expected]) {
+  // without a reply that was expected, the call need not be drawn
+  const told = expected === undefined ? it.calls.map((call) => ({ call, mark: "-" })) : why.shown;
+  const named = told.filter(({ call }) => call.operation === operation && call.key === Number(ofCall) && call.reply === reply);
+  const isMarked = ({ call, mark }) => mark === `expected ${turned(call).reply}` && expected === turned(call).reply;
+  if (expected !== undefined && !named.some(isMarked)) return false;
+  return named.length > 0 && (gone === undefined || (key === ofCall && named.some(({ call }) => isGone(it, call.key, gone === "was lost", call))));
+}
+
+function isTold({ wrong, count: answers, isAll }, [operation, atLeast, count, of, found, missed, keyWas]) {
+  const [someFound, someMissed] = [wrong.filter(needsKey).length, wrong.filter((call) => !needsKey(call)).length];
+  if (Number(of) !== answers || (atLeast === undefined ? wrong.length !== Number(count) || !isAll : wrong.length < Number(count))) return false;
+  if (found === undefined && keyWas === undefined) return true;
+  if (keyWas !== undefined) return (keyWas === "absent") === (operation === "add");
+  if (found === "found") return someMissed === 0 && someFound > 0;
+  if (found === "missed") return someFound === 0 && someMissed > 0;
+  return Number(found) === someFound && Number(missed) === someMissed;
+}
+
+// Whether what leaves a key and what needs it contradict each other somewhere, and no two calls overlap meanwhile.
+function isWrongAlone(it) {
+  return keysOf(it).some((key) => {
+    const ended = ofKey(it, key).filter(holdsReply);
+    const firsts = [{ begun: 0, ended: 0, state: opens(it, key) }, ...ended.map((call) => ({ ...call, state: leaves(call) }))];
+    const seconds = [...ended.map((call) => ({ ...call, state: needsKey(call) })), ...(it.keys === null ? [] : [{ begun: LAST, ended: LAST, state: leftOf(it, key) }])];
+    return firsts.some((first) => seconds.some((second) => {
+      if (first.ended >= second.begun || first.state === second.state || !isNoneBetween(it, key, second.state ? "add" : "remove", first.begun, second.ended)) return false;
+      const meanwhile = it.calls.filter((call) => inTime(call, first.begun, second.ended)).sort((one, other) => one.begun - other.begun);
+      return meanwhile.every((call, at) => at === 0 || (meanwhile[at - 1].ended ?? LAST) < call.begun);
+    }));
+  });
+}
+
+const TALLIED = ["lost", "came back", "two adds true", "two removes true", "one wrong answer", "other"];
+const OF_WHY = [
+  [/^headline (?:key (\d+) (was lost|came back): )?(add|remove|contains)\((\d+)\) returned (true|false)(?:, expected (true|false))?$/, (it, found, why) => isHeadline(it, why, found)],
+  [/^headline (?:key (\d+) (was lost|came back): )?key (\d+) is (present|absent) at the end$/, (it, [key, gone, ofEnd, state]) =>
+    it.keys !== null && leftOf(it, Number(ofEnd)) === (state === "present") && !hasOrderOf(it, Number(ofEnd)) && (gone === undefined || (key === ofEnd && isGone(it, Number(key), gone === "was lost", null)))],
+  [/^headline the calls of key (\d+) have no order$/, (it, [key]) => !hasOrder(ofKey(it, Number(key)), Number(key), opens(it, Number(key)))],
+  [/^headline (add|remove)\((\d+)\) returned true twice at the same time, expected once$/, (it, [operation, key], why) => {
+    const both = why.shown.filter(({ mark }) => mark === "either").map(({ call }) => call);
+    return both.length === 2 && both.every((call) => call.operation === operation && call.key === Number(key) && call.reply === "true") && inTime(both[0], both[1].begun, both[1].ended);
+  }],
+  [/^call either$/, (it, found, why, { call }) => {
+    const others = why.shown.filter(({ mark, call: one }) => mark === "either" && one !== call);
+    const until = Math.max(call.ended, ...others.map(({ call: one }) => one.ended));
+    return !hasOrder(knownBy(ofKey(it, call.key).filter(isChange), until), call.key, opens(it, call.key));
+  }],
+  [/^call -$/, () => true],
+  [/^call expected (true|false)$/, (it, [reply], why, { call }) => reply === turned(call).reply && isExpected(it, call)],
+  [/^call leaves (present|absent)$/, (it, [state], why, { call }) => {
+    const next = Math.min(...why.shown.map(({ call: one }) => one.begun).filter((begun) => begun > call.ended), LAST);
+    const look = { thread: 98, operation: "contains", key: call.key, begun: call.ended + 0.25, ended: call.ended + 0.5, reply: String(state === "absent") };
+    return !hasOrder([...ofKey(it, call.key).filter(({ begun }) => begun < next), look], call.key, opens(it, call.key));
+  }],
+  [/^also$/, (it, found, why, { call }) => {
+    const shown = why.shown.map((one) => one.call);
+    return isChange(call) && shown.every(({ key }) => key !== call.key) && inTime(call, Math.min(...shown.map(({ begun }) => begun)), Math.max(...shown.map(({ ended }) => ended ?? LAST)));
+  }],
+  [/^fact only (add|remove|contains)( that returned false)? is wrong: (at least )?(\d+) of its (\d+) answers(?: \((?:(found|missed) an? (?:absent|present) key(?:, and never (?:found|missed) an? (?:absent|present) key)?|the key was (absent|present))\))?(; the final keys are (?:put aside|ignored))?$/,
+    (it, [operation, , atLeast, count, of, way, keyWas, aside], why) => {
+      why.told = wrongAnswers(it, operation, aside !== undefined);
+      return why.told !== null && isTold(why.told, [operation, atLeast, count, of, way, undefined, keyWas]);
+    }],
+  [/^fact only contains is wrong: (at least )?(\d+) of its (\d+) answers \((\d+) found an absent key, (\d+) missed a present key\)(; the final keys are (?:put aside|ignored))?$/,
+    (it, [atLeast, count, of, found, missed, aside], why) => {
+      why.told = wrongAnswers(it, "contains", aside !== undefined);
+      return why.told !== null && isTold(why.told, ["contains", atLeast, count, of, found, missed]);
+    }],
+  [/^fact (\d+) contradictions?(?: of (?:(\d+) of |all )?(\d+) keys)?; (.*)$/, (it, [count, hit, all, kinds]) => {
+    const told = kinds.split("; ").map((kind) => kind.split(": "));
+    const refused = keysOf(it).filter((key) => !hasOrderOf(it, key)).length;
+    return told.every(([kind]) => TALLIED.includes(kind)) && told.reduce((sum, [, many]) => sum + Number(many), 0) === Number(count) && Number(hit ?? all ?? 1) <= refused;
+  }],
+  [/^fact key (\d+) stays (present|absent): then (\w+) at (\d+) returned (true|false)$/, (it, [key, state, operation, begun, reply]) =>
+    it.calls.some((call) => call.key === Number(key) && call.operation === operation && call.begun === Number(begun) && call.reply === reply && needsKey(call) === (state === "present"))],
+  [/^fact the first contradiction of the run: the calls of key (\d+) up to moment (\d+)$/, (it, [key, moment]) =>
+    !hasOrder(ofKey(it, Number(key)).filter(({ begun }) => begun <= Number(moment)), Number(key), opens(it, Number(key)))],
+  [/^(?:fact|because) at (\d+) of (\d+) no two calls overlapped(?:: perhaps one thread alone is enough)?$/, (it, [some, all]) => Number(some) <= Number(all) && isWrongAlone(it)],
+  [/^likely (.*)$/, (it, found, why) => why.because.length === 1],
+  [/^because an? (add|remove) of the key was still running at the wrong answer$/, (it, [operation], { told }) => told !== null && told.wrong.some((call) => runsBeside(it, call, operation))],
+  [/^because (?:it (?:only )?finds absent keys, and )?at (\d+) of (?:the )?(\d+) (?:wrong answers|of these answers) an? (add|remove) of the key (?:was still running|still ran)$/,
+    (it, [some, all, operation], { told }) => told !== null && told.wrong.length === Number(all) && told.wrong.filter((call) => runsBeside(it, call, operation)).length === Number(some)],
+  [/^because at all (\d+) wrong answers an? (add|remove) of the key was still running$/, (it, [all, operation], { told }) =>
+    told !== null && told.wrong.length === Number(all) && told.wrong.every((call) => runsBeside(it, call, operation))],
+  [/^because at all (\d+) wrong answers a change of another key was running$/, (it, [all], { told }) =>
+    told !== null && told.wrong.length === Number(all) && told.wrong.every((call) => it.calls.some((one) => one.key !== call.key && isChange(one) && inTime(one, call.begun, call.ended)))],
+  [/^because it misses present keys$/, (it, found, { told }) => told !== null && told.wrong.some((call) => !needsKey(call))],
+  [/^because it misses present keys and never finds an absent one$/, (it, found, { told }) => told !== null && told.isAll && told.wrong.every((call) => !needsKey(call))],
+  [/^because it is wrong both ways, and add and remove agree$/, (it, found, { told }) => told !== null && told.wrong.some(needsKey) && !told.wrong.every(needsKey)],
+  [/^because (?:remove and contains agree, and add|add and contains agree, and remove) does not$/, (it, found, { told }) => told !== null],
+  [/^because at (\d+) of the (\d+) wrong answers an? (add|remove) of another key was running$/, (it, [some, all, operation], { told }) =>
+    told !== null && told.wrong.length === Number(all) && told.wrong.filter((call) => it.calls.some((one) => one.key !== call.key && one.operation === operation && one.reply === "true" && inTime(one, call.begun, call.ended))).length === Number(some)],
+  [/^because as calls of one key the calls of keys (\d+) and (\d+) have an order$/, (it, [one, two]) => {
+    const both = it.calls.filter(({ key }) => key === Number(one) || key === Number(two)).map((call) => ({ ...call, key: Number(one) }));
+    return opens(it, Number(one)) === opens(it, Number(two)) && hasOrder(both, Number(one), opens(it, Number(one)), null);
+  }],
+  [/^because it never found the keys? of its (?:\d+ )?wrong answers, and found others$/, (it, found, { told }) => {
+    const finds = it.calls.filter((call) => told !== null && call.operation === told.wrong[0].operation && call.reply === "true");
+    return told !== null && finds.length > 0 && finds.every(({ key }) => told.wrong.every((call) => call.key !== key));
+  }],
+  [/^because all is among the first (\d+) calls of a key$/, (it, [count]) => keysOf(it).some((key) => ofKey(it, key).length >= Number(count))],
+];
+
+// ---- runs of broken lists
+
+const OF_LACKING = [
+  [/^Not broken yet: some order explains this run\.$/, isExplained],
+  [/^Not by its linearization points: check refuses that order\.$/, (it) => !it.isOwn],
+  [/^Another order explains these replies\.$/, isExplained],
+  [/^Whether another order explains these replies is not known\.$/, (it) => !it.isOwn && !isDecided(it)],
+  [/^No order of these calls explains that \(proved\)\.$/, (it) => !isExplained(it)],
+  [/^No order explains the calls and the keys left \(proved\)\.$/, (it) => !isExplained(it)],
+  [/^Broken: (\d+) was added once and never removed, and at the end the set does not have it\.$/, (it, [key]) => isLost(it, Number(key))],
+  [/^Broken: no order leaves these keys, which do not increase\.$/, (it) => it.keys.some((key, at) => key <= it.keys[at - 1])],
+  [/^Broken: the calls of key (\d+) have no order\.$/, (it, [key]) => !waysLeft(it.calls, Number(key), it.opening.includes(Number(key))).includes(it.keys.includes(Number(key)))],
+  [/^Broken: (\d+) is (there|not there) at first, and (.*)\.$/, (it, [key, state, second]) => it.opening.includes(Number(key)) === (state === "there") && isToldSo(it, Number(key), null, second)],
+  [/^Broken: (.*), which leaves (\d+) (there|not there), and (.*)\.$/, (it, [first, key, state, second]) => isToldSo(it, Number(key), [first, state === "there"], second)],
+];
+
+// Decides whether the judge decides a report: each call answered true or false, and no thread can exceed the quota.
+function isDecided({ calls, quota }) {
+  const adds = [0, 1, 2].map((thread) => calls.filter((call) => call.thread === thread && call.operation === "add" && mayChange(call)).length);
+  return calls.every(({ reply }) => reply === null || /^(true|false)$/.test(reply)) && Math.max(...adds) <= quota;
+}
+
+function isLost({ calls, opening, keys }, key) {
+  const made = (operation) => calls.filter((call) => call.operation === operation && call.key === key && mayChange(call)).length;
+  return made("add") === 1 && made("remove") === 0 && !opening.includes(key) && !keys.includes(key);
+}
+
+// Decides whether calls of these names, or the opening or final state of the key, contradict each other, and no other call could change that.
+function isToldSo(it, key, first, second) {
+  const looks = it.calls.map((call) => ({ ...asLook(call), told: `${nameIn(call)} ${call.ended === null ? "is open" : `answers ${call.reply}`}` }));
+  const named = (told) => looks.filter((call) => call.key === key && call.told === told);
+  const isPresent = first === null ? it.opening.includes(key) : first[1];
+  const end = /^at the end the set (has it|does not have it)$/.exec(second)?.[1];
+  const firsts = first === null ? [null] : named(first[0]).filter((call) => leaves(call) === isPresent);
+  const seconds = end === undefined ? named(second).filter((call) => needs(call) !== isPresent) : [null].filter(() => it.keys.includes(key) === (end === "has it") && it.keys.includes(key) !== isPresent);
+  const ofKey = { calls: looks };
+  return firsts.some((one) => seconds.some((other) => isNoneBetween(ofKey, key, isPresent ? "remove" : "add", one?.begun ?? 0, other?.ended ?? LAST)));
+}
+
+// A run of a broken list, from its start or after the schedule that breaks it: each line is tried, and kept if the list takes it.
+function drawnRun(ask, name) {
+  const breaking = path.join(__dirname, "..", "..", "examples", "schedules", "lacks", `${name}.schedule`);
+  const opening = [3, 7].filter(() => draw(3) > 0);
+  const start = inPage("scheduleText")({ list: LACKING[name], threads: 2, quota: 2, version: 2, opening });
+  let [text, begun] = [pick([start, fs.readFileSync(breaking, "utf8")]), 0];
+  for (let tries = draw(24); tries > 0; tries--) {
+    const thread = draw(2);
+    const begin = begun < 6 ? [`begin ${thread} ${pick(["add", "remove", "contains", "remove", "add", "ceiling"])} ${pick([3, 5, 5, 7])}`] : [];
+    for (const line of [...begin, pick([`go ${thread} ${1 + draw(9)}`, `go ${thread} out`]), `go ${thread} out`]) {
+      const next = inPage("scheduleOfDraft")(ask, `${text}${line}\n`, name).text;
+      if (next === null || ask("listset_lacking", name, next, "replay").status !== 0) continue;
+      [text, begun] = [next, begun + Number(line.startsWith("begin"))];
+      break;
+    }
+  }
+  return text;
+}
+
+function checkLacking(ask, name) {
+  const schedule = drawnRun(ask, name);
+  const { kind, says, report } = verdictOnLacking(ask, name, schedule);
+  if (report === null) return result.failed.push(`${name}: ${says}: ${schedule}`);
+  const it = { ...readReport(report), quota: quotaIn(report), text: `${name}: ${report}`, isOwn: ask("listset_check", report).text === "ok\n" };
+  return checkSentences(OF_LACKING, it, [...says.split(/(?<=\.) /), ...(kind === "broken" ? [inPage("TO_BREAK")] : [])]);
+}
+
+// ---- the reader's own order of a run
+
+const OF_OWN = [
+  [/^Still missing: (.*)\.$/, (it, [told]) => {
+    const isSaid = (call) => it.level !== "replies" || it.answer.replies.has(call.id);
+    const lacking = it.calls.filter((call) => call.ended !== null && !(it.answer.points.has(call.id) && isSaid(call)));
+    return lacking.map((call) => `the point${isSaid(call) ? "" : " and the reply"} of ${nameIn(call)}`).join(", ") === told;
+  }],
+  [/^check says ok: this order explains the run\.$/, (it) => faultsOf(it).length === 0],
+  [/^It is also the order of the replayer\.$/, (it) => it.answer.order().map(({ call }) => call.id).join() === it.places.map(({ call }) => call).join()],
+  [/^The replayer has another one: both explain the run\.$/, (it) => faultsOf(it).length === 0 && it.answer.order().map(({ call }) => call.id).join() !== it.places.map(({ call }) => call).join()],
+  [/^(\S+ of [A-D]) cannot answer (\S+) there: (before your first call|after (\S+ of [A-D]) in your order) the set is {(.*)}, and it would answer (\S+)\.$/,
+    (it, [name, reply, , other, set, due]) => faultsOf(it).some(({ call, before, keys, answer, said }) =>
+      nameIn(call) === name && said === reply && (before === null ? other === undefined : nameIn(before) === other) && keys.join(", ") === set && answer === due && due !== reply)],
+  [/^(\S+ of [A-D]) does not answer (\S+) in this run\.$/, (it, [name, reply]) => it.answer.order().some(({ call, reply: said }) => nameIn(call) === name && said === reply && call.reply !== said)],
+  [/^Look at what it sees before it answers\.$/, () => true],
+  [/^(\S+ of [A-D]) begins at event (\d+), and in your order it comes before (\S+ of [A-D]), which ended at event (\d+)\.$/, (it, [name, begun, other, ended]) => {
+    const order = it.answer.order().map(({ call }) => call);
+    const isOther = (call) => nameIn(call) === other && call.ended === Number(ended) && call.ended < Number(begun);
+    return order.some((call, at) => nameIn(call) === name && call.begun === Number(begun) && order.slice(at + 1).some(isOther));
+  }],
+  [/^Your order leaves the set {(.*)}; at the end of this run it is {(.*)}\.$/, (it, [left, keys]) => stepsOf(it).at(-1).after.join(", ") === left && keys === it.keys.join(", ") && left !== keys],
+];
+
+const nameIn = (call) => `${call.operation}(${call.key}) of ${"ABCD"[call.thread]}`;
+
+// The places of the reader's order: each call, the one before it, the set before and after it, what it is said to answer and what is due.
+function stepsOf(it) {
+  let [keys, before] = [it.opening, null];
+  const steps = [{ after: keys }];
+  const used = {};
+  for (const { call, reply: said } of it.answer.order()) {
+    const answer = replyOf(call, keys, (used[call.thread] ?? 0) < it.quota);
+    const after = answer === "true" ? keysAfter(call, keys) : keys;
+    if (answer === "true" && call.operation === "add") used[call.thread] = (used[call.thread] ?? 0) + 1;
+    steps.push({ call, before, keys, answer, said, after });
+    [keys, before] = [after, call];
+  }
+  return steps;
+}
+
+const faultsOf = (it) => stepsOf(it).slice(1).filter(({ call, answer, said }) => answer !== said || (call.reply ?? "true") !== said);
+
+// An answer with points somewhere in the bars of the calls.
+function placedAnswer(exercise) {
+  const answer = new OwnAnswer(exercise);
+  for (const call of exercise.calls.filter(({ ended }) => draw(ended === null ? 2 : 30) > 0)) {
+    answer.place(call, call.begun + draw((call.ended ?? exercise.last) - call.begun + 1));
+    answer.say(call, draw(12) === 0 ? pick(["true", "false"]) : call.reply);
+  }
+  return answer;
+}
+
+// An answer that is handed in: the order of the run, with a call moved or missing.
+function writtenAnswer(exercise) {
+  const pieces = exercise.places.map(({ call, reply }) => `${call}-${reply}`);
+  if (draw(2) === 0) pieces.splice(draw(pieces.length), 0, ...pieces.splice(draw(pieces.length), 1));
+  const written = pieces.filter((piece) => exercise.calls[parseInt(piece, 10)].ended !== null || draw(2) === 0);
+  return inPage("answerOfWord")(exercise, written.join()) ?? new OwnAnswer(exercise);
+}
+
+function checkOwn(ask) {
+  const kind = pick(["coarse", "fine", "optimistic", "lazy", "lock-free"]);
+  const whole = ask("listset_gen", [kind, "3", "2", String(3 + draw(6)), "3", String(draw(1e6))].join("\0")).text.split("\n");
+  const schedule = draw(2) === 0 ? whole.join("\n") : `${whole.slice(0, 4 + draw(whole.length - 4)).join("\n")}\n`;
+  const report = ask("listset_replay", schedule).text;
+  const exercise = exerciseOf(report, pick(["points", "replies"]));
+  const answer = draw(2) === 0 ? placedAnswer(exercise) : writtenAnswer(exercise);
+  const it = { ...exercise, quota: 2, answer, text: `${report}${answer.order().map(({ call, reply }) => `${call.id}-${reply}`)}` };
+  const { says } = verdictOn(ask, answer);
+  checkSentences(OF_OWN, it, says.startsWith("Still") ? [says] : says.split(/(?<=\.) /));
+}
+
+async function main() {
+  const engine = await startedEngine();
+  if (engine === null) throw new Error("this node does not run the module");
+  const ask = (name, ...texts) => engine.ask(name, ...texts);
+  for (let number = 0; number < CASES; number++) {
+    checkRecording(ask);
+    checkLacking(ask, Object.keys(LACKING)[number % Object.keys(LACKING).length]);
+    checkOwn(ask);
+  }
+  const isRare = (pattern) => /which do not increase|have no order\\\.|at first, and/.test(pattern.source);
+  const properties = [...OF_RECORDING, ...OF_LACKING, ...OF_OWN];
+  result.failed.push(...properties.filter(([pattern]) => CASES >= 150 && !met.has(pattern) && !isRare(pattern)).map(([pattern]) => `no case has ${pattern}`));
+  console.log(JSON.stringify(result));
+}
+
+main();
