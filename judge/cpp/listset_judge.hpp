@@ -1,16 +1,21 @@
-// Whether runs of a concurrent set of your own are linearizable, in one line of a test:
+// Tests whether a concurrent set of your own is linearizable, in one line of a test:
 //
 //     auto verdict = listset::judge<MySet>();
 //     ASSERT_TRUE(verdict) << verdict;             // GoogleTest; any other: if (!verdict) std::cerr << verdict
 //
-// MySet has add, remove and contains; or insert, erase and contains or count. Threads call fresh sets, and the begin and the end of
-// each call are recorded. A judge says whether any order of the calls explains their replies: liblistset, if <listset.h> is included
-// before this file; else the program that the environment variable LISTSET names, or `listset` of PATH. LISTSET may also name the
-// page's listset.js, which node runs. If this process has one thread, each run has a process of its own, so that a set that crashes
-// or hangs is judged up to there. C++17, with -pthread, on a POSIX system.
+// MySet has add, remove and contains; or insert, erase and contains or count. Threads call new sets, and the begin and
+// the end of each call are recorded. A judge decides whether some order of the calls explains their replies.
+//
+// The judge is liblistset, if <listset.h> is included before this file. Otherwise it is the program that the
+// environment variable LISTSET names, or else `listset` in PATH. LISTSET can also name a listset.js, which node runs.
+// If it is `skip`, nothing is judged.
+//
+// If this process has one thread, each run has a process of its own. If a set crashes or hangs there, its calls so far
+// are judged. C++17, with -pthread, on a POSIX system.
 #pragma once
 #include <algorithm>
 #include <atomic>
+#include <cctype>
 #include <cerrno>
 #include <chrono>
 #include <csignal>
@@ -18,6 +23,7 @@
 #include <cstdio>
 #include <cstdlib>
 #include <cstring>
+#include <ctime>
 #include <exception>
 #include <filesystem>
 #include <fstream>
@@ -43,53 +49,89 @@
 #include <unistd.h>
 #ifdef __linux__
 #include <sys/prctl.h>
+#include <sys/syscall.h>
 #endif
 
 namespace listset {
-#ifdef LISTSET_H  // (two files of one program may differ in this)
+// (two files of one program can differ in these)
+#if defined LISTSET_H && defined GTEST_SKIP
+inline namespace judged_by_library_in_gtest {
+#elif defined LISTSET_H
 inline namespace judged_by_library {
+#elif defined GTEST_SKIP
+inline namespace judged_by_program_in_gtest {
 #else
 inline namespace judged_by_program {
 #endif
 
-// How the set is called. Each is checked before the first set is made.
+/// Options of a test. All are checked before the first set is created.
 struct options {
-    unsigned threads = 0;  // that call a set at once: 1 to 64. 0, here and in the next two: by the presets of runs, in turn
-    unsigned calls = 0;    // of each thread: 1 or more, and 1,000,000,000 at most of all, which rest after each 20,000 until these are written
-    unsigned keys = 0;     // calls are on the keys of the numbers below this: 1 to 1,048,576; half of them on the first four
-    unsigned pauses = 20;  // before how many of 100 calls a thread pauses, for some microseconds at most: 0 to 100
-    unsigned runs = 20;    // sets that are called, or rows of fresh sets: 1 to 1,000,000
-    unsigned seed = 1;     // what the calls, keys and pauses of the first run are drawn from; the next run has the next seed
-    unsigned seconds = 10;   // a run in which no call begins or ends for so long is ended: 1 to 3,600
-    unsigned at_least = 0;   // the verdict is not ok if fewer of 100 calls overlap a change of their key
-    unsigned adds = 1, removes = 1, finds = 1;  // the shares of the three operations
-    bool own_process = true;       // false: in this process, which then crashes with the set (for a debugger, or for coverage)
-    bool opens_with_keys = false;  // true: before the first call, `contains` is asked of each key
-    std::function<void()> begins = nullptr, ends = nullptr;  // at the begin and the end of each thread that calls or makes the set
-    std::string record = "";  // a folder that keeps the recording of each run; else that of a run that fails is kept, in TMPDIR or /tmp
+    /// The number of threads that call a set at once: 1 to 64. 0 uses the presets in turn.
+    unsigned threads = 0;
+    /// The number of calls of each thread: at least 1, and at most 1,000,000,000 for all threads together. 0 uses the presets
+    /// in turn. After each 20,000 calls of all threads, these are written to the file while the threads wait.
+    unsigned calls = 0;
+    /// The number of keys: 1 to 1,048,576. 0 uses the presets in turn. With more than eight keys, half of the calls use the
+    /// first four.
+    unsigned keys = 0;
+    /// The percentage of calls before which a thread pauses, for at most a few microseconds: 0 to 100. Unless it is 0, threads
+    /// in a process of the set's own are also stopped during calls, by the signal SIGURG.
+    unsigned pauses = 20;
+    /// The number of runs: 1 to 1,000,000. A run calls one set, or several new sets one after another.
+    unsigned runs = 20;
+    /// The seed of the calls, keys and pauses of the first run. The next run has the next seed.
+    unsigned seed = 1;
+    /// A run is cut short as hung if no call begins or ends for this many seconds: 1 to 3,600.
+    unsigned seconds = 10;
+    /// No run begins after this many seconds of the test: 1 to 604,800.
+    unsigned within = 60;
+    /// The verdict is false if less than this percentage of the calls overlap a change of their key.
+    unsigned at_least = 0;
+    /// The shares of add, remove and contains.
+    unsigned adds = 1, removes = 1, finds = 1;
+    /// If false, sets are called in this process, which crashes or hangs with them: for debuggers and for coverage.
+    bool own_process = true;
+    /// If true, `contains` is called for each key before all other calls, to record the opening keys.
+    bool opens_with_keys = false;
+    /// Called at the begin and at the end of each thread that calls or creates the set.
+    std::function<void()> begins = nullptr, ends = nullptr;
+    /// The folder that keeps the recording of each run. If empty, only the recording of a failed run is kept: in the folder
+    /// that the variable LISTSET_RECORD names, or else in TMPDIR or in /tmp.
+    std::string record = "";
 };
 
-// True if some order explains each run, each run came to its end, and as many calls overlapped as `at_least` asks. It prints itself.
+/// The result of a test. It is true if some order explains each run, each run reached its end, and at least `at_least` percent
+/// of the calls overlapped. `<<` prints it.
 struct verdict {
     bool ok = true;
-    uint64_t calls = 0, overlapped = 0;  // those of them that overlapped a change of their key, by the judge
-    uint64_t seed = 0;                   // of the run that failed: why, and the file that has its recording
+    /// Whether LISTSET=skip skipped the test, so that nothing was judged.
+    bool is_skipped = false;
+    uint64_t calls = 0;
+    /// The number of calls that overlapped a change of their key, as the judge counted them.
+    uint64_t overlapped = 0;
+    /// The seed of the run that failed.
+    uint64_t seed = 0;
+    /// What the judge printed about the run that failed, and the file with its recording.
     std::string said, file;
-    std::string judge;                   // which it was, and whether it says that it is proved
-    std::string text;                    // what it prints
+    /// The name of the judge, and its statement about its proof.
+    std::string judge;
+    /// The whole message.
+    std::string text;
     explicit operator bool() const { return ok; }
 };
 
 inline std::ostream &operator<<(std::ostream &to, const verdict &it) { return to << it.text; }
 
-// What `judge` throws if nothing is known of the set: an option is out of range, no set could be made, or there is no judge.
+/// The exception of `judge` if nothing is known about the set: an option is out of range, no set could be created, or no judge
+/// was found.
 struct no_verdict : std::runtime_error {
     using std::runtime_error::runtime_error;
 };
 
 namespace judging {
 
-// A run: the threads, the fresh sets one after another, the calls of each thread on each, the keys, and what their numbers are multiples of.
+// The shape of a run: the numbers of threads, of new sets one after another, of calls of each thread on each set, and
+// of keys, which are the multiples of `times`.
 struct shape {
     const char *name;
     unsigned threads, sets, calls, keys, times;
@@ -100,36 +142,39 @@ struct range {
     uint64_t least, most;
 };
 
-// made of words.json by judge/make_words: `longest` in looks at the counter, `part` in calls, `patience` in seconds
+// made of words.json by judge/make_words: `longest` in looks at the counter, `part` and `meet` in calls, `patience` in seconds, `soon` in nanoseconds
 constexpr shape PRESETS[] = {{"few keys", 4, 1, 5000, 4, 1}, {"fresh sets", 4, 40, 10, 4, 1}, {"multiples of 64", 4, 1, 5000, 8, 64}, {"one key", 3, 1, 5000, 1, 1}, {"sets that grow", 4, 20, 125, 64, 1}, {"many keys", 4, 1, 2500, 1000, 1}, {"multiples of 1,000", 8, 1, 2500, 8, 1000}};
-constexpr range RANGES[] = {{"threads", 1, 64}, {"threads times calls", 1, 1000000000}, {"keys", 1, 1048576}, {"pauses", 0, 100}, {"runs", 1, 1000000}, {"seconds", 1, 3600}, {"at_least", 0, 100}, {"the sum of shares", 1, 1000000}};
-constexpr unsigned PART = 20000, LONGEST = 100, HOT = 4, ENOUGH = 5, HARDER = 2, FURTHER = 20, PATIENCE = 3, READABLE = 6, MEET = 250, AWAKE = 300000;
-constexpr const char *OK = "ok: %s calls, of which %s overlapped a change of their key";
-constexpr const char *FEW = "that is few: take more threads, fewer keys or a machine that does less";
-constexpr const char *TOO_FEW = "%s of %s calls overlapped a change of their key, and at_least asks for %s of 100: take more threads, fewer keys or a machine that does less";
-constexpr const char *FAILED_RUN = "seed %s (%s): %s\nrecorded in %s; judge: %s";
-constexpr const char *RANGE = "%s is %s, and has to be %s to %s";
-constexpr const char *TWICE = "the key function gives %s for %s and for %s: let it give each number a key of its own";
+constexpr range RANGES[] = {{"threads", 1, 64}, {"threads times calls", 1, 1000000000}, {"keys", 1, 1048576}, {"pauses", 0, 100}, {"runs", 1, 1000000}, {"seconds", 1, 3600}, {"within", 1, 604800}, {"at_least", 0, 100}, {"the sum of shares", 1, 1000000}};
+constexpr unsigned PART = 20000, LONGEST = 100, HOT = 4, ENOUGH = 5, HARDER = 2, PATIENCE = 10, MEET = 250, AWAKE = 300000, WITHIN = 60, STOPS = 32, SOON = 4000;
+constexpr const char *OK = "ok: %s calls, and %s of them overlapped a change of their key";
+constexpr const char *FEW = "few calls overlapped, so ok means little: %s calls, and %s of them overlapped a change of their key";
+constexpr const char *TOO_FEW = "too few calls overlapped: %s of %s calls overlapped a change of their key, and at_least requires %s of 100. Use fewer keys, more threads, or a less busy machine";
+constexpr const char *FAILED_RUN = "%s\n\nseed %s (%s), %s threads%s; recorded in %s%s; judge: %s";
+constexpr const char *RANGE = "%s is %s, but must be %s to %s";
+constexpr const char *TWICE = "the key function returns %s for %s and for %s, but must return a different key for each number";
 constexpr const char *HUNG = "the set hung: no call began or ended for %s s";
 constexpr const char *CRASHED = "the set crashed: %s";
-constexpr const char *ENDED_SO = "the set ended its process with the status %s";
+constexpr const char *ENDED_SO = "the set ended its process with status %s";
 constexpr const char *THREW = "a call of the set failed: %s";
-constexpr const char *NOT_MADE = "the set could not be made: %s";
-constexpr const char *UNDER_WAY = "%s\nunder way:\n%sup to there: %s";
+constexpr const char *NOT_MADE = "the set could not be created: %s";
+constexpr const char *UNDER_WAY = "%s\npending: %s\nbefore that: %s";
 constexpr const char *EXPLAINED = "some order explains the calls";
-constexpr const char *COUNTED = "%s adds and %s removes of key %s answered true; it was %s at first, and is %s at the end";
-constexpr const char *THERE = "there";
-constexpr const char *NOT_THERE = "not there";
-constexpr const char *KEY_IS = "key %s of the recording is %s";
-constexpr const char *IN_SET = ", in the fresh set %s of the run";
-constexpr const char *NO_FOLDER = "no file can be written in %s: name another folder by record";
-constexpr const char *NO_MEMORY = "there is no memory for the calls of a run";
+constexpr const char *KEY_IS = "; key %s of the recording is %s";
+constexpr const char *IN_SET = ", in set %s of the run";
+constexpr const char *NO_FOLDER = "no file can be written in %s: set record to another folder";
+constexpr const char *NO_MEMORY = "there is not enough memory for the calls of a run";
 constexpr const char *NO_PROCESS = "no process could be started for a run: %s";
-constexpr const char *NO_JUDGE = "%s cannot be run: build listset, and put it in PATH or name it by LISTSET (node runs a listset.js)";
-constexpr const char *NO_VERDICT = "%s gave no verdict, but said: %s. Take a newer listset";
+constexpr const char *NO_JUDGE = "no judge was found: %s cannot be run. Copy the file judge/listset.js of this judge's repository, and set LISTSET to its path (Node 18 runs it); or put the program listset in PATH. LISTSET=skip skips this test";
+constexpr const char *IS_FOLDER = "%s is a folder: set LISTSET to the program in it";
+constexpr const char *NO_VERDICT = "%s printed no verdict, but: %s. Use a newer listset";
+constexpr const char *AND_MORE = "%s, and %s more calls";
+constexpr const char *ALONE = ", the calls that show it in %s";
+constexpr const char *SKIPPED = "skipped: LISTSET is skip";
+constexpr const char *NOT_IN_CI = "LISTSET is skip, but the variable CI is set: in CI no test is skipped";
+constexpr const char *NUMBER = "the variable %s is %s, but must be a number from %s to %s";
 // end of what is made
 
-// The text with what is given in place of each %s.
+// Replaces each %s of a text.
 template <class... With> std::string say(const char *text, const With &...with) {
     std::ostringstream said;
     said.imbue(std::locale::classic());
@@ -145,11 +190,30 @@ template <class... With> std::string say(const char *text, const With &...with) 
 
 inline void check(const options &it) {
     const uint64_t threads = std::max(it.threads, 1u), calls = std::max(it.calls, 1u), shares = uint64_t(it.adds) + it.removes + it.finds;
-    const uint64_t given[] = {threads, threads * calls, std::max(it.keys, 1u), it.pauses, it.runs, it.seconds, it.at_least, shares};
+    const uint64_t given[] = {threads, threads * calls, std::max(it.keys, 1u), it.pauses, it.runs, it.seconds, it.within, it.at_least, shares};
     for (size_t i = 0; i < std::size(RANGES); i++) {
         const auto &[name, least, most] = RANGES[i];
         if (given[i] < least || given[i] > most) throw no_verdict(say(RANGE, name, given[i], least, most));
     }
+}
+
+// Returns the number in an environment variable, or `other` if the variable is not set.
+inline uint64_t number_of(const char *variable, uint64_t other, uint64_t least, uint64_t most) {
+    const char *text = std::getenv(variable);
+    if (!text || !*text) return other;
+    char *end;
+    const unsigned long long found = std::strtoull(text, &end, 10);
+    if (*end || !std::isdigit(static_cast<unsigned char>(*text)) || found < least || found > most) throw no_verdict(say(NUMBER, variable, text, least, most));
+    return found;
+}
+
+// Applies the environment variables. LISTSET_SECONDS repeats runs for this many seconds, with seeds from the current time on;
+// LISTSET_SEED sets the first seed.
+inline options by_environment(options how) {
+    const unsigned seconds = unsigned(number_of("LISTSET_SECONDS", 0, 1, RANGES[6].most));
+    if (seconds) how.within = seconds, how.runs = RANGES[4].most, how.seed = unsigned(std::time(nullptr));
+    how.seed = unsigned(number_of("LISTSET_SEED", how.seed, 0, UINT32_MAX));
+    return how;
 }
 
 inline bool is_few(uint64_t overlapped, uint64_t calls) { return overlapped * 100 < calls * ENOUGH; }
@@ -161,7 +225,10 @@ enum class reply : uint8_t { no, yes, unknown };
 
 inline reply reply_of(bool it) { return it ? reply::yes : reply::no; }
 template <class I> reply reply_of(const std::pair<I, bool> &it) { return reply_of(it.second); }
-inline reply reply_of(const std::optional<bool> &it) { return it ? reply_of(*it) : reply::unknown; }  // (a call that was timed out, say)
+inline reply reply_of(const std::optional<bool> &it) { return it ? reply_of(*it) : reply::unknown; }  // (such as a call that timed out)
+#ifdef LISTSET_HPP  // (for a set of liblistset, if <listset.hpp> is included before this file; a `full` counts as not added)
+inline reply reply_of(added it) { return reply_of(it == added::is_true); }
+#endif
 
 inline constexpr auto by_add = [](auto &set, auto &key) -> decltype(set.add(key)) { return set.add(key); };
 inline constexpr auto by_insert = [](auto &set, auto &key) -> decltype(set.insert(key)) { return set.insert(key); };
@@ -170,7 +237,7 @@ inline constexpr auto by_erase = [](auto &set, auto &key) -> decltype(set.erase(
 inline constexpr auto by_contains = [](auto &set, auto &key) -> decltype(set.contains(key)) { return set.contains(key); };
 inline constexpr auto by_count = [](auto &set, auto &key) -> decltype(set.count(key)) { return set.count(key); };
 
-// Whether a set of such keys has one of these calls, and the reply of the first that it has.
+// Decides whether a set has one of these calls for such keys; `called` makes the first call that the set has.
 template <class S, class K, class... Calls> constexpr bool has(const Calls &...) { return (std::is_invocable_v<Calls, S &, const K &> || ...); }
 
 template <class S, class K, class First, class... Others> reply called(S &set, const K &key, First first, Others... others) {
@@ -178,28 +245,29 @@ template <class S, class K, class First, class... Others> reply called(S &set, c
     else return called(set, key, others...);
 }
 
-// ---- a run, written down as it goes
+// ---- a run, and its recording
 
 enum phase { GOING, OVER, FAILED, UNMADE };
 
-// A call as its thread writes it: at its begin, and again at its end. A thread goes on under a new number after a reply that is not known.
+// A call as its thread records it, at its begin and at its end. After an unknown reply the thread continues with a new
+// thread number.
 struct slot {
     unsigned thread, key;
     kind call;
     reply answer;
-    std::atomic<unsigned> begin, end;  // 0 as long as it has none
+    std::atomic<unsigned> begin, end;  // 0 until they happen
 };
 
-// A run in memory that its process shares with this one: the calls since those in its file.
+// The memory of a run, which processes can share. It has the calls that are not yet in the file.
 struct area {
     const shape of;
     const uint64_t seed;
-    const unsigned rows, parts, rounds;  // the calls of each thread in a part, of which the last may have fewer; the parts of a set, and of all
-    slot *slots = nullptr;               // those of each thread in turn
+    const unsigned rows, parts, rounds;  // the calls of each thread in a part (the last one can have fewer); the parts of a set; the parts of all sets
+    slot *slots = nullptr;               // the calls of each thread in turn
     std::atomic<unsigned> tickets{0}, there{0}, done{0}, begun{0};
-    std::atomic<uint64_t> written{0};  // the bytes of the file
+    std::atomic<uint64_t> written{0};  // the length of the file
     std::atomic<phase> at{GOING};
-    std::atomic<bool> is_stopping{false};
+    std::atomic<bool> is_stopping{false}, is_busy{false};
     char why[240] = "";
 
     area(const shape &it, uint64_t of_seed)
@@ -216,14 +284,14 @@ struct area {
 
     size_t count() const { return size_t(of.threads) * rows; }
 
-    // Does this; what it throws is written down, the first alone.
+    // Calls a function, and stores the exception that it throws. Only the first one is kept.
     template <class F> void tries(phase as, F call) {
         try {
             call();
         } catch (const std::exception &thrown) {
             fail(as, thrown.what());
         } catch (...) {
-            fail(as, "what is no std::exception");
+            fail(as, "a thrown value that is no std::exception");
         }
     }
 
@@ -233,17 +301,21 @@ struct area {
         at = as;
     }
 
-    // Waits, for so many looks awake; false if the run stops.
+    // Waits until `is_done`: polls `awake` times, then sleeps between polls. Returns false if the run was stopped.
     template <class Done> bool waits(Done is_done, unsigned awake = LONGEST) const {
         for (unsigned waited = 0; !is_done() && !is_stopping; waited++)
             if (waited >= awake) std::this_thread::sleep_for(std::chrono::microseconds(20));
         return !is_stopping;
     }
 
-    // Waits until all threads are here, awake if each may have a processor, so that all go on at once.
+    // Waits until all threads are here, so that they continue at once. Polls without sleeping if each thread can have a
+    // processor, unless such a wait took too long before.
     void meet() {
         const unsigned all = there++ / of.threads * of.threads + of.threads;
-        waits([&] { return there >= all; }, of.threads <= std::thread::hardware_concurrency() ? AWAKE : LONGEST);
+        const unsigned awake = of.threads <= std::thread::hardware_concurrency() && !is_busy ? AWAKE : LONGEST;
+        unsigned looks = 0;
+        waits([&] { return looks++, there >= all; }, awake);
+        if (looks > AWAKE) is_busy = true;
     }
 };
 
@@ -254,12 +326,14 @@ inline std::string line_of(const slot &it, unsigned end) {
     return text + (is_open ? "- -\n" : std::to_string(end) + (it.answer == reply::yes ? " true\n" : " false\n"));
 }
 
-// The lines of the calls of a part by their begins, and those of the calls under way.
+// Returns the lines of the calls in memory, in the order of their begins, and the lines of the pending ones. Threads can
+// still make calls: a call that begins later than now is left out, and a call that ends later is pending.
 inline std::pair<std::string, std::string> lines_of(const area &from) {
+    const unsigned now = from.tickets;
     std::map<unsigned, std::pair<const slot *, unsigned>> found;
     for (size_t i = 0; i < from.count(); i++) {
         const unsigned end = from.slots[i].end, begin = from.slots[i].begin;
-        if (begin > 0) found[begin] = {&from.slots[i], end};
+        if (begin > 0 && begin <= now) found[begin] = {&from.slots[i], end > now ? 0 : end};
     }
     std::string lines, under_way;
     for (const auto &[begin, it] : found) {
@@ -269,7 +343,54 @@ inline std::pair<std::string, std::string> lines_of(const area &from) {
     return {lines, under_way};
 }
 
-// What makes a run.
+// Stops its thread some microseconds after some of its calls have begun, whatever it does then, by SIGURG from a timer.
+// On Linux only.
+struct stops {
+#ifdef __linux__
+    int timer = -1;
+    std::mt19937 draw;
+
+    static void stop(int) {
+        const int before = errno;
+        const timespec some = {0, 1000};
+        nanosleep(&some, nullptr);
+        errno = before;
+    }
+
+    // Is called before each of `calls` calls. Starts the timer before a few of them.
+    void before_call(uint64_t calls) {
+        if (timer < 0 || draw() % calls >= STOPS) return;
+        itimerspec in = {};
+        in.it_value.tv_nsec = long(1 + draw() % SOON);
+        syscall(SYS_timer_settime, timer, 0, &in, nullptr);
+    }
+
+    stops(bool is_asked, uint64_t seed) : draw(uint32_t(seed)) {
+        struct sigaction rests = {};
+        rests.sa_handler = stop;
+        rests.sa_flags = SA_RESTART;
+        sigevent event = {};
+        event.sigev_notify = SIGEV_THREAD_ID;
+        event.sigev_signo = SIGURG;
+        const auto thread = pid_t(syscall(SYS_gettid));
+#ifdef sigev_notify_thread_id
+        event.sigev_notify_thread_id = thread;
+#else
+        event._sigev_un._tid = thread;
+#endif
+        if (!is_asked || sigaction(SIGURG, &rests, nullptr) != 0) return;
+        if (syscall(SYS_timer_create, CLOCK_MONOTONIC, &event, &timer) != 0) timer = -1;
+    }
+    ~stops() {
+        if (timer >= 0) syscall(SYS_timer_delete, timer);
+    }
+#else
+    stops(bool, uint64_t) {}
+    void before_call(uint64_t) {}
+#endif
+};
+
+// Creates the sets of a run and calls them.
 template <class Make, class K> struct maker {
     using pointer = std::invoke_result_t<Make &>;
     using set_type = typename std::pointer_traits<pointer>::element_type;
@@ -303,8 +424,8 @@ template <class Make, class K> struct maker {
         return unsigned(draw()) % below;
     }
 
-    // The calls of a thread on a set.
-    void call_set(area &run, unsigned thread, unsigned round, unsigned &number, std::mt19937 &draw) {
+    // Makes the calls of one thread on a set, in one part.
+    void call_set(area &run, unsigned thread, unsigned round, unsigned &number, std::mt19937 &draw, stops &own) {
         set_type &its = *set;
         slot *at = run.slots + size_t(thread) * run.rows;
         const unsigned count = std::min(run.rows, run.of.calls - round % run.parts * run.rows);
@@ -315,6 +436,7 @@ template <class Make, class K> struct maker {
             at->call = drawn(draw);
             at->key = round / run.parts * run.of.keys + key;
             for (unsigned pause = draw() % 100 < how.pauses ? unsigned(draw()) % LONGEST : 0; pause > 0; pause--) run.tickets.load();
+            own.before_call(uint64_t(run.of.sets) * run.of.calls);
             at->begin.store(++run.tickets, std::memory_order_release);
             const reply given = call(at->call, its, keys[key]);
             at->answer = given;
@@ -323,18 +445,19 @@ template <class Make, class K> struct maker {
         }
     }
 
-    void call_in_rounds(area &run, unsigned thread) {
+    void call_in_rounds(area &run, unsigned thread, bool is_stopped) {
         std::mt19937 draw(uint32_t(run.seed * 64 + thread));
+        stops own(is_stopped, run.seed * 64 + thread);
         unsigned number = thread;
         if (how.begins) how.begins();
         for (unsigned round = 0; round < run.rounds && run.waits([&] { return run.begun > round; }); round++) {
-            run.tries(FAILED, [&] { call_set(run, thread, round, number, draw); });
+            run.tries(FAILED, [&] { call_set(run, thread, round, number, draw, own); });
             run.done++;
         }
         if (how.ends) how.ends();
     }
 
-    // The lines of the keys that the set of a round has.
+    // Calls `contains` for each key. Returns a line for each key found.
     std::string lines_of_keys(area &run, const char *word, unsigned round) {
         std::string lines;
         for (unsigned key = 0; key < run.of.keys; key++, run.tickets++)
@@ -348,7 +471,7 @@ template <class Make, class K> struct maker {
         for (size_t i = 0; i < run.count(); i++) run.slots[i].begin = run.slots[i].end = 0;
     }
 
-    // Makes each set and has the threads call it; writes each part once it is made.
+    // Creates each set and starts the threads on it, part by part. Writes each part when its calls have ended.
     void lead(area &run, pointer &own) {
         std::string left, lines = "listset-calls 1\n";
         for (unsigned round = 0; round < run.rounds; round++, lines = "") {
@@ -369,14 +492,14 @@ template <class Make, class K> struct maker {
         write(run, left + "end\n");
     }
 
-    // Calls sets, to the end.
-    void all(area &run) {
+    // Runs all threads. They are stopped during calls if `is_own`: the process is the set's own.
+    void all(area &run, bool is_own) {
         std::vector<std::thread> threads;
         for (unsigned i = 0; i < run.of.threads; i++)
-            threads.emplace_back([&run, this, i] { run.tries(FAILED, [&] { call_in_rounds(run, i); }); });
+            threads.emplace_back([&run, this, is_own, i] { run.tries(FAILED, [&] { call_in_rounds(run, i, is_own && how.pauses > 0); }); });
         if (how.begins) how.begins();
         {
-            pointer own{};  // (threads may call it as long as they are)
+            pointer own{};  // (threads can call the set as long as they run)
             run.tries(FAILED, [&] { lead(run, own); });
             for (auto &it : threads) it.join();
         }
@@ -385,7 +508,7 @@ template <class Make, class K> struct maker {
     }
 };
 
-// Waits until `is_done`; false if no call begins or ends for too long before that.
+// Waits until `is_done`. Returns false if no call begins or ends for `seconds` before that.
 template <class Done> bool comes_to_end(const area &run, unsigned seconds, Done is_done) {
     using clock = std::chrono::steady_clock;
     unsigned seen = run.tickets;
@@ -399,14 +522,15 @@ template <class Done> bool comes_to_end(const area &run, unsigned seconds, Done 
     return true;
 }
 
-// Whether no thread but this is in the process, whose copy another could leave in the middle of anything.
+// Decides whether this thread is the only one of its process. Another thread could hold a lock when the process is
+// copied.
 inline bool is_alone() {
     std::error_code none;
     const std::filesystem::directory_iterator threads("/proc/self/task", none);
     return std::distance(begin(threads), end(threads)) <= 1;
 }
 
-// Makes a run in a process of its own; gives how it was cut short, or nothing.
+// Makes a run in a child process. Returns why it was cut short, or an empty text.
 template <class Maker> std::string made_in_child(Maker &by, area &run) {
     const pid_t process = fork();
     if (process < 0) throw no_verdict(say(NO_PROCESS, strerror(errno)));
@@ -414,7 +538,7 @@ template <class Maker> std::string made_in_child(Maker &by, area &run) {
 #ifdef __linux__
         prctl(PR_SET_PDEATHSIG, SIGKILL);
 #endif
-        by.all(run);
+        by.all(run, true);
         _exit(0);
     }
     int status = 0;
@@ -424,15 +548,16 @@ template <class Maker> std::string made_in_child(Maker &by, area &run) {
         return say(HUNG, by.how.seconds);
     }
     if (WIFSIGNALED(status)) return say(CRASHED, strsignal(WTERMSIG(status)));
-    const int ended = WEXITSTATUS(status);  // (not 0 if the set ended its process while it was destroyed, as a sanitizer does)
+    const int ended = WEXITSTATUS(status);  // (not 0 if the set ended its process in its destructor, as a sanitizer does)
     return run.at < OVER || ended != 0 ? say(ENDED_SO, ended) : "";
 }
 
-// The same in threads of this process, which stay if they hang.
+// Makes a run in threads of this process. Threads that hang are left running. Returns why the run was cut short, or an
+// empty text.
 template <class Maker> std::string made_here(std::shared_ptr<Maker> by, std::shared_ptr<area> run) {
     const auto is_over = std::make_shared<std::atomic<bool>>(false);
     std::thread leader([=] {
-        by->all(*run);
+        by->all(*run, false);
         *is_over = true;
     });
     if (comes_to_end(*run, by->how.seconds, [&] { return is_over->load(); })) {
@@ -446,7 +571,7 @@ template <class Maker> std::string made_here(std::shared_ptr<Maker> by, std::sha
 
 // ---- the judge
 
-// The status of a command or of the library, and what it says.
+// The exit status and the output of a command or of the library.
 struct answer {
     int status;
     std::string said;
@@ -454,16 +579,17 @@ struct answer {
 
 inline std::string stripped(const std::string &text) { return text.substr(0, text.find_last_not_of('\n') + 1); }
 
-// The line in which a judge says whether it is proved.
+// Returns the line that states whether a judge is proved.
 inline std::string proof_in(const std::string &version) {
     const size_t at = ("\n" + version).find("\nproof ");
     return at == std::string::npos ? "proof unknown" : version.substr(at, version.find('\n', at) - at);
 }
 
-// A judge: its name, what it says of its proof, and of the recording in a file.
+// A judge: its name, its statement about its proof, and how to call it.
 struct judge_found {
     std::string name, proof;
     std::function<answer(const std::string &file)> asked_of;
+    std::function<std::string(const std::string &file, const std::string &key)> only = nullptr;  // returns the recording of one key
 };
 
 #ifdef LISTSET_H
@@ -476,7 +602,7 @@ inline answer asked_of(const std::string &file) {
     return {status, stripped(room)};
 }
 
-inline judge_found find_judge() { return {"liblistset", proof_in(listset_version()), asked_of}; }
+inline judge_found find_judge() { return {"liblistset", proof_in(listset_version()), asked_of, nullptr}; }
 #else
 inline answer ran(const std::string &command) {
     FILE *made = popen(("exec " + command).c_str(), "r");
@@ -493,73 +619,51 @@ inline std::string quoted(const std::string &word) {
     return text + "'";
 }
 
+// Decides whether a command exists. Without this check the shell would print a message of its own.
+inline bool is_command(const std::string &name) { return !std::system(("command -v " + quoted(name) + " >/dev/null 2>&1").c_str()); }
+
 inline judge_found find_judge() {
     const char *named = std::getenv("LISTSET");
     const std::string name = named && *named ? named : "listset";
     const bool is_script = std::filesystem::path(name).extension() == ".js";
+    if (std::filesystem::is_directory(name)) throw no_verdict(say(IS_FOLDER, name));
+    if (!is_command(is_script ? "node" : name)) throw no_verdict(say(NO_JUDGE, name));
     const std::string command = (is_script ? "node " : "") + quoted(name);
-    const answer version = ran(command + " --version --long");  // (what it says of a judge that it builds is for the user's eyes)
+    const answer version = ran(command + " --version --long");  // (the user sees what a judge prints while it is built)
     if (version.status == 127) throw no_verdict(say(NO_JUDGE, name));
     return {name, proof_in(version.said), [command](const std::string &file) {
                 const std::string asked = command + " judge " + quoted(file);
                 const answer given = ran(asked + " 2>/dev/null");
                 return given.said.empty() ? ran(asked + " 2>&1") : given;
+            },
+            [command](const std::string &file, const std::string &key) {
+                const answer given = ran(command + " judge --only " + key + " " + quoted(file) + " 2>/dev/null");
+                return given.status == 0 ? given.said + "\n" : "";
             }};
 }
 #endif
 
-// What a judge says of a recording that no order explains; nothing if some order does.
-struct refusal {
-    std::string said, key;  // the key of which it speaks
-    size_t calls = 0;
-
-    refusal(const std::string &text = "") : said(text) {
-        if (const size_t at = text.find("of key "); at != std::string::npos) std::istringstream(text.substr(at + 7)) >> key;
-        for (size_t at = 0; (at = text.find("\ncall ", at)) != std::string::npos; at++) calls++;
-        if (text.find(" belong to these") != std::string::npos) calls += 1000;  // (which are not printed)
-    }
-    size_t rank() const { return calls > 1 ? calls : 999; }  // (a refusal of one call alone comes last)
-};
-
-// That, and how many calls overlapped a change of their key.
-inline std::pair<refusal, uint64_t> judged(const judge_found &by, const std::string &file) {
+// Judges a recording. Returns what the judge printed if no order explains the calls, otherwise an empty text; and how
+// many calls overlapped a change of their key.
+inline std::pair<std::string, uint64_t> judged(const judge_found &by, const std::string &file) {
     const auto [status, said] = by.asked_of(file);
     const std::string first = said.substr(0, said.find('\n'));
     unsigned long long overlapped;
     if (status == 1 && first == "not linearizable") return {said, 0};
-    if (status == 0 && sscanf(said.c_str(), "ok %*u calls\n%llu of them", &overlapped) == 1) return {{}, overlapped};
+    if (status == 0 && sscanf(said.c_str(), "ok %*u calls\n%llu of them", &overlapped) == 1) return {"", overlapped};
     throw no_verdict(say(NO_VERDICT, by.name, first.empty() ? "nothing" : first));
 }
 
-// That the calls of a key that answered true do not fit to how it was, in words; else nothing.
-inline std::string count_of(const std::string &file, const std::string &key) {
-    std::ifstream recorded(file);
-    std::map<std::string, uint64_t> trues;
-    bool was_there = false, is_there = false;
-    for (std::string line; std::getline(recorded, line);) {
-        std::istringstream words(line);
-        std::string call, thread, word, its_key, begin, end, answer;
-        words >> call >> thread >> word >> its_key >> begin >> end >> answer;
-        if (call == "cut" || (its_key == key && answer == "-")) return "";
-        if (its_key == key && answer == "true") trues[word]++;
-        was_there = was_there || line == "opening " + key;
-        is_there = is_there || line == "key " + key;
-    }
-    const uint64_t adds = trues["add"], removes = trues["remove"];
-    if (was_there + adds == is_there + removes) return "";
-    return say(COUNTED, adds, removes, key, was_there ? THERE : NOT_THERE, is_there ? THERE : NOT_THERE);
+// Returns the number of the key that a refusal names.
+inline std::string key_in(const std::string &refused) {
+    std::string key;
+    if (const size_t at = refused.find("of key "); at != std::string::npos) std::istringstream(refused.substr(at + 7)) >> key;
+    return key;
 }
 
-// What the judge says; or, in place of many calls, what their count shows.
-inline std::string explained(const refusal &it, const std::string &file) {
-    const std::string counted = it.calls > READABLE ? count_of(file, it.key) : "";
-    if (counted.empty()) return it.said;
-    return it.said.substr(0, it.said.find('\n', it.said.find('\n') + 1)) + "\n" + counted;
-}
+// ---- a test: runs, one after another
 
-// ---- runs, one after another
-
-// The file into which a run is written as it grows.
+// The file with the recording of a run, which grows during the run. Deleted at the end unless it is kept.
 struct recording {
     std::string path;
     bool is_kept;
@@ -567,9 +671,10 @@ struct recording {
     recording(const options &how, uint64_t seed) : is_kept(!how.record.empty()) {
         static std::atomic<unsigned> files{0};
         std::error_code none;
-        const std::string folder = is_kept ? how.record : std::filesystem::temp_directory_path(none).string();
+        const char *named = std::getenv("LISTSET_RECORD");
+        const std::string folder = is_kept ? how.record : named && *named ? named : std::filesystem::temp_directory_path(none).string();
         const std::string name = "seed-" + std::to_string(seed), others = std::to_string(getpid()) + "-" + std::to_string(++files);
-        if (is_kept) std::filesystem::create_directories(folder, none);
+        std::filesystem::create_directories(folder, none);
         path = folder + (is_kept ? "/" + name : "/listset-" + name + "-" + others) + ".calls";
         if (!std::ofstream(path)) throw no_verdict(say(NO_FOLDER, folder));
     }
@@ -579,19 +684,20 @@ struct recording {
     }
 };
 
-// Ends the recording of a run that was cut short; gives the calls under way.
+// Ends the recording of a run that was cut short. Returns the first pending call, and how many more there are.
 inline std::string cut(const area &run, const std::string &path, const std::string &trouble) {
     if (run.tickets == 0) throw no_verdict(say(NOT_MADE, trouble));
     const auto [lines, under_way] = lines_of(run);
     std::filesystem::resize_file(path, run.written);
     std::ofstream(path, std::ios::app) << lines << "cut\n";
-    return under_way;
+    const auto count = std::count(under_way.begin(), under_way.end(), '\n');
+    const std::string first = under_way.substr(0, under_way.find('\n'));
+    return count > 1 ? say(AND_MORE, first, count - 1) : count == 1 ? first : "no call";
 }
 
 struct outcome {
     uint64_t seed = 0, calls = 0, overlapped = 0;
-    std::string name, said, file;
-    refusal refused;
+    std::string said = "", file = "", text = "";  // of a run that failed; `text` is the whole message
 };
 
 struct number {
@@ -617,7 +723,7 @@ template <class Make, class Key> struct tester {
     const Make &make;
     const Key &key;
 
-    // The preset of a seed, with what the options say.
+    // Returns the preset for a seed, changed by the options.
     shape shape_of(uint64_t seed) const {
         shape it = PRESETS[(seed + std::size(PRESETS) - 1) % std::size(PRESETS)];
         if (how.threads) it.threads = how.threads;
@@ -630,9 +736,12 @@ template <class Make, class Key> struct tester {
         return it;
     }
 
-    // With more threads and fewer keys, where the options leave them open.
+    // Returns a shape whose calls overlap more: more threads, even more than processors, and fewer keys, unless the
+    // options set them. The number of all calls does not grow.
     shape harder(shape it) const {
-        if (!how.threads) it.threads = std::min(2 * it.threads, 8u);
+        const unsigned before = it.threads;
+        if (!how.threads) it.threads = std::min(std::max(2 * it.threads, std::thread::hardware_concurrency() + 2), 64u);
+        if (!how.calls) it.calls = std::max(it.calls * before / it.threads, 1u);
         if (!how.keys) it.keys = std::max(it.keys / 2, 1u);
         return it;
     }
@@ -648,12 +757,12 @@ template <class Make, class Key> struct tester {
         return keys;
     }
 
-    // Which key of which set the judge names, if its number does not say so.
+    // Describes the key of a number in the recording, and its set if the run has several. Empty if the number is enough.
     static std::string key_line(const std::string &number, const shape &it, const std::vector<K> &keys) {
         if (number.empty()) return "";
         const unsigned long at = std::stoul(number);
         const std::string name = shown(keys[at % it.keys]), set = it.sets > 1 ? say(IN_SET, at / it.keys + 1) : "";
-        return name == number && set.empty() ? "" : "\n" + say(KEY_IS, number, name) + set;
+        return name == number && set.empty() ? "" : say(KEY_IS, number, name) + set;
     }
 
     outcome judged_run(uint64_t seed, const shape &it) const {
@@ -665,66 +774,80 @@ template <class Make, class Key> struct tester {
         if (run->at == FAILED) trouble = run->why;
         const std::string under_way = trouble.empty() ? "" : cut(*run, text.path, trouble);
         const auto [refused, overlapped] = judged(by, text.path);
-        outcome found{seed, uint64_t(it.threads) * it.sets * it.calls, overlapped, it.name, "", text.path, refused};
-        if (!refused.said.empty()) found.said = explained(refused, text.path) + key_line(refused.key, it, by_maker->keys);
-        if (!trouble.empty()) {
-            found.said = say(UNDER_WAY, trouble, under_way, found.said.empty() ? EXPLAINED : found.said);
-            found.refused = {};
-        }
-        text.is_kept = text.is_kept || !found.said.empty();
+        outcome found{seed, uint64_t(it.threads) * it.sets * it.calls, overlapped};
+        if (trouble.empty() && refused.empty()) return found;
+        text.is_kept = true;
+        const std::string number = key_in(refused), name = key_line(number, it, by_maker->keys);
+        found.said = trouble.empty() ? refused : say(UNDER_WAY, trouble, under_way, refused.empty() ? EXPLAINED : refused);
+        found.file = text.path;
+        found.text = say(FAILED_RUN, found.said, seed, it.name, it.threads, name, text.path, alone(text.path, number), by.name + ", " + by.proof);
         return found;
     }
 
-    // Of the refusal and of further runs, the one that has the fewest calls, and two at least.
-    outcome smallest(outcome found) const {
-        const auto until = std::chrono::steady_clock::now() + std::chrono::seconds(PATIENCE);
-        uint64_t seed = found.seed;
-        for (unsigned i = 0; i < FURTHER && found.refused.rank() > READABLE / 2 && std::chrono::steady_clock::now() < until; i++) {
-            seed += std::size(PRESETS);
-            outcome other = judged_run(seed, shape_of(seed));
-            if (!other.refused.said.empty() && other.refused.rank() < found.refused.rank()) std::swap(found, other);
-            if (how.record.empty() && !other.said.empty()) std::remove(other.file.c_str());
-        }
-        return found;
+    // Writes the calls that show a refusal to a small file beside the recording. Returns the part of the message that
+    // names the file.
+    std::string alone(const std::string &path, const std::string &number) const {
+        const std::string text = number.empty() || !by.only ? "" : by.only(path, number), file = path.substr(0, path.size() - 6) + "-key-" + number + ".calls";
+        return !text.empty() && std::ofstream(file) << text << std::flush ? say(ALONE, file) : "";
     }
 
     verdict all() const {
+        using clock = std::chrono::steady_clock;
         verdict all;
         all.judge = by.name + ", " + by.proof;
-        const auto until = std::chrono::steady_clock::now() + std::chrono::seconds(PATIENCE);
+        const auto until = clock::now() + std::chrono::seconds(how.within), patience = clock::now() + std::chrono::seconds(PATIENCE);
         outcome found;
-        for (uint64_t seed = how.seed; found.said.empty() && seed < uint64_t(how.seed) + how.runs; seed++) {
+        auto run = [&](uint64_t seed, const shape &it) {
+            found = judged_run(seed, it);
+            all.calls += found.calls;
+            all.overlapped += found.overlapped;
+            return found.said.empty();
+        };
+        uint64_t seed = how.seed, runs = 0;
+        for (; found.said.empty() && runs < how.runs && (runs == 0 || clock::now() < until); seed++, runs++) {
             shape it = shape_of(seed);
-            for (unsigned tries = 0; tries <= HARDER && found.said.empty(); tries++, it = harder(it)) {
-                found = judged_run(seed, it);
-                all.calls += found.calls;
-                all.overlapped += found.overlapped;
-                if (!is_few(found.overlapped, found.calls) || std::chrono::steady_clock::now() > until) break;
-            }
+            for (unsigned tries = 0; run(seed, it) && tries < HARDER && is_few(found.overlapped, found.calls) && clock::now() < patience; tries++) it = harder(it);
         }
+        const auto end = std::min(until, clock::now() + std::chrono::seconds(PATIENCE));
+        for (; found.said.empty() && is_few(all.overlapped, all.calls) && clock::now() < end; seed++) run(seed, harder(harder(shape_of(seed))));
         if (found.said.empty()) return passed(all);
-        if (!found.refused.said.empty()) found = smallest(found);
-        const std::string text = say(FAILED_RUN, found.seed, found.name, found.said, found.file, all.judge);
-        return {false, all.calls, all.overlapped, found.seed, found.said, found.file, all.judge, text};
+        all.ok = false, all.seed = found.seed, all.said = found.said, all.file = found.file, all.text = found.text;
+        return all;
     }
 
-    // The verdict on runs that are right; they may have met too little.
+    // Returns the verdict if no run failed. It is false if too few calls overlapped.
     verdict passed(verdict all) const {
         const bool few = is_few(all.overlapped, all.calls);
-        all.text = say(OK, all.calls, all.overlapped) + (few ? std::string("; ") + FEW : "") + "; judge: " + all.judge;
-        if (few) fprintf(stderr, "listset: %s\n", all.text.c_str());  // (a test that passes may show no verdict)
+        all.text = say(few ? FEW : OK, all.calls, all.overlapped) + "; judge: " + all.judge;
+        if (few) fprintf(stderr, "listset: %s\n", all.text.c_str());  // (a test that passes can hide the verdict)
         all.ok = all.overlapped * 100 >= all.calls * how.at_least;
         if (!all.ok) all.text = all.said = say(TOO_FEW, all.overlapped, all.calls, how.at_least);
         return all;
     }
 };
 
+// Returns the verdict if LISTSET is `skip`. Skips the test, if GoogleTest is included before this file.
+inline verdict skipped() {
+    if (const char *ci = std::getenv("CI"); ci && *ci) throw no_verdict(NOT_IN_CI);
+    verdict none;
+    none.is_skipped = true, none.text = SKIPPED;
+#ifdef GTEST_SKIP
+    [] { GTEST_SKIP() << SKIPPED; }();
+#else
+    fprintf(stderr, "listset: %s\n", SKIPPED);
+#endif
+    return none;
+}
+
 }  // namespace judging
 
-// Judges the sets that `make` makes: it gives a pointer that owns one. `key` gives the key of a number, each another one.
+/// Judges the sets that `make` creates. `make` returns a pointer that owns a set. `key` returns the key of a number, and must
+/// return a different key for each number.
 template <class S, class Make = judging::made<S>, class Key = judging::number> verdict judge(const options &how = {}, Make make = {}, Key key = {}) {
     judging::check(how);
-    return judging::tester<Make, Key>{how, judging::find_judge(), make, key}.all();
+    if (const char *named = std::getenv("LISTSET"); named && named == std::string("skip")) return judging::skipped();
+    const options settled = judging::by_environment(how);
+    return judging::tester<Make, Key>{settled, judging::find_judge(), make, key}.all();
 }
 
 }  // inline namespace

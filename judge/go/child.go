@@ -7,6 +7,7 @@ import (
 	"errors"
 	"fmt"
 	"io"
+	"math/rand"
 	"os"
 	"os/exec"
 	"regexp"
@@ -17,10 +18,10 @@ import (
 	"time"
 )
 
-// fileName is the variable that tells a process of its own the file with the memory of a run.
+// fileName is the variable that names the file with the shared memory of a run.
 const fileName = "LISTSET_AREA"
 
-// child is a process that runs a test again, up to its Check, and makes runs there.
+// child is a process that runs a test again up to its Check, and makes runs there.
 type child struct {
 	*area
 	process *exec.Cmd
@@ -28,7 +29,7 @@ type child struct {
 	over    chan bool
 }
 
-// inChild gives the caller of the Check of this name; in the process of its own it makes the runs, and does not come back.
+// inChild returns the caller of the Check with this name. In the child process it makes the runs and never returns.
 func inChild(name string, a *area) (caller, error) {
 	c := &child{area: a, over: make(chan bool)}
 	if os.Getenv(checkName) == name {
@@ -49,7 +50,7 @@ func inChild(name string, a *area) (caller, error) {
 	return c, c.start(name, file.Name())
 }
 
-// share has the run written down in a file that processes share.
+// share maps the file into memory, and records the run there.
 func (c *child) share(file *os.File) error {
 	memory, err := syscall.Mmap(int(file.Fd()), 0, c.bytes(), syscall.PROT_READ|syscall.PROT_WRITE, syscall.MAP_SHARED)
 	if err == nil {
@@ -58,7 +59,7 @@ func (c *child) share(file *os.File) error {
 	return err
 }
 
-// start starts the process, and waits until it has come to the Check.
+// start starts the process, and waits until it has reached the Check.
 func (c *child) start(name, file string) error {
 	pieces := strings.Split(name[:strings.LastIndex(name, "#")], "/")
 	for i, piece := range pieces {
@@ -67,7 +68,7 @@ func (c *child) start(name, file string) error {
 	c.process = exec.Command(os.Args[0], "-test.run="+strings.Join(pieces, "/"))
 	c.process.Env = append(os.Environ(), checkName+"="+name, fileName+"="+file)
 	c.process.Stderr = io.MultiWriter(&c.errors, os.Stderr) // (which has the stacks)
-	_, err := c.process.StdinPipe()                         // (this process holds its other end, and so ends that one)
+	_, err := c.process.StdinPipe()                         // (this process holds the other end: if it ends, the child ends too)
 	if err == nil {
 		err = c.process.Start()
 	}
@@ -121,7 +122,7 @@ func (c *child) stop() {
 	syscall.Munmap(c.memory)
 }
 
-// serve makes the runs that another process asks for, as long as it is there.
+// serve makes the runs that the parent process asks for, until the parent ends.
 func (c *child) serve() {
 	file, err := os.OpenFile(os.Getenv(fileName), os.O_RDWR, 0)
 	if err != nil || c.share(file) != nil {
@@ -135,9 +136,26 @@ func (c *child) serve() {
 	for ; ; time.Sleep(100 * time.Microsecond) {
 		if atomic.LoadUint32(&c.at) == going {
 			if most := c.threads + 1; runtime.GOMAXPROCS(0) < most {
-				runtime.GOMAXPROCS(most) // (so that none of them waits until another one stops)
+				runtime.GOMAXPROCS(most) // (so that no goroutine waits until another one stops)
+			}
+			isOver := make(chan bool)
+			if c.options.Pauses > 0 {
+				go interrupt(c.seed, isOver)
 			}
 			c.callAll()
+			close(isOver)
+		}
+	}
+}
+
+// interrupt stops all goroutines for a moment during their calls, again and again. They continue in another order.
+func interrupt(seed int64, isOver chan bool) {
+	var stats runtime.MemStats
+	for draw := rand.New(rand.NewSource(seed)); ; runtime.ReadMemStats(&stats) {
+		select {
+		case <-isOver:
+			return
+		case <-time.After(time.Duration(draw.Intn(manyApart)) * time.Microsecond):
 		}
 	}
 }

@@ -2,5 +2,5 @@
 
 package judge
 
-// inChild makes the runs in this process, since here none of its own can share memory with it.
+// inChild runs in this process: on this platform no child process can share memory with it.
 func inChild(_ string, a *area) (caller, error) { return &here{a}, nil }

@@ -1,22 +1,31 @@
-// Package judge says whether runs of a concurrent set of your own are linearizable, in one line of a test:
+// Package judge tests whether a concurrent set of your own is linearizable, in one line of a test:
 //
 //	func TestIsLinearizable(t *testing.T) { judge.Check(t, NewMySet) }
 //
-// MySet has Add, Remove and Contains. Goroutines call fresh sets, and the begin and the end of each call are recorded. A judge says
-// whether any order of the calls explains their replies: liblistset, in a test with the tag `listset`, which needs cgo and pkg-config;
-// else the program that the environment variable LISTSET names, or `listset` of PATH. LISTSET may also name the page's listset.js,
-// which node runs. On Unix Check has a process of its own for the set, which runs this test again up to Check: so a set that crashes or
-// hangs is judged up to there.
+// MySet has Add, Remove and Contains. Goroutines call new sets, and the begin and the end of each call are recorded. A
+// judge decides whether some order of the calls explains their replies.
+//
+// The judge is liblistset in a test with the tag `listset`, which needs cgo and pkg-config. Otherwise it is the program
+// that the environment variable LISTSET names, or else `listset` in PATH. LISTSET can also name a listset.js, which
+// node runs. If it is `skip`, the test is skipped.
+//
+// On Unix, Check has a process of its own for the set, which runs this test again up to Check. If the set crashes or
+// hangs there, its calls so far are judged.
 package judge
 
 import (
+	"errors"
 	"fmt"
+	"math"
 	"os"
+	"runtime"
+	"strconv"
 	"sync"
 	"time"
 )
 
-// SetOf is what is called from many goroutines at once. A call panics with NotKnown if its outcome is not known, as after a time-out.
+// SetOf is a set with keys of type K, called from many goroutines at once. A call panics with NotKnown if its outcome
+// is unknown, such as after a timeout.
 type SetOf[K any] interface {
 	Add(key K) bool
 	Remove(key K) bool
@@ -28,30 +37,31 @@ type Set = SetOf[uint32]
 
 type notKnown struct{}
 
-// NotKnown is what a call panics with if its outcome is not known.
+// NotKnown marks an unknown outcome: a call panics with this value.
 var NotKnown any = notKnown{}
 
-// Options says how a set is called. They are checked before the first set is made.
+// Options are the options of a test. All are checked before the first set is created.
 type Options struct {
-	Threads       int    // goroutines that call a set at once: 1 to 64; 0, here and in the next two: by the presets of runs, in turn
-	Calls         int    // of each goroutine: 1 or more, and 1,000,000,000 at most of all, which rest after each 20,000 until these are written
-	Keys          int    // calls are on the keys of the numbers below this: 1 to 1,048,576; half of them on the first four
-	Pauses        int    // before how many of 100 calls a goroutine pauses, for some microseconds at most: 0 to 100
-	Runs          int    // sets that are called, or rows of fresh sets: 1 to 1,000,000
-	Seed          int64  // what calls, keys and pauses of the first run are drawn from; the next run has the next seed
-	Seconds       int    // a run in which no call begins or ends for so long is ended: 1 to 3,600
-	AtLeast       int    // the test fails if fewer of 100 calls overlap a change of their key
-	Adds          int    // the share of Add among the operations,
-	Removes       int    // that of Remove,
-	Finds         int    // and that of Contains
-	InProcess     bool   // Check calls the set in this process, which then crashes with it (for a debugger, or for coverage)
-	OpensWithKeys bool   // before the first call, Contains is asked of each key
-	Record        string // a folder that keeps the recording of each run; else that of a run that fails is kept, in the folder for temporary files
+	Threads       int    // goroutines that call a set at once: 1 to 64; 0 uses the presets in turn
+	Calls         int    // calls of each goroutine: at least 1, and at most 1,000,000,000 for all together; 0 uses the presets in turn; after each 20,000 calls, these are written to the file while the goroutines wait
+	Keys          int    // keys: 1 to 1,048,576; 0 uses the presets in turn; with more than eight keys, half of the calls use the first four
+	Pauses        int    // percentage of calls before which a goroutine pauses, for at most a few microseconds: 0 to 100; unless it is 0, goroutines in a process of the set's own are also stopped during calls
+	Runs          int    // runs: 1 to 1,000,000; a run calls one set, or several new sets one after another
+	Seed          int64  // seed of the calls, keys and pauses of the first run; the next run has the next seed
+	Seconds       int    // a run is cut short as hung if no call begins or ends for this many seconds: 1 to 3,600
+	Within        int    // no run begins after this many seconds of the test: 1 to 604,800
+	AtLeast       int    // the test fails if less than this percentage of the calls overlap a change of their key
+	Adds          int    // share of Add among the calls
+	Removes       int    // share of Remove
+	Finds         int    // share of Contains
+	InProcess     bool   // calls sets in this process, which crashes or hangs with them: for debuggers and for coverage
+	OpensWithKeys bool   // calls Contains for each key before all other calls, to record the opening keys
+	Record        string // folder that keeps the recording of each run; if empty, only the recording of a failed run is kept: in the folder that the variable LISTSET_RECORD names, or else in the folder for temporary files
 }
 
-// DefaultOptions is 20 runs by the presets.
+// DefaultOptions returns the options of 20 runs with the presets.
 func DefaultOptions() Options {
-	return Options{Pauses: 20, Runs: 20, Seed: 1, Seconds: 10, Adds: 1, Removes: 1, Finds: 1}
+	return Options{Pauses: 20, Runs: 20, Seed: 1, Seconds: 10, Within: manyWithin, Adds: 1, Removes: 1, Finds: 1}
 }
 
 func (o Options) check() error {
@@ -65,7 +75,7 @@ func (o Options) check() error {
 	if o.Adds < 0 || o.Removes < 0 || o.Finds < 0 {
 		shares = -1
 	}
-	given := []int{or1(o.Threads), or1(o.Threads) * or1(o.Calls), or1(o.Keys), o.Pauses, o.Runs, o.Seconds, o.AtLeast, shares}
+	given := []int{or1(o.Threads), or1(o.Threads) * or1(o.Calls), or1(o.Keys), o.Pauses, o.Runs, o.Seconds, o.Within, o.AtLeast, shares}
 	for i, its := range ranges {
 		if given[i] < its.least || given[i] > its.most {
 			return fmt.Errorf(sayRange, its.name, given[i], its.least, its.most)
@@ -74,17 +84,43 @@ func (o Options) check() error {
 	return nil
 }
 
-// shape is a run.
+// byEnvironment applies the environment variables. LISTSET_SECONDS repeats runs for this many seconds, with seeds from the current
+// time on; LISTSET_SEED sets the first seed.
+func (o Options) byEnvironment() (Options, error) {
+	seconds, err := numberOf("LISTSET_SECONDS", 0, 1, int64(ranges[6].most))
+	if seconds > 0 {
+		o.Within, o.Runs, o.Seed = int(seconds), ranges[4].most, time.Now().Unix()
+	}
+	if err == nil {
+		o.Seed, err = numberOf("LISTSET_SEED", o.Seed, 0, math.MaxUint32)
+	}
+	return o, err
+}
+
+// numberOf returns the number in an environment variable, or other if the variable is not set.
+func numberOf(variable string, other, least, most int64) (int64, error) {
+	text := os.Getenv(variable)
+	if text == "" {
+		return other, nil
+	}
+	found, err := strconv.ParseInt(text, 10, 64)
+	if err != nil || found < least || found > most {
+		return other, fmt.Errorf(sayNumber, variable, text, least, most)
+	}
+	return found, nil
+}
+
+// shape is the preset of a run, changed by the options.
 type shape struct {
 	name string
 	size
 }
 
-// size is the goroutines, the fresh sets one after another, the calls of each goroutine on each, the keys, and what their numbers are
-// multiples of.
+// size is the size of a run: the numbers of goroutines, of new sets one after another, of calls of each goroutine on
+// each set, and of keys, which are the multiples of times.
 type size struct{ threads, sets, calls, keys, times int }
 
-// rows is the calls of each goroutine from one rest to the next, of which the last of a set may be fewer.
+// rows returns how many calls a goroutine makes in a part. The last part of a set can have fewer.
 func (s size) rows() int {
 	if most := manyPart / s.threads; most < s.calls {
 		return most
@@ -103,7 +139,7 @@ type limits struct {
 	least, most int
 }
 
-// shapeOf is the preset of a seed, with what the options say.
+// shapeOf returns the preset for a seed, changed by the options.
 func (o Options) shapeOf(seed int64) shape {
 	count := int64(len(presets))
 	s := presets[((seed-1)%count+count)%count]
@@ -122,10 +158,15 @@ func (o Options) shapeOf(seed int64) shape {
 	return s
 }
 
-// harder has more goroutines and fewer keys, where the options leave them open.
+// harder returns a shape whose calls overlap more: more goroutines, even more than processors, and fewer keys, unless
+// the options set them. The number of all calls does not grow.
 func (o Options) harder(s shape) shape {
-	if o.Threads == 0 && s.threads <= 4 {
-		s.threads *= 2
+	before := s.threads
+	if o.Threads == 0 {
+		s.threads = least(most(2*s.threads, runtime.NumCPU()+2), 64)
+	}
+	if o.Calls == 0 {
+		s.calls = most(s.calls*before/s.threads, 1)
 	}
 	if o.Keys == 0 && s.keys > 1 {
 		s.keys /= 2
@@ -133,7 +174,21 @@ func (o Options) harder(s shape) shape {
 	return s
 }
 
-// most is the largest number of a run.
+func least(a, b int) int {
+	if a < b {
+		return a
+	}
+	return b
+}
+
+func most(a, b int) int {
+	if a > b {
+		return a
+	}
+	return b
+}
+
+// most returns the largest value of a number in the presets, changed by the options.
 func (o Options) most(of func(size) int) (most int) {
 	for i := range presets {
 		if its := of(o.shapeOf(int64(i + 1)).size); its > most {
@@ -143,8 +198,9 @@ func (o Options) most(of func(size) int) (most int) {
 	return most
 }
 
-// Verdict is what is known if some order explains each run: the calls, those that overlapped a change of their key, by the judge, and
-// which judge it was, with whether it says that it is proved. It prints itself.
+// Verdict is the result of a test without a failure: some order explains each run. It has the number of calls, how many
+// of them overlapped a change of their key, as the judge counted them, and the judge with its statement about its
+// proof. String returns it as text.
 type Verdict struct {
 	Calls, Overlapped int
 	Judge             string
@@ -153,57 +209,60 @@ type Verdict struct {
 func isFew(overlapped, calls int) bool { return overlapped*100 < calls*manyEnough }
 
 func (v Verdict) String() string {
-	few := ""
-	if isFew(v.Overlapped, v.Calls) {
-		few = "; " + sayFew
+	if v.Judge == "" {
+		return saySkipped
 	}
-	return fmt.Sprintf(sayOk, v.Calls, v.Overlapped) + few + "; judge: " + v.Judge
+	text := sayOk
+	if isFew(v.Overlapped, v.Calls) {
+		text = sayFew
+	}
+	return fmt.Sprintf(text, v.Calls, v.Overlapped) + "; judge: " + v.Judge
 }
 
-// Failed is a run that failed: its preset, what the judge said of it, the file that has its recording, and which judge it was.
+// Failed is a failed run: its preset, what the judge printed, the file with its recording, the judge, and the whole
+// message.
 type Failed struct {
-	Seed                    int64
-	Name, Said, File, Judge string
+	Seed                          int64
+	Name, Said, File, Judge, Text string
 }
 
-func (f *Failed) Error() string {
-	return fmt.Sprintf(sayFailedRun, f.Seed, f.Name, f.Said, f.File, f.Judge)
-}
+func (f *Failed) Error() string { return f.Text }
 
-// NotLinearizable is the error if no order explains a run. CutShort is the error if the set crashed, hung or panicked in it, which was
-// judged up to there. Any other error means that nothing is known of the set: an option is out of range, no set could be made, too few
-// calls overlapped, or there is no judge.
-type NotLinearizable struct {
-	Failed
-	refused refusal
-}
+// NotLinearizable is the error if no order explains a run. CutShort is the error if the set crashed, hung or panicked
+// in a run; the calls before that were judged. Any other error means that nothing is known about the set: an option is
+// out of range, no set could be created, too few calls overlapped, or no judge was found.
+type NotLinearizable struct{ Failed }
 
 type CutShort struct{ Failed }
 
-// Test is what Check needs of a *testing.T.
+// Skipped is the error of Judge if LISTSET is `skip`.
+var Skipped = errors.New(saySkipped)
+
+// Test has the methods of *testing.T that Check needs.
 type Test interface {
 	Helper()
 	Name() string
 	Cleanup(func())
 	Log(...any)
+	Skip(...any)
 	Fatal(...any)
 }
 
-// Check judges the sets that `newSet` makes, and fails a test with a run that no order explains, or in which the set crashes or hangs.
-// It takes DefaultOptions, or one Options. The set has a process of its own, which runs the test from its begin up to this Check; its
-// other Checks do nothing there.
+// Check judges the sets that newSet creates. It fails the test if no order explains a run, or if the set crashes or
+// hangs. It uses DefaultOptions, or the one Options given. The set has a process of its own, which runs the test from
+// its begin up to this Check; other Checks of the test do nothing there.
 func Check[S Set](t Test, newSet func() S, options ...Options) {
 	t.Helper()
 	check(t, func(int) (source, error) { return numbers(newSet), nil }, options)
 }
 
-// CheckKeys is Check for a set of other keys: `key` gives the key of a number, each another one.
+// CheckKeys is Check for a set with other keys. It requires that key returns a different key for each number.
 func CheckKeys[K comparable, S SetOf[K]](t Test, newSet func() S, key func(uint32) K, options ...Options) {
 	t.Helper()
 	check(t, func(keys int) (source, error) { return ofKeys(newSet, key, keys) }, options)
 }
 
-// Judge judges the sets that `newSet` makes, in this process.
+// Judge judges the sets that newSet creates, in this process.
 func Judge[S Set](newSet func() S, options Options) (Verdict, error) {
 	return judged(options, func(int) (source, error) { return numbers(newSet), nil }, "")
 }
@@ -222,22 +281,24 @@ func check(t Test, of func(keys int) (source, error), options []Options) {
 	if len(options) > 2 {
 		err = fmt.Errorf("Check takes one Options, and was given %d", len(options)-1)
 	}
-	if err != nil {
+	if err == Skipped {
+		t.Skip(err)
+	} else if err != nil {
 		t.Fatal(err)
-		return
+	} else {
+		t.Log(verdict)
 	}
-	t.Log(verdict)
 }
 
-// checkName is the variable that tells a process of its own which Check it is for.
+// checkName is the variable that names the Check for which a child process was started.
 const checkName = "LISTSET_CHECK"
 
 var (
-	checks = map[string]int{} // of each test that goes on
+	checks = map[string]int{} // the number of Checks of each running test
 	lock   sync.Mutex
 )
 
-// nameOf is the test's name and the number of its Check.
+// nameOf returns the name of the test with the number of its Check.
 func nameOf(t Test) string {
 	lock.Lock()
 	defer lock.Unlock()
@@ -252,18 +313,18 @@ func nameOf(t Test) string {
 	return fmt.Sprintf("%s#%d", name, checks[name])
 }
 
-// source makes sets of numbers, and shows the key of a number.
+// source creates sets of numbers, and shows the key of a number.
 type source struct {
 	newSet func() Set
 	shown  func(number uint32) string
-	isOwn  bool // the keys are given by the test
+	isOwn  bool // whether the test has a function for keys
 }
 
 func numbers[S Set](newSet func() S) source {
 	return source{func() Set { return newSet() }, func(n uint32) string { return fmt.Sprint(n) }, false}
 }
 
-// keyed is a set of other keys, by their numbers.
+// keyed is a set with other keys, called by their numbers.
 type keyed[K any] struct {
 	set  SetOf[K]
 	keys []K
@@ -286,7 +347,7 @@ func ofKeys[K comparable, S SetOf[K]](newSet func() S, key func(uint32) K, count
 	return source{func() Set { return keyed[K]{newSet(), keys} }, shown, true}, nil
 }
 
-// tester judges one run after another.
+// tester is the state of a test: it judges one run after another.
 type tester struct {
 	options Options
 	area    *area
@@ -294,9 +355,18 @@ type tester struct {
 	by      *judgeFound
 }
 
-// judged judges run after run, each in the process of the Check of this name, or in this one if it is none.
+// judged judges run after run, in a child process for the Check with this name, or in this process if the name is
+// empty.
 func judged(options Options, of func(keys int) (source, error), name string) (verdict Verdict, err error) {
 	if err = options.check(); err != nil {
+		return verdict, err
+	}
+	if os.Getenv("LISTSET") == "skip" && os.Getenv("CI") != "" {
+		return verdict, errors.New(sayNotInCi)
+	} else if os.Getenv("LISTSET") == "skip" {
+		return verdict, Skipped
+	}
+	if options, err = options.byEnvironment(); err != nil {
 		return verdict, err
 	}
 	its, err := of(options.most(func(s size) int { return s.keys }))
@@ -317,58 +387,43 @@ func judged(options Options, of func(keys int) (source, error), name string) (ve
 	return t.all()
 }
 
-func (t *tester) all() (Verdict, error) {
-	verdict, until := Verdict{Judge: t.by.String()}, time.Now().Add(manyPatience*time.Second)
-	for seed := t.options.Seed; seed < t.options.Seed+int64(t.options.Runs); seed++ {
-		for s, tries := t.options.shapeOf(seed), 0; tries <= manyHarder; s, tries = t.options.harder(s), tries+1 {
-			met, err := t.judgedRun(seed, s)
-			if refused, is := err.(*NotLinearizable); is {
-				err = t.smallest(refused)
-			}
-			if err != nil {
-				return verdict, err
-			}
-			verdict.Calls, verdict.Overlapped = verdict.Calls+s.allCalls(), verdict.Overlapped+met
-			if !isFew(met, s.allCalls()) || time.Now().After(until) {
-				break
-			}
+// all makes the requested runs, each up to three times, then more runs while few calls have overlapped.
+func (t *tester) all() (verdict Verdict, err error) {
+	verdict.Judge = t.by.String()
+	began, o := time.Now(), t.options
+	run := func(seed int64, s shape) (isFewMet bool) {
+		var met int
+		met, err = t.judgedRun(seed, s)
+		verdict.Calls, verdict.Overlapped = verdict.Calls+s.allCalls(), verdict.Overlapped+met
+		return err == nil && isFew(met, s.allCalls())
+	}
+	seed := o.Seed
+	for ; err == nil && seed < o.Seed+int64(o.Runs) && (seed == o.Seed || isWithin(began, o.Within)); seed++ {
+		s := o.shapeOf(seed)
+		for tries := 0; run(seed, s) && tries < manyHarder && isWithin(began, manyPatience); tries++ {
+			s = o.harder(s)
 		}
+	}
+	for end := time.Now(); err == nil && isFew(verdict.Overlapped, verdict.Calls) && isWithin(began, o.Within) && isWithin(end, manyPatience); seed++ {
+		run(seed, o.harder(o.harder(o.shapeOf(seed))))
+	}
+	if err != nil {
+		return verdict, err
 	}
 	if isFew(verdict.Overlapped, verdict.Calls) {
-		fmt.Fprintln(os.Stderr, verdict) // (a test that passes may show no log)
+		fmt.Fprintln(os.Stderr, verdict) // (a test that passes can hide its log)
 	}
-	if verdict.Overlapped*100 < verdict.Calls*t.options.AtLeast {
-		return verdict, fmt.Errorf(sayTooFew, verdict.Overlapped, verdict.Calls, t.options.AtLeast)
+	if verdict.Overlapped*100 < verdict.Calls*o.AtLeast {
+		err = fmt.Errorf(sayTooFew, verdict.Overlapped, verdict.Calls, o.AtLeast)
 	}
-	return verdict, nil
+	return verdict, err
 }
 
-// smallest is, of the refusal and of further runs, the one that has the fewest calls, and two at least.
-func (t *tester) smallest(best *NotLinearizable) error {
-	since, seed := time.Now(), best.Seed
-	for i := 0; i < manyFurther && best.refused.rank() > manyReadable/2 && time.Since(since) < manyPatience*time.Second; i++ {
-		seed += int64(len(presets))
-		_, err := t.judgedRun(seed, t.options.shapeOf(seed))
-		if other, is := err.(*NotLinearizable); is {
-			if other.refused.rank() < best.refused.rank() {
-				best, other = other, best
-			}
-			t.drop(other.File)
-		} else if ended, is := err.(*CutShort); is {
-			t.drop(ended.File)
-			break // (a process of its own that has ended makes no further run)
-		}
-	}
-	return best
+func isWithin(since time.Time, seconds int) bool {
+	return time.Since(since) < time.Duration(seconds)*time.Second
 }
 
-func (t *tester) drop(file string) {
-	if t.options.Record == "" {
-		os.Remove(file)
-	}
-}
-
-// judgedRun has a run made, and judges it as it is made: how many calls overlapped a change of their key.
+// judgedRun makes a run and judges it. It returns how many calls overlapped a change of their key.
 func (t *tester) judgedRun(seed int64, s shape) (int, error) {
 	r, err := newRecording(seed, s.name, t.options.Record)
 	if err != nil {

@@ -12,7 +12,9 @@ import (
 	"unsafe"
 )
 
-func init() { library = &judgeFound{"liblistset", proofIn(C.GoString(C.listset_version())), inLibrary} }
+func init() {
+	library = &judgeFound{"liblistset", proofIn(C.GoString(C.listset_version())), inLibrary, nil}
+}
 
 func inLibrary(recording *os.File) (int, string) {
 	var status C.uint8_t

@@ -14,14 +14,14 @@ import (
 	"unsafe"
 )
 
-// Of a call what it answered.
+// The replies of a call.
 const (
 	no uint32 = iota
 	yes
 	unknown
 )
 
-// Of a run how far it is.
+// The progress of a run.
 const (
 	waiting uint32 = iota
 	going
@@ -30,14 +30,14 @@ const (
 	unmade
 )
 
-// slot is a call as its goroutine writes it: at its begin, and again at its end. A goroutine goes on under a new number after an outcome
-// that is not known.
+// slot is a call as its goroutine records it, at its begin and at its end. After an unknown outcome the goroutine
+// continues with a new thread number.
 type slot struct {
-	begin, end               uint32 // 0 as long as there is none
+	begin, end               uint32 // 0 until they happen
 	thread, call, key, reply uint32
 }
 
-// text is one that processes share.
+// text is a text in shared memory.
 type text struct {
 	length uint32
 	bytes  [1000]byte
@@ -47,23 +47,23 @@ func (t *text) set(to string) { t.length = uint32(copy(t.bytes[:], to)) }
 
 func (t *text) String() string { return string(t.bytes[:t.length]) }
 
-// head is what those share who make a run and watch it.
+// head has the numbers that the maker and the watcher of a run share.
 type head struct {
 	seed    int64
-	written int64 // the bytes of its file
+	written int64 // the length of the file
 	size
 	tickets, there, done, begun uint32
-	at, isStopping              uint32
-	isHere                      uint32 // that a process of its own has come to the test's Check
-	file, why                   text   // why it failed
+	at, isStopping, isBusy      uint32
+	isHere                      uint32 // whether a child process has reached the test's Check
+	file, why                   text   // why the run failed
 }
 
-// area is a run in memory that another process may share: the calls since those in its file.
+// area is the memory of a run, which processes can share. It has the calls that are not yet in the file.
 type area struct {
 	options Options
 	source  source
 	memory  []byte
-	*head   // and behind it:
+	*head   // followed by:
 	slots   []slot
 }
 
@@ -76,19 +76,23 @@ func newArea(options Options, source source) *area {
 
 func (a *area) bytes() int { return int(unsafe.Sizeof(head{})) + manyPart*int(unsafe.Sizeof(slot{})) }
 
-// lay has the run written down in this memory.
+// lay places the run in this memory.
 func (a *area) lay(memory []byte) {
 	a.memory, a.head = memory, (*head)(unsafe.Pointer(&memory[0]))
 	a.slots = unsafe.Slice((*slot)(unsafe.Pointer(&memory[unsafe.Sizeof(head{})])), manyPart)
 }
 
-// lines is the calls since those in the file, by their begins, and those that are under way.
+// lines returns the lines of the calls in memory, in the order of their begins, and the lines of the pending ones.
+// Goroutines can still make calls: a call that begins later than now is left out, and a call that ends later is pending.
 func (a *area) lines() (lines, underWay string) {
-	of, begins := map[uint32]string{}, []uint32{}
+	now, of, begins := atomic.LoadUint32(&a.tickets), map[uint32]string{}, []uint32{}
 	for i := range a.slots[:a.threads*a.rows()] {
 		s := &a.slots[i]
 		end, begin := atomic.LoadUint32(&s.end), atomic.LoadUint32(&s.begin)
-		if begin > 0 {
+		if end > now {
+			end = 0
+		}
+		if begin > 0 && begin <= now {
 			of[begin], begins = s.line(end), append(begins, begin)
 			if end == 0 {
 				underWay += s.line(0)
@@ -111,17 +115,17 @@ func (s *slot) line(end uint32) string {
 	return fmt.Sprintf("call %d %s %d %d %d %t\n", s.thread, words[s.call], s.key, s.begin, end, s.reply == yes)
 }
 
-// ---- who watches a run
+// ---- for the process that watches a run
 
-// caller has runs made.
+// caller makes runs.
 type caller interface {
-	begin()          // is called once the memory of a run is new
-	hasEnded() bool  // whether nothing more comes of the run
-	trouble() string // then how it went wrong, or nothing
+	begin()          // is called when the memory of a run is ready
+	hasEnded() bool  // whether the run has ended
+	trouble() string // then the error, if any
 	stop()
 }
 
-// here makes them in this process, where goroutines that hang stay.
+// here makes runs in this process, where goroutines that hang are left running.
 type here struct{ *area }
 
 func (h *here) begin() { go h.callAll() }
@@ -132,7 +136,7 @@ func (h *here) trouble() string { return "" }
 
 func (h *here) stop() { atomic.StoreUint32(&h.isStopping, 1) }
 
-// made has the run of a seed made. If it was cut short, it gives how.
+// made makes the run of a seed. It returns why the run was cut short, if it was.
 func (a *area) made(seed int64, s size, file string, by caller) (trouble string, err error) {
 	for i := range a.memory {
 		a.memory[i] = 0
@@ -165,9 +169,9 @@ func (a *area) made(seed int64, s size, file string, by caller) (trouble string,
 	return trouble, err
 }
 
-// ---- who makes it
+// ---- for the process that makes a run
 
-// fail writes down a panic, the first.
+// fail stores a panic. Only the first one is kept.
 func (a *area) fail(as uint32, words string) {
 	if why := recover(); why != nil && atomic.CompareAndSwapUint32(&a.isStopping, 0, 1) {
 		a.why.set(fmt.Sprintf(words, why))
@@ -175,7 +179,7 @@ func (a *area) fail(as uint32, words string) {
 	}
 }
 
-// waits waits, for so many looks awake; it is false if the run stops.
+// waits polls awake times, then sleeps between polls, until isDone. It returns false if the run was stopped.
 func (a *area) waits(awake int, isDone func() bool) bool {
 	for looks := 0; !isDone() && atomic.LoadUint32(&a.isStopping) == 0; looks++ {
 		if looks >= awake {
@@ -185,20 +189,28 @@ func (a *area) waits(awake int, isDone func() bool) bool {
 	return atomic.LoadUint32(&a.isStopping) == 0
 }
 
-// meet waits until all goroutines are here, awake if each may have a processor, so that all go on at once.
+// meet waits until all goroutines are here, so that they continue at once. It does not sleep if each goroutine can have
+// a processor, unless such a wait took too long before.
 func (a *area) meet() bool {
-	awake, count := manyLongest, uint32(a.threads)
-	if a.threads <= runtime.NumCPU() {
+	awake, count, looks := manyLongest, uint32(a.threads), 0
+	if a.threads <= runtime.NumCPU() && atomic.LoadUint32(&a.isBusy) == 0 {
 		awake = manyAwake
 	}
 	all := (atomic.AddUint32(&a.there, 1)-1)/count*count + count
-	return a.waits(awake, func() bool { return atomic.LoadUint32(&a.there) >= all })
+	areThere := a.waits(awake, func() bool {
+		looks++
+		return atomic.LoadUint32(&a.there) >= all
+	})
+	if looks > manyAwake {
+		atomic.StoreUint32(&a.isBusy, 1)
+	}
+	return areThere
 }
 
-// stage is where the goroutines of a run find the set that they call.
+// stage has the set that the goroutines call.
 type stage struct{ set Set }
 
-// callAll makes sets and calls them, to the end.
+// callAll creates the sets of a run and calls them.
 func (a *area) callAll() {
 	var all sync.WaitGroup
 	on := &stage{}
@@ -223,7 +235,7 @@ func (a *area) newSet() (set Set) {
 	return set
 }
 
-// lead makes each set and has the goroutines call it; writes each part once it is made.
+// lead creates each set and starts the goroutines on it, part by part. It writes each part when its calls have ended.
 func (a *area) lead(on *stage) {
 	defer a.fail(failed, sayThrew)
 	file, err := os.OpenFile(a.file.String(), os.O_WRONLY, 0)
@@ -265,7 +277,7 @@ func (a *area) write(file *os.File, lines string) {
 	}
 }
 
-// number is what a set is given for the number of a key.
+// number returns the argument of a call for the number of a key.
 func (a *area) number(key int) uint32 {
 	if a.source.isOwn {
 		return uint32(key)
@@ -273,7 +285,7 @@ func (a *area) number(key int) uint32 {
 	return uint32(key * a.times)
 }
 
-// linesOfKeys has the keys that the set of a round has.
+// linesOfKeys calls Contains for each key, and returns a line for each key found.
 func (a *area) linesOfKeys(word string, set Set, round int) (lines string) {
 	for key := 0; key < a.keys; key++ {
 		if reply(set, 2, a.number(key)) == yes {
@@ -284,7 +296,7 @@ func (a *area) linesOfKeys(word string, set Set, round int) (lines string) {
 	return lines
 }
 
-// callInRounds makes the calls of one goroutine.
+// callInRounds makes the calls of one goroutine, part by part.
 func (a *area) callInRounds(on *stage, thread int) {
 	draw, number, rows := rand.New(rand.NewSource(a.seed*64+int64(thread))), uint32(thread), a.rows()
 	for round := 0; round < a.rounds(); round++ {

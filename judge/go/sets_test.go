@@ -12,7 +12,7 @@ import (
 	"testing"
 )
 
-// right is a map under a lock.
+// right is a map with a lock.
 type right[K comparable] struct {
 	lock sync.Mutex
 	keys map[K]bool
@@ -38,7 +38,7 @@ func (r *right[K]) Contains(key K) bool {
 	return r.keys[key]
 }
 
-// set is right, but for what the variable SET says.
+// set is a right set, except for the error that the variable SET names.
 type set struct {
 	*right[uint32]
 	is    string
@@ -56,7 +56,8 @@ func newSet() *set {
 	return made
 }
 
-// part is all of it, but for "first use": there the part of a key is made by its first call, and two calls may make it.
+// part returns the whole set. With "first use" each key has a set of its own, which its first call creates; two calls
+// can both create it.
 func (s *set) part(key uint32) *right[uint32] {
 	if s.is != "first use" {
 		return s.right
@@ -69,7 +70,7 @@ func (s *set) part(key uint32) *right[uint32] {
 	return made
 }
 
-// place is the key, but for "collides": it takes keys for one that have a place in common.
+// place returns the key. With "collides", keys with the same remainder are one key.
 func (s *set) place(key uint32) uint32 {
 	if s.is == "collides" {
 		return key % 64
@@ -77,7 +78,7 @@ func (s *set) place(key uint32) uint32 {
 	return key
 }
 
-// called loses each fiftieth reply: then it is not known, or the call is made again.
+// called loses each fiftieth reply: the outcome is unknown, or the call is made again.
 func (s *set) called(call func(uint32) bool, key uint32) bool {
 	reply := call(s.place(key))
 	if s.is != "not known" && s.is != "again" || atomic.AddInt32(&s.calls, 1)%50 > 0 {
@@ -89,7 +90,7 @@ func (s *set) called(call func(uint32) bool, key uint32) bool {
 	return call(key)
 }
 
-// stop has a remove that does not come back, with the lock held.
+// stop never returns from a remove, and keeps the lock.
 func (s *set) stop() {
 	s.lock.Lock()
 	defer s.lock.Unlock()
@@ -129,10 +130,12 @@ func (s *set) Contains(key uint32) bool {
 	return s.part(key).Contains(s.place(key))
 }
 
-// told is a test that prints how a verdict came out, and it.
+// told is a test that prints the kind of the result, and the result.
 type told struct{ *testing.T }
 
 func (told) Log(verdict ...any) { fmt.Printf("verdict: ok\n%v\n", verdict[0]) }
+
+func (told) Skip(why ...any) { fmt.Printf("verdict: skipped\n%v\n", why[0]) }
 
 func (told) Fatal(why ...any) {
 	kind, err := "none", why[0].(error)
@@ -152,7 +155,7 @@ func howOf(words string) Options {
 	how := DefaultOptions()
 	seed, ownProcess, opens := int(how.Seed), 1, 0
 	numbers := map[string]*int{"threads": &how.Threads, "calls": &how.Calls, "keys": &how.Keys, "pauses": &how.Pauses, "runs": &how.Runs,
-		"seed": &seed, "seconds": &how.Seconds, "at_least": &how.AtLeast, "adds": &how.Adds, "removes": &how.Removes, "finds": &how.Finds,
+		"seed": &seed, "seconds": &how.Seconds, "within": &how.Within, "at_least": &how.AtLeast, "adds": &how.Adds, "removes": &how.Removes, "finds": &how.Finds,
 		"own_process": &ownProcess, "opens_with_keys": &opens}
 	for _, word := range strings.Fields(words) {
 		if name, given, _ := strings.Cut(word, "="); name == "record" {
@@ -165,7 +168,7 @@ func howOf(words string) Options {
 	return how
 }
 
-// TestSet judges the set that the variable SET names, with the options of HOW, as "threads=4 runs=2".
+// TestSet judges the set that the variable SET names, with the options in HOW, such as "threads=4 runs=2".
 func TestSet(t *testing.T) {
 	how := howOf(os.Getenv("HOW"))
 	switch os.Getenv("SET") {

@@ -12,7 +12,7 @@ import (
 	"strings"
 )
 
-// recording is the file into which a run is written as it grows.
+// recording is the file with the calls of a run, which grows during the run.
 type recording struct {
 	seed   int64
 	name   string
@@ -27,7 +27,10 @@ func newRecording(seed int64, name, record string) (*recording, error) {
 			r.file, err = os.Create(filepath.Join(folder, fmt.Sprintf("seed-%d.calls", seed)))
 		}
 	} else {
-		folder = os.TempDir()
+		if folder = os.Getenv("LISTSET_RECORD"); folder == "" {
+			folder = os.TempDir()
+		}
+		os.MkdirAll(folder, 0o777)
 		r.file, err = os.CreateTemp(folder, fmt.Sprintf("listset-seed-%d-*.calls", seed))
 	}
 	if err != nil {
@@ -36,7 +39,8 @@ func newRecording(seed int64, name, record string) (*recording, error) {
 	return r, nil
 }
 
-// judged is how many calls overlapped a change of their key; the error says what is wrong with the run, which may have been cut short.
+// judged returns how many calls overlapped a change of their key, or the error of the run.
+// trouble is why the run was cut short, if it was.
 func (r *recording) judged(by *judgeFound, a *area, trouble string) (int, error) {
 	underWay, lines := "", ""
 	if trouble != "" {
@@ -49,18 +53,42 @@ func (r *recording) judged(by *judgeFound, a *area, trouble string) (int, error)
 		return overlapped, err
 	}
 	r.isKept = true
-	failed := Failed{r.seed, r.name, sayExplained, r.file.Name(), by.String()}
-	if refused != "" {
-		failed.Said = refused.explained(r.file.Name()) + keyLine(a, refused.key())
+	said, key := refused, ofKey.FindStringSubmatch(refused)
+	if trouble != "" && refused == "" {
+		said = sayExplained
 	}
+	if trouble != "" {
+		said = fmt.Sprintf(sayUnderWay, trouble, firstOf(underWay), said)
+	}
+	named, small := "", ""
+	if key != nil {
+		number, _ := strconv.Atoi(key[1])
+		named, small = keyLine(a, number), r.alone(by, key[1])
+	}
+	text := fmt.Sprintf(sayFailedRun, said, r.seed, r.name, a.threads, named, r.file.Name(), small, by)
+	failed := Failed{r.seed, r.name, said, r.file.Name(), by.String(), text}
 	if trouble == "" {
-		return 0, &NotLinearizable{failed, refused}
+		return 0, &NotLinearizable{failed}
 	}
-	failed.Said = fmt.Sprintf(sayUnderWay, trouble, underWay, failed.Said)
 	return 0, &CutShort{failed}
 }
 
-// keyLine tells which key of which set has this number in the recording, if the number does not say so.
+// ofKey finds the key that a judge names.
+var ofKey = regexp.MustCompile(`of key (\d+) `)
+
+// firstOf returns the first line of several calls, and how many more there are.
+func firstOf(lines string) string {
+	all := strings.Split(strings.TrimSpace(lines), "\n")
+	if all[0] == "" {
+		return "no call"
+	}
+	if len(all) > 1 {
+		return fmt.Sprintf(sayAndMore, all[0], len(all)-1)
+	}
+	return all[0]
+}
+
+// keyLine describes the key of a number in the recording, and its set if the run has several. It is empty if the number is enough.
 func keyLine(a *area, number int) string {
 	set, shown := "", a.source.shown(a.number(number%a.keys))
 	if a.sets > 1 {
@@ -69,7 +97,21 @@ func keyLine(a *area, number int) string {
 	if shown == strconv.Itoa(number) && set == "" {
 		return ""
 	}
-	return "\n" + fmt.Sprintf(sayKeyIs, number, shown) + set
+	return fmt.Sprintf(sayKeyIs, number, shown) + set
+}
+
+// alone writes the calls that show a refusal to a small file beside the recording. It returns the part of the message
+// that names the file.
+func (r *recording) alone(by *judgeFound, key string) string {
+	if by.command == nil {
+		return ""
+	}
+	status, text := ran(append(by.command, "judge", "--only", key, r.file.Name()), io.Discard)
+	small := strings.TrimSuffix(r.file.Name(), ".calls") + "-key-" + key + ".calls"
+	if status != 0 || os.WriteFile(small, []byte(text+"\n"), 0o666) != nil {
+		return ""
+	}
+	return fmt.Sprintf(sayAlone, small)
 }
 
 func (r *recording) close() {
@@ -79,79 +121,16 @@ func (r *recording) close() {
 	}
 }
 
-// ---- a refusal, as it is told
-
-// refusal is what a judge says of a recording that no order explains.
-type refusal string
-
-var (
-	callLine = regexp.MustCompile(`(?m)^call (\d+) (\w+) (\d+) (\d+) (\d+|-) (\w+|-)$`)
-	ofKey    = regexp.MustCompile(`of key (\d+) `)
-)
-
-func (r refusal) key() int {
-	key := 0
-	if found := ofKey.FindStringSubmatch(string(r)); found != nil {
-		key, _ = strconv.Atoi(found[1])
-	}
-	return key
-}
-
-func (r refusal) calls() int {
-	calls := len(callLine.FindAllString(string(r), -1))
-	if strings.Contains(string(r), " belong to these") {
-		calls += 1000 // (which are not printed)
-	}
-	return calls
-}
-
-// rank is the number of its calls; a refusal of one call alone comes last.
-func (r refusal) rank() int {
-	if calls := r.calls(); calls > 1 {
-		return calls
-	}
-	return 999
-}
-
-// explained is what the judge says; or, in place of many calls, what their count shows.
-func (r refusal) explained(file string) string {
-	if r.calls() > manyReadable {
-		if text, err := os.ReadFile(file); err == nil {
-			if counted := countOf(string(text), strconv.Itoa(r.key())); counted != "" {
-				return strings.Join(append(strings.SplitN(string(r), "\n", 3)[:2], counted), "\n")
-			}
-		}
-	}
-	return string(r)
-}
-
-// countOf says that the calls of a key that answered true do not fit to how it was; else nothing.
-func countOf(recorded, key string) string {
-	count := map[string]int{}
-	for _, call := range callLine.FindAllStringSubmatch(recorded, -1) {
-		if call[3] == key {
-			count[call[2]+" "+call[6]]++
-			count[call[6]]++
-		}
-	}
-	was, left := strings.Count(recorded, "\nopening "+key+"\n"), strings.Count(recorded, "\nkey "+key+"\n")
-	adds, removes := count["add true"], count["remove true"]
-	if count["-"] > 0 || strings.HasSuffix(recorded, "cut\n") || was+adds == left+removes {
-		return ""
-	}
-	word := []string{sayNotThere, sayThere}
-	return fmt.Sprintf(sayCounted, adds, removes, key, word[was], word[left])
-}
-
 // ---- the judge
 
-// judgeFound is the judge underneath: its name, what it says of its proof, and what it says of a recording.
+// judgeFound is a judge: its name, its statement about its proof, and how to call it.
 type judgeFound struct {
 	name, proof string
 	answer      func(recording *os.File) (status int, said string)
+	command     []string // empty for the library
 }
 
-// library is liblistset, in a test with the tag `listset` (library.go).
+// library is liblistset in a test with the tag `listset` (library.go), otherwise nil.
 var library *judgeFound
 
 func (j *judgeFound) String() string { return j.name + ", " + j.proof }
@@ -164,21 +143,24 @@ func findJudge() (*judgeFound, error) {
 	if name == "" {
 		name = "listset"
 	}
+	if found, err := os.Stat(name); err == nil && found.IsDir() {
+		return nil, fmt.Errorf(sayIsFolder, name)
+	}
 	command := []string{name}
 	if strings.HasSuffix(name, ".js") {
 		command = []string{"node", name}
 	}
-	status, version := ran(append(command, "--version", "--long"), os.Stderr) // (what it says of a judge that it builds)
+	status, version := ran(append(command, "--version", "--long"), os.Stderr) // (the user sees what a judge prints while it is built)
 	if status == 127 {
 		return nil, fmt.Errorf(sayNoJudge, name)
 	}
 	ask := func(recording *os.File) (int, string) {
 		return ran(append(command, "judge", recording.Name()), io.Discard)
 	}
-	return &judgeFound{name, proofIn(version), ask}, nil
+	return &judgeFound{name, proofIn(version), ask, command}, nil
 }
 
-// proofIn is the line in which a judge says whether it is proved.
+// proofIn returns the line that states whether a judge is proved.
 func proofIn(version string) string {
 	if found := regexp.MustCompile("(?m)^proof .*$").FindString(version); found != "" {
 		return found
@@ -186,7 +168,8 @@ func proofIn(version string) string {
 	return "proof unknown"
 }
 
-// ran is the status of a command, 127 if there is none, and what it said, on its standard error if on its output nothing.
+// ran runs a command. It returns the status, 127 if the command cannot be run, and the output, or the error output if
+// there is no other.
 func ran(words []string, shown io.Writer) (int, string) {
 	var out, errs bytes.Buffer
 	made := exec.Command(words[0], words[1:]...)
@@ -200,14 +183,15 @@ func ran(words []string, shown io.Writer) (int, string) {
 	return made.ProcessState.ExitCode(), strings.TrimSpace(out.String())
 }
 
-// judged is how many calls of a recording overlapped a change of their key, or why no order explains it.
-func (j *judgeFound) judged(recording *os.File) (overlapped int, refused refusal, err error) {
+// judged judges a recording. It returns how many calls overlapped a change of their key, or what the judge printed if
+// no order explains them.
+func (j *judgeFound) judged(recording *os.File) (overlapped int, refused string, err error) {
 	status, said := j.answer(recording)
 	if _, err := fmt.Sscanf(said, "ok %d calls\n%d of them", new(int), &overlapped); status == 0 && err == nil {
 		return overlapped, "", nil
 	}
 	if status == 1 && strings.HasPrefix(said, "not linearizable") {
-		return 0, refusal(said), nil
+		return 0, said, nil
 	}
 	first := strings.SplitN(said, "\n", 2)[0]
 	if first == "" {

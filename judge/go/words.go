@@ -4,7 +4,7 @@ package judge
 // made of words.json
 var presets = []shape{{"few keys", size{4, 1, 5000, 4, 1}}, {"fresh sets", size{4, 40, 10, 4, 1}}, {"multiples of 64", size{4, 1, 5000, 8, 64}}, {"one key", size{3, 1, 5000, 1, 1}}, {"sets that grow", size{4, 20, 125, 64, 1}}, {"many keys", size{4, 1, 2500, 1000, 1}}, {"multiples of 1,000", size{8, 1, 2500, 8, 1000}}}
 
-var ranges = []limits{{"threads", 1, 64}, {"threads times calls", 1, 1000000000}, {"keys", 1, 1048576}, {"pauses", 0, 100}, {"runs", 1, 1000000}, {"seconds", 1, 3600}, {"at_least", 0, 100}, {"the sum of shares", 1, 1000000}}
+var ranges = []limits{{"threads", 1, 64}, {"threads times calls", 1, 1000000000}, {"keys", 1, 1048576}, {"pauses", 0, 100}, {"runs", 1, 1000000}, {"seconds", 1, 3600}, {"within", 1, 604800}, {"at_least", 0, 100}, {"the sum of shares", 1, 1000000}}
 
 const (
 	manyPart     = 20000
@@ -12,35 +12,38 @@ const (
 	manyHot      = 4
 	manyEnough   = 5
 	manyHarder   = 2
-	manyFurther  = 20
-	manyPatience = 3
-	manyReadable = 6
+	manyPatience = 10
 	manyMeet     = 250
 	manyAwake    = 300000
-	sayOk        = "ok: %v calls, of which %v overlapped a change of their key"
-	sayFew       = "that is few: take more threads, fewer keys or a machine that does less"
-	sayTooFew    = "%v of %v calls overlapped a change of their key, and at_least asks for %v of 100: take more threads, fewer keys or a machine that does less"
-	sayFailedRun = "seed %v (%v): %v\nrecorded in %v; judge: %v"
-	sayRange     = "%v is %v, and has to be %v to %v"
-	sayTwice     = "the key function gives %v for %v and for %v: let it give each number a key of its own"
+	manyWithin   = 60
+	manyApart    = 100
+	sayOk        = "ok: %v calls, and %v of them overlapped a change of their key"
+	sayFew       = "few calls overlapped, so ok means little: %v calls, and %v of them overlapped a change of their key"
+	sayTooFew    = "too few calls overlapped: %v of %v calls overlapped a change of their key, and at_least requires %v of 100. Use fewer keys, more threads, or a less busy machine"
+	sayFailedRun = "%v\n\nseed %v (%v), %v threads%v; recorded in %v%v; judge: %v"
+	sayRange     = "%v is %v, but must be %v to %v"
+	sayTwice     = "the key function returns %v for %v and for %v, but must return a different key for each number"
 	sayHung      = "the set hung: no call began or ended for %v s"
 	sayCrashed   = "the set crashed: %v"
-	sayEndedSo   = "the set ended its process with the status %v"
+	sayEndedSo   = "the set ended its process with status %v"
 	sayThrew     = "a call of the set failed: %v"
-	sayNotMade   = "the set could not be made: %v"
-	sayUnderWay  = "%v\nunder way:\n%vup to there: %v"
+	sayNotMade   = "the set could not be created: %v"
+	sayUnderWay  = "%v\npending: %v\nbefore that: %v"
 	sayExplained = "some order explains the calls"
-	sayCounted   = "%v adds and %v removes of key %v answered true; it was %v at first, and is %v at the end"
-	sayThere     = "there"
-	sayNotThere  = "not there"
-	sayKeyIs     = "key %v of the recording is %v"
-	sayInSet     = ", in the fresh set %v of the run"
-	sayNoFolder  = "no file can be written in %v: name another folder by record"
-	sayNoMemory  = "there is no memory for the calls of a run"
+	sayKeyIs     = "; key %v of the recording is %v"
+	sayInSet     = ", in set %v of the run"
+	sayNoFolder  = "no file can be written in %v: set record to another folder"
+	sayNoMemory  = "there is not enough memory for the calls of a run"
 	sayNoProcess = "no process could be started for a run: %v"
-	sayNotAgain  = "the test did not come to this judge again in a process of its own: set own_process to false"
-	sayNoJudge   = "%v cannot be run: build listset, and put it in PATH or name it by LISTSET (node runs a listset.js)"
-	sayNoVerdict = "%v gave no verdict, but said: %v. Take a newer listset"
+	sayNotAgain  = "the child process ran the test, but did not reach this judge: set own_process to false"
+	sayNoJudge   = "no judge was found: %v cannot be run. Copy the file judge/listset.js of this judge's repository, and set LISTSET to its path (Node 18 runs it); or put the program listset in PATH. LISTSET=skip skips this test"
+	sayIsFolder  = "%v is a folder: set LISTSET to the program in it"
+	sayNoVerdict = "%v printed no verdict, but: %v. Use a newer listset"
+	sayAndMore   = "%v, and %v more calls"
+	sayAlone     = ", the calls that show it in %v"
+	saySkipped   = "skipped: LISTSET is skip"
+	sayNotInCi   = "LISTSET is skip, but the variable CI is set: in CI no test is skipped"
+	sayNumber    = "the variable %v is %v, but must be a number from %v to %v"
 )
 
 // end of what is made

@@ -1,5 +1,6 @@
 package listset;
 
+import java.io.ByteArrayInputStream;
 import java.io.ByteArrayOutputStream;
 import java.io.File;
 import java.io.IOException;
@@ -17,12 +18,14 @@ import java.nio.file.Files;
 import java.nio.file.Path;
 import java.nio.file.StandardOpenOption;
 import java.util.ArrayList;
+import java.util.Arrays;
 import java.util.Comparator;
 import java.util.HashMap;
 import java.util.List;
 import java.util.Map;
 import java.util.Set;
 import java.util.SplittableRandom;
+import java.util.concurrent.atomic.AtomicBoolean;
 import java.util.concurrent.atomic.AtomicReference;
 import java.util.concurrent.locks.LockSupport;
 import java.util.function.BiPredicate;
@@ -36,25 +39,32 @@ import java.util.stream.Collectors;
 import java.util.stream.Stream;
 
 /**
- * Whether runs of a concurrent set of your own are linearizable, in one line of a test (Java 16):
+ * Tests whether a concurrent set of your own is linearizable, in one line of a test (Java 16):
  *
  * <pre>{@code @Test void isLinearizable() { System.out.println(Judge.judge(MySet::new)); }}</pre>
  *
- * MySet is a {@code Set<Integer>}; any other set is called by three method references. Threads call fresh sets, and the begin and the
- * end of each call are recorded. {@code listset judge FILE} says whether any order of the calls explains their replies: the environment
- * variable LISTSET names this program, else it is {@code listset} of PATH. LISTSET may also name the page's listset.js, which node
- * runs. The sets have a JVM of their own, if the method references can be passed on to one and a set be made there: so a set that ends
- * its JVM is judged up to there, as one that hangs.
+ * <p>MySet is a {@code Set<Integer>}; any other set is called by three method references. Threads call new sets, and
+ * the begin and the end of each call are recorded. {@code listset judge FILE} decides whether some order of the calls
+ * explains their replies.
+ *
+ * <p>The environment variable LISTSET names this program; otherwise it is {@code listset} in PATH. LISTSET can also
+ * name a listset.js, which node runs. If it is {@code skip}, the test is skipped in the way of JUnit or TestNG.
+ *
+ * <p>The sets are called in a JVM of their own, if the method references can be sent there and a set can be created
+ * there. If a set ends its JVM or hangs there, its calls so far are judged.
  */
 public final class Judge {
     private static final String[] WORDS = {"add", "remove", "contains"};
     private static final long SECOND = 1_000_000_000L; // nanoseconds
 
-    /** A run: the threads, the fresh sets one after another, the calls of each thread on each, the keys, what their numbers are multiples of. */
+    /**
+     * The shape of a run: the numbers of threads, of new sets one after another, of calls of each thread on each set,
+     * and of keys, which are the multiples of {@code times}.
+     */
     private record Shape(String name, int threads, int sets, int calls, int keys, int times) {
         long allCalls() { return (long) threads * sets * calls; }
 
-        /** The calls of each thread from one rest to the next, of which the last of a set may be fewer. */
+        /** Returns how many calls a thread makes in a part. The last part of a set can have fewer. */
         int rows() { return Math.min(calls, PART / threads); }
 
         int parts() { return (calls - 1) / rows() + 1; }
@@ -66,76 +76,98 @@ public final class Judge {
 
     // made of words.json by judge/make_words: PART and MEET in calls, PATIENCE in seconds
     private static final Shape[] PRESETS = {new Shape("few keys", 4, 1, 5000, 4, 1), new Shape("fresh sets", 4, 40, 10, 4, 1), new Shape("multiples of 64", 4, 1, 5000, 8, 64), new Shape("one key", 3, 1, 5000, 1, 1), new Shape("sets that grow", 4, 20, 125, 64, 1), new Shape("many keys", 4, 1, 2500, 1000, 1), new Shape("multiples of 1,000", 8, 1, 2500, 8, 1000)};
-    private static final Limits[] RANGES = {new Limits("threads", 1, 64), new Limits("threads times calls", 1, 1000000000), new Limits("keys", 1, 1048576), new Limits("pauses", 0, 100), new Limits("runs", 1, 1000000), new Limits("seconds", 1, 3600), new Limits("at_least", 0, 100), new Limits("the sum of shares", 1, 1000000)};
-    private static final int PART = 20000, LONGEST = 100, HOT = 4, ENOUGH = 5, HARDER = 2, FURTHER = 20, PATIENCE = 3, READABLE = 6, MEET = 250, AWAKE = 300000;
-    private static final String OK = "ok: %s calls, of which %s overlapped a change of their key";
-    private static final String FEW = "that is few: take more threads, fewer keys or a machine that does less";
-    private static final String TOO_FEW = "%s of %s calls overlapped a change of their key, and at_least asks for %s of 100: take more threads, fewer keys or a machine that does less";
-    private static final String FAILED_RUN = "seed %s (%s): %s\nrecorded in %s; judge: %s";
-    private static final String RANGE = "%s is %s, and has to be %s to %s";
-    private static final String TWICE = "the key function gives %s for %s and for %s: let it give each number a key of its own";
+    private static final Limits[] RANGES = {new Limits("threads", 1, 64), new Limits("threads times calls", 1, 1000000000), new Limits("keys", 1, 1048576), new Limits("pauses", 0, 100), new Limits("runs", 1, 1000000), new Limits("seconds", 1, 3600), new Limits("within", 1, 604800), new Limits("at_least", 0, 100), new Limits("the sum of shares", 1, 1000000)};
+    private static final int PART = 20000, LONGEST = 100, HOT = 4, ENOUGH = 5, HARDER = 2, PATIENCE = 10, MEET = 250, AWAKE = 300000, WITHIN = 60, APART = 100;
+    private static final String OK = "ok: %s calls, and %s of them overlapped a change of their key";
+    private static final String FEW = "few calls overlapped, so ok means little: %s calls, and %s of them overlapped a change of their key";
+    private static final String TOO_FEW = "too few calls overlapped: %s of %s calls overlapped a change of their key, and at_least requires %s of 100. Use fewer keys, more threads, or a less busy machine";
+    private static final String FAILED_RUN = "%s\n\nseed %s (%s), %s threads%s; recorded in %s%s; judge: %s";
+    private static final String RANGE = "%s is %s, but must be %s to %s";
+    private static final String TWICE = "the key function returns %s for %s and for %s, but must return a different key for each number";
     private static final String HUNG = "the set hung: no call began or ended for %s s";
-    private static final String ENDED_SO = "the set ended its process with the status %s";
+    private static final String ENDED_SO = "the set ended its process with status %s";
     private static final String THREW = "a call of the set failed: %s";
-    private static final String NOT_MADE = "the set could not be made: %s";
-    private static final String UNDER_WAY = "%s\nunder way:\n%sup to there: %s";
+    private static final String NOT_MADE = "the set could not be created: %s";
+    private static final String UNDER_WAY = "%s\npending: %s\nbefore that: %s";
     private static final String EXPLAINED = "some order explains the calls";
-    private static final String COUNTED = "%s adds and %s removes of key %s answered true; it was %s at first, and is %s at the end";
-    private static final String THERE = "there";
-    private static final String NOT_THERE = "not there";
-    private static final String KEY_IS = "key %s of the recording is %s";
-    private static final String IN_SET = ", in the fresh set %s of the run";
-    private static final String NO_FOLDER = "no file can be written in %s: name another folder by record";
-    private static final String NO_JUDGE = "%s cannot be run: build listset, and put it in PATH or name it by LISTSET (node runs a listset.js)";
-    private static final String NO_VERDICT = "%s gave no verdict, but said: %s. Take a newer listset";
+    private static final String KEY_IS = "; key %s of the recording is %s";
+    private static final String IN_SET = ", in set %s of the run";
+    private static final String NO_FOLDER = "no file can be written in %s: set record to another folder";
+    private static final String NO_JUDGE = "no judge was found: %s cannot be run. Copy the file judge/listset.js of this judge's repository, and set LISTSET to its path (Node 18 runs it); or put the program listset in PATH. LISTSET=skip skips this test";
+    private static final String IS_FOLDER = "%s is a folder: set LISTSET to the program in it";
+    private static final String NO_VERDICT = "%s printed no verdict, but: %s. Use a newer listset";
+    private static final String AND_MORE = "%s, and %s more calls";
+    private static final String ALONE = ", the calls that show it in %s";
+    private static final String SKIPPED = "skipped: LISTSET is skip";
+    private static final String NOT_IN_CI = "LISTSET is skip, but the variable CI is set: in CI no test is skipped";
+    private static final String NUMBER = "the variable %s is %s, but must be a number from %s to %s";
     // end of what is made
 
     private Judge() { }
 
-    /** How a set is called. A change makes other options. They are checked before the first set is made. */
+    /**
+     * Options of a test. All are checked before the first set is created. A {@code with} method returns changed
+     * options, and leaves the old ones as they are.
+     */
     public static final class Options implements Serializable, Cloneable {
         private static final long serialVersionUID = 1;
-        private int threads, calls, keys, pauses = 20, runs = 20, seconds = 10, atLeast, adds = 1, removes = 1, finds = 1;
+        private int threads, calls, keys, pauses = 20, runs = 20, seconds = 10, within = WITHIN, atLeast, adds = 1, removes = 1, finds = 1;
         private long seed = 1;
         private boolean ownProcess = true, opensWithKeys;
         private String record;
 
-        /** Threads that call a set at once: 1 to 64; 0, here and in the next two: by the presets of runs, in turn. */
+        /** Sets the number of threads that call a set at once: 1 to 64. 0 uses the presets in turn. */
         public Options withThreads(int it) { return with(made -> made.threads = it); }
 
-        /** Calls of each thread: 1 or more, and 1,000,000,000 at most of all, which rest after each 20,000 until these are written. */
+        /**
+         * Sets the number of calls of each thread: at least 1, and at most 1,000,000,000 for all threads together. 0 uses
+         * the presets in turn. After each 20,000 calls of all threads, these are written to the file while the threads
+         * wait.
+         */
         public Options withCalls(int it) { return with(made -> made.calls = it); }
 
-        /** Calls are on the keys of the numbers below this: 1 to 1,048,576; half of them on the first four. */
+        /**
+         * Sets the number of keys: 1 to 1,048,576. 0 uses the presets in turn. With more than eight keys, half of the calls
+         * use the first four.
+         */
         public Options withKeys(int it) { return with(made -> made.keys = it); }
 
-        /** Before how many of 100 calls a thread pauses, for some microseconds at most: 0 to 100. */
+        /**
+         * Sets the percentage of calls before which a thread pauses, for at most a few microseconds: 0 to 100. Unless it is
+         * 0, threads in a JVM of the set's own are also stopped during calls.
+         */
         public Options withPauses(int it) { return with(made -> made.pauses = it); }
 
-        /** Sets that are called, or rows of fresh sets: 1 to 1,000,000. */
+        /** Sets the number of runs: 1 to 1,000,000. A run calls one set, or several new sets one after another. */
         public Options withRuns(int it) { return with(made -> made.runs = it); }
 
-        /** What the calls, keys and pauses of the first run are drawn from; the next run has the next seed. */
+        /** Sets the seed of the calls, keys and pauses of the first run. The next run has the next seed. */
         public Options withSeed(long it) { return with(made -> made.seed = it); }
 
-        /** A run in which no call begins or ends for so long is ended: 1 to 3,600. */
+        /** Sets the seconds without a begin or an end of a call after which a run is cut short as hung: 1 to 3,600. */
         public Options withSeconds(int it) { return with(made -> made.seconds = it); }
 
-        /** The test fails if fewer of 100 calls overlap a change of their key. */
+        /** Sets the seconds of the test after which no run begins: 1 to 604,800. */
+        public Options withWithin(int it) { return with(made -> made.within = it); }
+
+        /** Sets the percentage of calls that must overlap a change of their key. With fewer the test fails with {@link TooFew}. */
         public Options withAtLeast(int it) { return with(made -> made.atLeast = it); }
 
-        /** The shares of the three operations. */
+        /** Sets the shares of add, remove and contains. */
         public Options withShares(int add, int remove, int contains) {
             return with(made -> { made.adds = add; made.removes = remove; made.finds = contains; });
         }
 
-        /** If false, the set is called in this JVM, which then ends with it (for a debugger, or for coverage). */
+        /** Sets whether sets have a JVM of their own. Otherwise this JVM ends or hangs with them: for debuggers and for coverage. */
         public Options withOwnProcess(boolean it) { return with(made -> made.ownProcess = it); }
 
-        /** If true, contains is asked of each key before the first call. */
+        /** Sets whether contains is called for each key before all other calls, to record the opening keys. */
         public Options withOpeningKeys(boolean it) { return with(made -> made.opensWithKeys = it); }
 
-        /** A folder that keeps the recording of each run; else, or if it is null, that of a run that fails is kept in java.io.tmpdir. */
+        /**
+         * Sets the folder that keeps the recording of each run. If null, only the recording of a failed run is kept: in the
+         * folder that the variable LISTSET_RECORD names, or else in java.io.tmpdir.
+         */
         public Options withRecord(String it) { return with(made -> made.record = it); }
 
         private Options with(Consumer<Options> change) {
@@ -151,14 +183,14 @@ public final class Judge {
         private void check() {
             long t = Math.max(threads, 1), c = Math.max(calls, 1);
             long shares = Math.min(adds, Math.min(removes, finds)) < 0 ? -1 : (long) adds + removes + finds;
-            long[] given = {threads == 0 ? 1 : threads, calls < 0 ? calls : t * c, keys == 0 ? 1 : keys, pauses, runs, seconds, atLeast, shares};
+            long[] given = {threads == 0 ? 1 : threads, calls < 0 ? calls : t * c, keys == 0 ? 1 : keys, pauses, runs, seconds, within, atLeast, shares};
             for (int i = 0; i < RANGES.length; i++) {
                 Limits its = RANGES[i];
                 if (given[i] < its.least || given[i] > its.most) throw new NoVerdict(RANGE.formatted(its.name, given[i], its.least, its.most));
             }
         }
 
-        /** The preset of a seed, with what these options say. */
+        /** Returns the preset for a seed, changed by these options. */
         private Shape shapeOf(long seed) {
             Shape it = PRESETS[(int) Math.floorMod(seed - 1, (long) PRESETS.length)];
             int ofSet = calls > 0 ? calls : opensWithKeys ? it.sets * it.calls : it.calls;
@@ -166,34 +198,49 @@ public final class Judge {
                 keys > 0 ? keys : it.keys, keys > 0 ? 1 : it.times);
         }
 
-        /** With more threads and fewer keys, where these options leave them open. */
+        /**
+         * Applies the environment variables. LISTSET_SECONDS repeats runs for that many seconds, with seeds that count
+         * up from the current time. LISTSET_SEED sets the first seed.
+         */
+        private Options byEnvironment() {
+            int seconds = (int) numberOf("LISTSET_SECONDS", 0, 1, RANGES[6].most);
+            Options it = seconds == 0 ? this : withWithin(seconds).withRuns((int) RANGES[4].most).withSeed(System.currentTimeMillis() / 1000);
+            return it.withSeed(numberOf("LISTSET_SEED", it.seed, 0, 0xffff_ffffL));
+        }
+
+        /**
+         * Returns a shape whose calls overlap more: more threads, even more than processors, and fewer keys, unless
+         * these options set them. The number of all calls does not grow.
+         */
         private Shape harder(Shape it) {
-            int more = threads > 0 ? it.threads : Math.min(2 * it.threads, 8), fewer = keys > 0 ? it.keys : Math.max(it.keys / 2, 1);
-            return new Shape(it.name, more, it.sets, it.calls, fewer, it.times);
+            int wanted = Math.max(2 * it.threads, Runtime.getRuntime().availableProcessors() + 2), more = threads > 0 ? it.threads : Math.min(wanted, 64);
+            int less = calls > 0 ? it.calls : Math.max(it.calls * it.threads / more, 1), fewer = keys > 0 ? it.keys : Math.max(it.keys / 2, 1);
+            return new Shape(it.name, more, it.sets, less, fewer, it.times);
         }
     }
 
     /**
-     * What is known if some order explains each run: the calls, those that overlapped a change of their key, by the judge, and which judge
-     * it was, with whether it says that it is proved. It prints itself.
+     * The result of a test without a failure: some order explains each run. It has the number of calls, how many of
+     * them overlapped a change of their key, as the judge counted them, and the judge with its statement about its
+     * proof. {@code toString} returns it as text.
      */
     public record Verdict(long calls, long overlapped, String judge) {
         @Override public String toString() {
-            return OK.formatted(calls, overlapped) + (isFew(overlapped, calls) ? "; " + FEW : "") + "; judge: " + judge;
+            return judge.isEmpty() ? SKIPPED : (isFew(overlapped, calls) ? FEW : OK).formatted(calls, overlapped) + "; judge: " + judge;
         }
     }
 
-    /** Whether so few calls met that {@code ok} says little. */
+    /** Decides whether too few calls overlapped for {@code ok} to mean much. */
     private static boolean isFew(long overlapped, long calls) { return overlapped * 100 < calls * ENOUGH; }
 
-    /** What the judge said of the run of this seed, and the file that has its recording. */
+    /** A failed run: what the judge printed, and the file with the recording. */
     public static class Failed extends AssertionError {
         private static final long serialVersionUID = 1;
         public final long seed;
         public final String said, file;
 
-        Failed(long seed, String name, String said, Path file, Program judge) {
-            super(FAILED_RUN.formatted(seed, name, said, file, judge));
+        Failed(long seed, String said, Path file, String text) {
+            super(text);
             this.seed = seed;
             this.said = said;
             this.file = file.toString();
@@ -204,24 +251,24 @@ public final class Judge {
     public static final class NotLinearizable extends Failed {
         private static final long serialVersionUID = 1;
 
-        NotLinearizable(long seed, String name, String said, Path file, Program judge) { super(seed, name, said, file, judge); }
+        NotLinearizable(long seed, String said, Path file, String text) { super(seed, said, file, text); }
     }
 
-    /** The set ended its JVM, hung or threw in the run, which was judged up to there. */
+    /** The set ended its JVM, hung or threw in the run. The calls before that were judged. */
     public static final class CutShort extends Failed {
         private static final long serialVersionUID = 1;
 
-        CutShort(long seed, String name, String said, Path file, Program judge) { super(seed, name, said, file, judge); }
+        CutShort(long seed, String said, Path file, String text) { super(seed, said, file, text); }
     }
 
-    /** Fewer calls overlapped a change of their key than asked for. */
+    /** Fewer calls overlapped a change of their key than the options require. */
     public static final class TooFew extends AssertionError {
         private static final long serialVersionUID = 1;
 
         TooFew(String why) { super(why); }
     }
 
-    /** Nothing is known of the set: an option is out of range, no set could be made, or there is no judge. */
+    /** Nothing is known about the set: an option is out of range, no set could be created, or no judge was found. */
     public static final class NoVerdict extends RuntimeException {
         private static final long serialVersionUID = 1;
 
@@ -230,18 +277,21 @@ public final class Judge {
         NoVerdict(String why, Throwable cause) { super(why + cause, cause); }
     }
 
-    /** What a call throws if its outcome is not known, as after a time-out. */
+    /** Thrown by a call whose outcome is unknown, such as after a timeout. */
     public static final class NotKnown extends RuntimeException {
         private static final long serialVersionUID = 1;
     }
 
-    /** What makes a set. A method reference or a lambda is one, which is passed on to another JVM unless it refers to what cannot be. */
+    /**
+     * Creates a set. A method reference or a lambda is sent to the other JVM, unless it refers to an object that cannot
+     * be sent.
+     */
     public interface Make<S> extends Supplier<S>, Serializable { }
 
-    /** What gives the key of a number, each another one. */
+    /** Returns the key of a number, a different one for each number. */
     public interface Keys<K> extends IntFunction<K>, Serializable { }
 
-    /** What makes a call of a set. */
+    /** Makes a call of a set. */
     public interface Call<S, K> extends BiPredicate<S, K>, Serializable { }
 
     public static Verdict judge(Make<? extends Set<Integer>> make) { return judge(make, new Options()); }
@@ -254,96 +304,131 @@ public final class Judge {
         return judge(make, add, remove, contains, new Options());
     }
 
-    /** Judges any set, by its three calls; throws of a run that no order explains, or in which the set hangs, throws or ends its JVM. */
+    /**
+     * Judges any set through its three calls. Throws {@link NotLinearizable} if no order explains a run, and {@link
+     * CutShort} if the set hangs, throws or ends its JVM.
+     */
     public static <S> Verdict judge(Make<? extends S> make, Call<S, Integer> add, Call<S, Integer> remove, Call<S, Integer> contains, Options how) {
         return Tester.judge(how, new Calls<>(make, null, add, remove, contains));
     }
 
-    /** The same for a set of other keys. */
+    /**
+     * Judges sets with keys of another type. {@code keys} returns the key of a number, and must return a different key
+     * for each number.
+     */
     public static <S, K> Verdict judge(Make<? extends S> make, Keys<K> keys, Call<S, K> add, Call<S, K> remove, Call<S, K> contains, Options how) {
         return Tester.judge(how, new Calls<>(make, keys, add, remove, contains));
     }
 
-    /** Of a run: how many calls overlapped a change of their key; or why it failed, and what the judge refused. */
-    private record Outcome(long overlapped, Failed failed, Refusal refused) { }
+    /** Returns the number in an environment variable, or {@code other} if the variable is not set. */
+    private static long numberOf(String variable, long other, long least, long most) {
+        String text = System.getenv(variable);
+        if (text == null || text.isEmpty()) return other;
+        long found = text.matches("[0-9]{1,18}") ? Long.parseLong(text) : -1;
+        if (found < least || found > most) throw new NoVerdict(NUMBER.formatted(variable, text, least, most));
+        return found;
+    }
 
-    /** Judges one run after another. */
+    /** Skips the test in the way of JUnit or TestNG. Without them, returns a verdict without calls. */
+    private static Verdict skipped() {
+        if (System.getenv("CI") != null && !System.getenv("CI").isEmpty()) throw new NoVerdict(NOT_IN_CI);
+        for (String name : List.of("org.opentest4j.TestAbortedException", "org.junit.AssumptionViolatedException", "org.testng.SkipException")) {
+            try {
+                throw (RuntimeException) Class.forName(name).getConstructor(String.class).newInstance(SKIPPED);
+            } catch (ReflectiveOperationException another) {
+                // (the tests are run by something else)
+            }
+        }
+        System.err.println(SKIPPED);
+        return new Verdict(0, 0, "");
+    }
+
+    /** The state of a test: judges one run after another. */
     private record Tester<S, K>(Options how, Calls<S, K> calls, Program program, Caller<S, K> caller) {
         static <S, K> Verdict judge(Options how, Calls<S, K> calls) {
             how.check();
+            if ("skip".equals(System.getenv("LISTSET"))) return skipped();
             calls.check(how.keys > 0 ? how.keys : Stream.of(PRESETS).mapToInt(Shape::keys).max().getAsInt());
             Program program = Program.found();
             try (Caller<S, K> caller = Caller.of(calls, how)) {
-                return new Tester<>(how, calls, program, caller).all();
+                return new Tester<>(how.byEnvironment(), calls, program, caller).all();
             } catch (IOException full) {
                 throw new NoVerdict("the recording cannot be written: ", full);
             }
         }
 
+        /** Makes the requested runs, each up to three times, then more runs while few calls have overlapped. */
         private Verdict all() throws IOException {
-            long count = 0, overlapped = 0, until = System.nanoTime() + PATIENCE * SECOND;
-            for (long seed = how.seed; seed - how.seed < how.runs; seed++) {
+            long began = System.nanoTime(), seed = how.seed;
+            long[] sums = {0, 0}; // the number of calls, and of those that overlapped
+            for (; seed - how.seed < how.runs && (seed == how.seed || isWithin(began, how.within)); seed++) {
                 Shape shape = how.shapeOf(seed);
-                for (int tries = 0; tries <= HARDER; tries++, shape = how.harder(shape)) {
-                    Outcome found = judged(seed, shape);
-                    if (found.refused != null) found = smallest(found);
-                    if (found.failed != null) throw found.failed;
-                    count += shape.allCalls();
-                    overlapped += found.overlapped;
-                    if (!isFew(found.overlapped, shape.allCalls()) || System.nanoTime() > until) break;
-                }
+                for (int tries = 0; areFew(sums, seed, shape) && tries < HARDER && isWithin(began, PATIENCE); tries++) shape = how.harder(shape);
             }
-            Verdict verdict = new Verdict(count, overlapped, program.toString());
-            if (isFew(overlapped, count)) System.err.println(verdict); // (a test that passes may show no verdict)
-            if (overlapped * 100 < count * how.atLeast) throw new TooFew(TOO_FEW.formatted(overlapped, count, how.atLeast));
+            for (long end = System.nanoTime(); isFew(sums[1], sums[0]) && isWithin(began, how.within) && isWithin(end, PATIENCE); seed++) {
+                areFew(sums, seed, how.harder(how.harder(how.shapeOf(seed))));
+            }
+            Verdict verdict = new Verdict(sums[0], sums[1], program.toString());
+            if (isFew(sums[1], sums[0])) System.err.println(verdict); // (a test that passes can hide the verdict)
+            if (sums[1] * 100 < sums[0] * how.atLeast) throw new TooFew(TOO_FEW.formatted(sums[1], sums[0], how.atLeast));
             return verdict;
         }
 
-        /** Of a refusal and of further runs, the one that has the fewest calls, and two at least. */
-        private Outcome smallest(Outcome found) throws IOException {
-            long until = System.nanoTime() + PATIENCE * SECOND, seed = found.failed.seed;
-            for (int i = 0; i < FURTHER && found.refused.rank() > READABLE / 2 && System.nanoTime() < until; i++) {
-                seed += PRESETS.length;
-                Outcome other = judged(seed, how.shapeOf(seed));
-                if (other.failed == null) continue;
-                boolean isSmaller = other.refused != null && other.refused.rank() < found.refused.rank();
-                if (how.record == null) new File((isSmaller ? found : other).failed.file).delete();
-                if (isSmaller) found = other;
-                if (other.refused == null) break; // (a JVM of its own that has ended makes no further run)
-            }
-            return found;
+        private static boolean isWithin(long since, int seconds) { return System.nanoTime() - since < seconds * SECOND; }
+
+        /** Makes a run and adds its numbers to the sums. Returns whether few of its calls overlapped. */
+        private boolean areFew(long[] sums, long seed, Shape shape) throws IOException {
+            long overlapped = judged(seed, shape);
+            sums[0] += shape.allCalls();
+            sums[1] += overlapped;
+            return isFew(overlapped, shape.allCalls());
         }
 
-        private Outcome judged(long seed, Shape shape) throws IOException {
+        /** Makes a run and judges it. Returns how many calls overlapped a change of their key. */
+        private long judged(long seed, Shape shape) throws IOException {
             try (Recording recording = new Recording(seed, how.record)) {
                 Path file = recording.file;
-                String trouble = caller.made(seed, shape, file), underWay = trouble == null ? "" : caller.area.cut();
+                String trouble = caller.made(seed, shape, file), pending = trouble == null ? "" : caller.area.cut();
                 Judgement judged = program.judged(file);
-                Refusal refused = judged.refused;
-                if (trouble == null && refused == null) return new Outcome(judged.overlapped, null, null);
+                if (trouble == null && judged.refused == null) return judged.overlapped;
                 recording.isKept = true;
-                String said = refused == null ? EXPLAINED : refused.explained(file) + keyLine(refused, shape);
-                if (trouble == null) return new Outcome(0, new NotLinearizable(seed, shape.name, said, file, program), refused);
-                return new Outcome(0, new CutShort(seed, shape.name, UNDER_WAY.formatted(trouble, underWay, said), file, program), null);
+                String refused = judged.refused == null ? EXPLAINED : judged.refused;
+                String said = trouble == null ? refused : UNDER_WAY.formatted(trouble, pending, refused);
+                Matcher found = OF_KEY.matcher(refused);
+                String key = found.find() ? found.group(1) : null, named = key == null ? "" : keyLine(Integer.parseInt(key), shape);
+                String text = FAILED_RUN.formatted(said, seed, shape.name, shape.threads, named, file, key == null ? "" : alone(file, key), program);
+                throw trouble == null ? new NotLinearizable(seed, said, file, text) : new CutShort(seed, said, file, text);
             }
         }
 
-        /** Which key of which set it is that the judge names, if its number does not say so. */
-        private String keyLine(Refusal refused, Shape shape) {
-            int number = refused.key();
-            if (number < 0) return "";
+        /**
+         * Writes the calls that show a refusal to a small file beside the recording. Returns the part of the message
+         * that names the file.
+         */
+        private String alone(Path file, String key) throws IOException {
+            Answer answer = program.answer("judge", "--only", key, file.toString());
+            if (answer.status != 0) return "";
+            String name = file.toString();
+            return ALONE.formatted(Files.writeString(Path.of(name.substring(0, name.length() - ".calls".length()) + "-key-" + key + ".calls"), answer.said + "\n"));
+        }
+
+        /** Describes the key of a number in the recording, and its set if the run has several. Empty if the number is enough. */
+        private String keyLine(int number, Shape shape) {
             String key = String.valueOf(calls.key(number % shape.keys, shape.times));
             String ofSet = shape.sets > 1 ? IN_SET.formatted(number / shape.keys + 1) : "";
-            return key.equals("" + number) && ofSet.isEmpty() ? "" : "\n" + KEY_IS.formatted(number, key) + ofSet;
+            return key.equals("" + number) && ofSet.isEmpty() ? "" : KEY_IS.formatted(number, key) + ofSet;
         }
     }
 
-    // ---- a run, written down as it goes
+    // ---- a run, and its recording
 
     private record Calls<S, K>(Make<? extends S> make, Keys<K> keys, Call<S, K> add, Call<S, K> remove, Call<S, K> contains) implements Serializable {
         private static final int NO = 0, YES = 1, UNKNOWN = 2;
 
-        /** The key of a number, each time made anew; if no function is given, a multiple of the number. */
+        /**
+         * Returns the key of a number. Each call creates a new object; without a function for keys it is a multiple of
+         * the number.
+         */
         @SuppressWarnings("unchecked")
         K key(int number, int times) { return keys == null ? (K) Integer.valueOf(number * times) : keys.apply(number); }
 
@@ -364,14 +449,15 @@ public final class Judge {
         }
     }
 
-    /** A run in memory that another JVM may share: the calls since those in its file. */
+    /** The memory of a run, which JVMs can share. It has the calls that are not yet in the file. */
     private record Area(Options how, ByteBuffer memory) {
         private static final VarHandle INT = MethodHandles.byteBufferViewVarHandle(int[].class, ByteOrder.nativeOrder());
-        // Where numbers are: IS_HERE that another JVM has come, WRITTEN the bytes of the file, SHAPE five of them; WHY and FILE a text.
-        private static final int TICKETS = 0, THERE = 4, DONE = 8, BEGUN = 12, AT = 16, STOPPING = 20, IS_HERE = 24, SEED = 32, WRITTEN = 40,
+        // Offsets in the memory. IS_HERE: whether the other JVM has started. WRITTEN: the length of the file. SHAPE:
+        // five numbers. WHY and FILE: texts.
+        private static final int TICKETS = 0, THERE = 4, DONE = 8, BEGUN = 12, AT = 16, STOPPING = 20, IS_HERE = 24, IS_BUSY = 28, SEED = 32, WRITTEN = 40,
             SHAPE = 48, WHY = 68, FILE = WHY + 4 + 240, SLOTS = FILE + 4 + 1024;
-        private static final int BEGIN = 0, END = 4, CALL = 8, KEY = 12, REPLY = 16, THREAD = 20, SLOT = 24; // of a call, those of each thread in turn
-        private static final int GOING = 1, OVER = 2, FAILED = 3, UNMADE = 4; // AT
+        private static final int BEGIN = 0, END = 4, CALL = 8, KEY = 12, REPLY = 16, THREAD = 20, SLOT = 24; // offsets in a call; the calls of each thread in turn
+        private static final int GOING = 1, OVER = 2, FAILED = 3, UNMADE = 4; // the values of AT
         private static final int SIZE = SLOTS + PART * SLOT;
 
         Area {
@@ -388,7 +474,7 @@ public final class Judge {
             return new Shape("", get(SHAPE), get(SHAPE + 4), get(SHAPE + 8), get(SHAPE + 12), get(SHAPE + 16));
         }
 
-        /** Begins the run of a seed, which is written into a file. */
+        /** Prepares the memory for the run of a seed, and starts the run. Its calls are written to the file. */
         void begin(long seed, Shape of, Path file) {
             for (int at = 0; at < SIZE; at += 4) if (at != IS_HERE) memory.putInt(at, 0);
             memory.putLong(SEED, seed);
@@ -410,17 +496,22 @@ public final class Judge {
             return new String(bytes, StandardCharsets.UTF_8);
         }
 
-        /** The lines of the calls since those in the file. */
+        /** Returns the lines of the calls in memory. */
         private String lines() { return rows().stream().map(Row::line).collect(Collectors.joining()); }
 
-        /** Writes those calls as the last of a run that was cut short; gives those under way. */
+        /**
+         * Ends the recording of a run that was cut short, with the calls in memory. Returns the first pending call, and
+         * how many more there are.
+         */
         String cut() throws IOException {
-            List<Row> rows = rows(); // (once: calls that were under way may go on)
+            List<Row> rows = rows();
             write(rows.stream().map(Row::line).collect(Collectors.joining()) + "cut\n");
-            return rows.stream().filter(it -> it.end == 0 && it.reply != Calls.UNKNOWN).map(Row::line).collect(Collectors.joining());
+            List<Row> pending = rows.stream().filter(it -> it.end == 0 && it.reply != Calls.UNKNOWN).collect(Collectors.toList());
+            String first = pending.isEmpty() ? "no call" : pending.get(0).line().strip();
+            return pending.size() > 1 ? AND_MORE.formatted(first, pending.size() - 1) : first;
         }
 
-        /** Writes lines behind those in the file, for all of its calls; the calls in memory are then over. */
+        /** Appends lines for the calls in memory to the file, and clears these calls. */
         void write(String lines) throws IOException {
             try (FileChannel file = FileChannel.open(Path.of(text(FILE)), StandardOpenOption.WRITE)) {
                 long written = memory.getLong(WRITTEN);
@@ -432,44 +523,59 @@ public final class Judge {
             for (int at = SLOTS; at < SIZE; at += SLOT) memory.putLong(at, 0);
         }
 
-        /** The calls of the part by their begins. */
+        /**
+         * Returns the calls in memory, in the order of their begins. Threads can still make calls: a call that begins
+         * later than now is left out, and a call that ends later is pending.
+         */
         private List<Row> rows() {
             List<Row> found = new ArrayList<>();
-            int behind = SLOTS + shape().threads * shape().rows() * SLOT;
+            int now = get(TICKETS), behind = SLOTS + shape().threads * shape().rows() * SLOT;
             for (int at = SLOTS; at < behind; at += SLOT) {
-                int end = get(at + END), begin = get(at + BEGIN), reply = end > 0 ? get(at + REPLY) : Calls.NO;
-                if (begin > 0) found.add(new Row(get(at + THREAD), get(at + CALL), get(at + KEY), begin, end, reply));
+                int ended = get(at + END), end = ended > now ? 0 : ended, begin = get(at + BEGIN), reply = end > 0 ? get(at + REPLY) : Calls.NO;
+                if (begin > 0 && begin <= now) found.add(new Row(get(at + THREAD), get(at + CALL), get(at + KEY), begin, end, reply));
             }
             found.sort(Comparator.comparingInt(Row::begin));
             return found;
         }
 
-        /** Makes sets and calls them, to the end. */
-        <S, K> void callAll(Calls<S, K> calls) {
-            new Play<>(this, calls, shape(), new AtomicReference<>()).all();
+        /** Creates the sets of a run and calls them. */
+        <S, K> void callAll(Calls<S, K> calls, boolean isOwn) {
+            new Play<>(this, calls, shape(), new AtomicReference<>()).all(isOwn && how.pauses > 0);
             INT.compareAndSet(memory, AT, GOING, OVER);
         }
     }
 
-    /** Who makes a run: the threads, and where they find the set. */
+    /** The threads of a run, and the set that they call. */
     private record Play<S, K>(Area area, Calls<S, K> calls, Shape of, AtomicReference<S> set) {
-        void all() {
+        void all(boolean interrupts) {
             List<Thread> threads = new ArrayList<>();
             for (int i = 0; i < of.threads; i++) {
                 int thread = i;
                 threads.add(start(() -> tried(Area.FAILED, () -> callInRounds(thread))));
             }
+            AtomicBoolean isOver = new AtomicBoolean();
+            if (interrupts) start(() -> interrupt(threads, isOver));
             tried(Area.FAILED, () -> {
                 lead();
+                isOver.set(true);
                 for (Thread it : threads) it.join();
             });
+            isOver.set(true);
+        }
+
+        /** Stops random threads during their calls: a thread waits while its stack is read. */
+        private void interrupt(List<Thread> threads, AtomicBoolean isOver) {
+            for (SplittableRandom draw = new SplittableRandom(area.memory.getLong(Area.SEED)); !isOver.get();) {
+                LockSupport.parkNanos(draw.nextInt(APART) * 1000L);
+                threads.get(draw.nextInt(threads.size())).getStackTrace();
+            }
         }
 
         private interface Doing {
             void run() throws Exception;
         }
 
-        /** Does this; what it throws is written down, the first alone. */
+        /** Runs an action, and stores the error that it throws. Only the first one is kept. */
         private void tried(int as, Doing does) {
             try {
                 does.run();
@@ -481,7 +587,10 @@ public final class Judge {
             }
         }
 
-        /** Waits, for so many looks awake; false if the run stops. */
+        /**
+         * Waits until {@code isDone}: polls {@code awake} times, then sleeps between polls. Returns false if the run
+         * was stopped.
+         */
         private boolean waits(int awake, BooleanSupplier isDone) {
             for (int looks = 0; !isDone.getAsBoolean() && area.get(Area.STOPPING) == 0; looks++) {
                 if (looks >= awake) LockSupport.parkNanos(20_000);
@@ -489,14 +598,20 @@ public final class Judge {
             return area.get(Area.STOPPING) == 0;
         }
 
-        /** Waits until all threads are here, awake if each may have a processor, so that all go on at once. */
+        /**
+         * Waits until all threads are here, so that they continue at once. Polls without sleeping if each thread can
+         * have a processor, unless such a wait took too long before.
+         */
         private boolean meets() {
-            int awake = of.threads <= Runtime.getRuntime().availableProcessors() ? AWAKE : LONGEST;
+            boolean isAwake = of.threads <= Runtime.getRuntime().availableProcessors() && area.get(Area.IS_BUSY) == 0;
             int all = (area.next(Area.THERE) - 1) / of.threads * of.threads + of.threads;
-            return waits(awake, () -> area.get(Area.THERE) >= all);
+            int[] looks = {0};
+            boolean areThere = waits(isAwake ? AWAKE : LONGEST, () -> looks[0]++ < 0 || area.get(Area.THERE) >= all);
+            if (looks[0] > AWAKE) area.set(Area.IS_BUSY, 1);
+            return areThere;
         }
 
-        /** Makes each set and has the threads call it; writes each part once it is made. */
+        /** Creates each set and starts the threads on it, part by part. Writes each part when its calls have ended. */
         private void lead() throws IOException {
             StringBuilder left = new StringBuilder();
             area.write("listset-calls 1\n");
@@ -515,7 +630,7 @@ public final class Judge {
             area.write(left + "end\n");
         }
 
-        /** The keys that the set of a round has. */
+        /** Calls contains for each key. Returns a line for each key found. */
         private String linesOfKeys(String word, int round) {
             StringBuilder lines = new StringBuilder();
             for (int key = 0; key < of.keys; key++, area.next(Area.TICKETS)) {
@@ -525,7 +640,7 @@ public final class Judge {
             return lines.toString();
         }
 
-        /** The calls of one thread. */
+        /** Makes the calls of one thread, part by part. */
         private void callInRounds(int thread) {
             SplittableRandom draw = new SplittableRandom(area.memory.getLong(Area.SEED) * 64 + thread);
             int number = thread;
@@ -557,29 +672,29 @@ public final class Judge {
         }
     }
 
-    /** Has runs made, one after another: in another JVM, which is given the calls and ends if its input does; or, if it is null, in this one. */
+    /**
+     * Makes runs, one after another: in another JVM, which ends when its input ends, or in this one if {@code process}
+     * is null.
+     */
     private record Caller<S, K>(Calls<S, K> calls, Options how, Area area, Process process) implements AutoCloseable {
         static <S, K> Caller<S, K> of(Calls<S, K> calls, Options how) {
             try {
                 Caller<S, K> child = how.ownProcess ? inChild(calls, how) : null;
                 if (child != null) return child;
-            } catch (IOException | URISyntaxException | SecurityException cannot) {
-                // (the calls cannot be passed on)
+            } catch (IOException | ClassNotFoundException | URISyntaxException | RuntimeException | LinkageError cannot) {
+                // (the calls cannot be sent)
             }
             return new Caller<>(calls, how, new Area(how, ByteBuffer.allocateDirect(Area.SIZE)), null);
         }
 
-        /** Null if no set can be made there. */
-        private static <S, K> Caller<S, K> inChild(Calls<S, K> calls, Options how) throws IOException, URISyntaxException {
-            ByteArrayOutputStream given = new ByteArrayOutputStream();
-            try (ObjectOutputStream out = new ObjectOutputStream(given)) {
-                out.writeObject(how);
-                out.writeObject(calls);
-            }
+        /** Starts the other JVM. Returns null if the calls cannot be sent, or if no set can be created there. */
+        private static <S, K> Caller<S, K> inChild(Calls<S, K> calls, Options how) throws IOException, ClassNotFoundException, URISyntaxException {
+            byte[] given = written(how, calls);
+            if (!isReadBackUnchanged(given)) return null;
             Path file = Files.createTempFile("listset-", ".area");
             try {
                 Caller<S, K> made = new Caller<>(calls, how, Child.shared(how, file), Child.started(Child.path(calls), file));
-                given.writeTo(made.process.getOutputStream());
+                made.process.getOutputStream().write(given);
                 made.process.getOutputStream().flush();
                 for (long until = System.nanoTime() + 60 * SECOND; made.process.isAlive() && System.nanoTime() < until; LockSupport.parkNanos(1_000_000)) {
                     if (made.area.get(Area.IS_HERE) == 1) return made;
@@ -591,10 +706,29 @@ public final class Judge {
             }
         }
 
-        /** Has the run of a seed made; gives how it was cut short, or null. */
+        private static byte[] written(Object... objects) throws IOException {
+            ByteArrayOutputStream given = new ByteArrayOutputStream();
+            try (ObjectOutputStream out = new ObjectOutputStream(given)) {
+                for (Object it : objects) out.writeObject(it);
+            }
+            return given.toByteArray();
+        }
+
+        /**
+         * Decides whether options and calls are unchanged after they are written and read back. The javac of Java 17
+         * identifies method references by the method that implements them: if A and B inherit {@code contains}, {@code
+         * B::contains} is read back as {@code A::contains}.
+         */
+        private static boolean isReadBackUnchanged(byte[] given) throws IOException, ClassNotFoundException {
+            try (ObjectInputStream in = new ObjectInputStream(new ByteArrayInputStream(given))) {
+                return Arrays.equals(given, written(in.readObject(), in.readObject()));
+            }
+        }
+
+        /** Makes the run of a seed. Returns why it was cut short, or null. */
         String made(long seed, Shape of, Path file) {
             area.begin(seed, of, file);
-            if (process == null) start(() -> area.callAll(calls));
+            if (process == null) start(() -> area.callAll(calls, false));
             String trouble = isHung() ? HUNG.formatted(how.seconds) : area.get(Area.AT) >= Area.OVER ? null : ENDED_SO.formatted(process.exitValue());
             if (area.get(Area.AT) >= Area.FAILED) trouble = area.text(Area.WHY);
             if (area.get(Area.AT) == Area.UNMADE) throw new NoVerdict(trouble);
@@ -602,7 +736,7 @@ public final class Judge {
             return trouble;
         }
 
-        /** Waits until the run has ended; true if before that no call begins or ends for too long. */
+        /** Waits until the run has ended. Returns true if no call begins or ends for too long before that. */
         private boolean isHung() {
             long since = System.nanoTime();
             for (int seen = -1; area.get(Area.AT) < Area.OVER && (process == null || process.isAlive()); LockSupport.parkNanos(300_000)) {
@@ -614,14 +748,14 @@ public final class Judge {
             return false;
         }
 
-        /** (Threads of this JVM that hang stay.) */
+        /** Stops the other JVM. Threads of this JVM that hang are left running. */
         @Override public void close() {
             if (process == null) area.next(Area.STOPPING);
             else process.destroyForcibly();
         }
     }
 
-    /** The other JVM. */
+    /** The main class of the other JVM. */
     private static final class Child {
         static Process started(String path, Path file) throws IOException {
             return new ProcessBuilder(Path.of(System.getProperty("java.home"), "bin", "java").toString(),
@@ -635,7 +769,7 @@ public final class Judge {
             }
         }
 
-        /** Where the classes are that it needs. */
+        /** Returns the class path that the calls need. */
         static String path(Calls<?, ?> calls) throws URISyntaxException {
             StringBuilder path = new StringBuilder(System.getProperty("java.class.path"));
             for (Class<?> it : List.of(Judge.class, calls.make.getClass(), calls.add.getClass())) {
@@ -653,10 +787,10 @@ public final class Judge {
                 start(Child::endWithInput);
                 Area area = shared(how, Path.of(words[0]));
                 for (area.set(Area.IS_HERE, 1);; LockSupport.parkNanos(100_000)) {
-                    if (area.get(Area.AT) == Area.GOING) area.callAll(calls);
+                    if (area.get(Area.AT) == Area.GOING) area.callAll(calls, true);
                 }
             } catch (Exception | LinkageError cannot) {
-                System.exit(1); // (what cannot be made here is made in the other JVM)
+                System.exit(1); // (if it cannot be created here, it is created in the other JVM)
             }
         }
 
@@ -664,7 +798,7 @@ public final class Judge {
             try {
                 while (System.in.read() >= 0) continue;
             } catch (IOException closed) {
-                // (as at its end)
+                // (as when its input ends)
             }
             Runtime.getRuntime().halt(1);
         }
@@ -677,7 +811,7 @@ public final class Judge {
         return made;
     }
 
-    // ---- a run, as it is judged
+    // ---- judging a run
 
     private record Row(int thread, int call, int key, int begin, int end, int reply) {
         String line() {
@@ -686,16 +820,17 @@ public final class Judge {
         }
     }
 
-    /** The file into which a run is written as it grows. */
+    /** The file with the recording of a run, which grows during the run. */
     private static final class Recording implements AutoCloseable {
         private final Path file;
         private boolean isKept;
 
         Recording(long seed, String record) {
             isKept = record != null;
-            Path folder = Path.of(isKept ? record : System.getProperty("java.io.tmpdir"));
+            String named = System.getenv("LISTSET_RECORD");
+            Path folder = Path.of(isKept ? record : named != null && !named.isEmpty() ? named : System.getProperty("java.io.tmpdir"));
             try {
-                if (isKept) Files.createDirectories(folder);
+                Files.createDirectories(folder);
                 file = isKept ? folder.resolve("seed-" + seed + ".calls") : Files.createTempFile(folder, "listset-seed-" + seed + "-", ".calls");
                 if (isKept) Files.writeString(file, "");
             } catch (IOException none) {
@@ -708,61 +843,28 @@ public final class Judge {
         }
     }
 
-    /** What the judge says of a recording that no order explains. */
-    private record Refusal(String said) {
-        private static final Pattern CALL = Pattern.compile("^call [0-9]+ (\\w+) ([0-9]+) [0-9]+ [0-9-]+ (\\w+|-)$", Pattern.MULTILINE);
-        private static final Pattern OF_KEY = Pattern.compile("of key ([0-9]+) ");
-
-        /** The number of the key of which the judge speaks, or -1. */
-        int key() {
-            Matcher found = OF_KEY.matcher(said);
-            return found.find() ? Integer.parseInt(found.group(1)) : -1;
-        }
-
-        private long calls() { return CALL.matcher(said).results().count() + (said.contains(" belong to these") ? 1000 : 0); }
-
-        /** The number of its calls; a refusal of one call alone comes last. */
-        long rank() { return calls() > 1 ? calls() : 999; }
-
-        /** What the judge says; or, in place of many calls, what their count shows. */
-        String explained(Path file) {
-            String counted = calls() > READABLE ? countOf(file, "" + key()) : "";
-            return counted.isEmpty() ? said : said.lines().limit(2).collect(Collectors.joining("\n")) + "\n" + counted;
-        }
-
-        /** That the calls of a key that answered true do not fit to how it was; else nothing. */
-        private static String countOf(Path file, String key) {
-            try {
-                String recorded = Files.readString(file);
-                Map<String, Long> count = CALL.matcher(recorded).results().filter(it -> it.group(2).equals(key))
-                    .collect(Collectors.groupingBy(it -> it.group(3).equals("true") ? it.group(1) : it.group(3), Collectors.counting()));
-                long adds = count.getOrDefault("add", 0L), removes = count.getOrDefault("remove", 0L);
-                boolean was = recorded.contains("\nopening " + key + "\n"), left = recorded.contains("\nkey " + key + "\n");
-                boolean isKnown = !recorded.endsWith("cut\n") && !count.containsKey("-");
-                if (!isKnown || adds + (was ? 1 : 0) == removes + (left ? 1 : 0)) return "";
-                return COUNTED.formatted(adds, removes, key, was ? THERE : NOT_THERE, left ? THERE : NOT_THERE);
-            } catch (IOException gone) {
-                return "";
-            }
-        }
-    }
+    /** Finds the key that a judge names. */
+    private static final Pattern OF_KEY = Pattern.compile("of key ([0-9]+) ");
 
     // ---- the judge
 
-    /** What the judge refuses, or null; and how many calls overlapped a change of their key. */
-    private record Judgement(Refusal refused, long overlapped) { }
+    /** The verdict on a recording: what the judge refuses, or null; and how many calls overlapped a change of their key. */
+    private record Judgement(String refused, long overlapped) { }
 
-    /** The status of a command, and what it said. */
+    /** The output and the exit status of a command. */
     private record Answer(String said, int status) { }
 
-    /** The program that judges: its name, the command to which words are added, and what it says of its proof. It prints itself. */
+    /**
+     * The program that judges: its name, the command and its first arguments, and its statement about its proof. {@code
+     * toString} returns name and statement.
+     */
     private record Program(String name, List<String> command, String proof) {
         private static final Pattern OVERLAPPED = Pattern.compile("ok [0-9]+ calls\n([0-9]+) of them");
 
         @Override public String toString() { return name + ", " + proof; }
 
         static Program found() {
-            String named = System.getenv("LISTSET"), name = named == null ? "listset" : named;
+            String named = System.getenv("LISTSET"), name = named == null || named.isEmpty() ? "listset" : named;
             Program asked = new Program(name, name.endsWith(".js") ? List.of("node", name) : List.of(name), "");
             String version = asked.answer("--version", "--long").said;
             return new Program(name, asked.command, version.lines().filter(it -> it.startsWith("proof ")).findFirst().orElse("proof unknown"));
@@ -772,14 +874,14 @@ public final class Judge {
             List<String> all = new ArrayList<>(command);
             all.addAll(List.of(words));
             ProcessBuilder made = new ProcessBuilder(all);
-            if (words[0].equals("--version")) made.redirectError(ProcessBuilder.Redirect.INHERIT); // (what it says of a judge that it builds)
+            if (words[0].equals("--version")) made.redirectError(ProcessBuilder.Redirect.INHERIT); // (the user sees what a judge prints while it is built)
             try {
                 Process process = made.start();
                 process.getOutputStream().close();
                 String said = new String(process.getInputStream().readAllBytes()), errors = new String(process.getErrorStream().readAllBytes());
                 return new Answer((said.isEmpty() ? errors : said).strip(), process.waitFor());
             } catch (IOException none) {
-                throw new NoVerdict(NO_JUDGE.formatted(name));
+                throw new NoVerdict((new File(name).isDirectory() ? IS_FOLDER : NO_JUDGE).formatted(name));
             } catch (InterruptedException why) {
                 throw new NoVerdict("the test was interrupted: ", why);
             }
@@ -789,7 +891,7 @@ public final class Judge {
             Answer answer = answer("judge", recording.toString());
             Matcher ok = OVERLAPPED.matcher(answer.said);
             if (answer.status == 0 && ok.lookingAt()) return new Judgement(null, Long.parseLong(ok.group(1)));
-            if (answer.status == 1 && answer.said.startsWith("not linearizable")) return new Judgement(new Refusal(answer.said), 0);
+            if (answer.status == 1 && answer.said.startsWith("not linearizable")) return new Judgement(answer.said, 0);
             String first = answer.said.isEmpty() ? "nothing" : answer.said.lines().findFirst().get();
             throw new NoVerdict(NO_VERDICT.formatted(name, first));
         }

@@ -1,13 +1,18 @@
-"""Whether runs of a concurrent set of your own are linearizable, in one line of a test:
+"""Tests whether a concurrent set of your own is linearizable, in one line of a test:
 
     def test_is_linearizable():
         print(listset_judge.judge(MySet))
 
-MySet() has `add` and `remove`, which answer True or False, and `contains` or `in`. Threads call fresh sets, and the begin and the end
-of each call are recorded. A judge says whether any order of the calls explains their replies: the module `listset`, if it can be
-imported; else the program that the environment variable LISTSET names, or `listset` of PATH. LISTSET may also name the page's
-listset.js, which node runs. If this process has one thread and can be forked, each run has a process of its own, so that a set that
-crashes or hangs is judged up to there.
+MySet() has `add` and `remove`, which return True or False, and `contains` or `in`. Threads call new sets,
+and the begin and the end of each call are recorded. A judge decides whether some order of the calls
+explains their replies.
+
+The judge is the module `listset`, if it can be imported. Otherwise it is the program that the environment
+variable LISTSET names, or else `listset` in PATH. LISTSET can also name a listset.js, which node runs. If
+it is `skip`, the test is skipped.
+
+If this process has one thread and can be forked, each run has a process of its own. If a set crashes or
+hangs there, its calls so far are judged.
 """
 
 from __future__ import annotations
@@ -28,6 +33,7 @@ import sys
 import tempfile
 import threading
 import time
+import unittest
 import warnings
 from typing import Any, Callable
 
@@ -39,9 +45,9 @@ NO, YES, UNKNOWN = range(3)
 FIRST_LINE = "listset-calls 1\n"
 OVERLAPPED = re.compile("ok [0-9]+ calls\n([0-9]+) of them")
 OF_KEY = re.compile("of key ([0-9]+) ")
-CALL = re.compile("^call [0-9]+ ([a-z]+) ([0-9]+) [0-9]+ [0-9-]+ ([a-z]+|-)$", re.M)  # its word, key and reply
 Call = collections.namedtuple("Call", "begin end thread call key reply")
-# A run: the threads, the fresh sets one after another, the calls of each thread on each, the keys, what their numbers are multiples of
+# The shape of a run: the numbers of threads, of new sets one after another, of calls of each thread on each
+# set, and of keys, which are the multiples of `times`
 Shape = collections.namedtuple("Shape", "name threads sets calls keys times")
 
 # made of words.json by judge/make_words: PART and MEET in calls, PATIENCE in seconds
@@ -61,38 +67,43 @@ RANGES = (
     ("pauses", 0, 100),
     ("runs", 1, 1000000),
     ("seconds", 1, 3600),
+    ("within", 1, 604800),
     ("at_least", 0, 100),
     ("the sum of shares", 1, 1000000),
 )
-PART, LONGEST, HOT, ENOUGH, HARDER, FURTHER, PATIENCE, READABLE, MEET, AWAKE, SLOW = 20000, 100, 4, 5, 2, 20, 3, 6, 250, 300000, 10
-OK = "ok: %s calls, of which %s overlapped a change of their key"
-FEW = "that is few: take more threads, fewer keys or a machine that does less"
-TOO_FEW = "%s of %s calls overlapped a change of their key, and at_least asks for %s of 100: take more threads, fewer keys or a machine that does less"
-FAILED_RUN = "seed %s (%s): %s\nrecorded in %s; judge: %s"
-RANGE = "%s is %s, and has to be %s to %s"
-TWICE = "the key function gives %s for %s and for %s: let it give each number a key of its own"
+PART, LONGEST, HOT, ENOUGH, HARDER, PATIENCE, MEET, AWAKE, SLOW, WITHIN = 20000, 100, 4, 5, 2, 10, 250, 300000, 10, 60
+OK = "ok: %s calls, and %s of them overlapped a change of their key"
+FEW = "few calls overlapped, so ok means little: %s calls, and %s of them overlapped a change of their key"
+TOO_FEW = "too few calls overlapped: %s of %s calls overlapped a change of their key, and at_least requires %s of 100. Use fewer keys, more threads, or a less busy machine"
+FAILED_RUN = "%s\n\nseed %s (%s), %s threads%s; recorded in %s%s; judge: %s"
+RANGE = "%s is %s, but must be %s to %s"
+TWICE = "the key function returns %s for %s and for %s, but must return a different key for each number"
 HUNG = "the set hung: no call began or ended for %s s"
 CRASHED = "the set crashed: %s"
-ENDED_SO = "the set ended its process with the status %s"
+ENDED_SO = "the set ended its process with status %s"
 THREW = "a call of the set failed: %s"
-NOT_MADE = "the set could not be made: %s"
-UNDER_WAY = "%s\nunder way:\n%sup to there: %s"
+NOT_MADE = "the set could not be created: %s"
+UNDER_WAY = "%s\npending: %s\nbefore that: %s"
 EXPLAINED = "some order explains the calls"
-COUNTED = "%s adds and %s removes of key %s answered true; it was %s at first, and is %s at the end"
-THERE = "there"
-NOT_THERE = "not there"
-KEY_IS = "key %s of the recording is %s"
-IN_SET = ", in the fresh set %s of the run"
-NO_FOLDER = "no file can be written in %s: name another folder by record"
-NO_JUDGE = "%s cannot be run: build listset, and put it in PATH or name it by LISTSET (node runs a listset.js)"
-NO_VERDICT = "%s gave no verdict, but said: %s. Take a newer listset"
+KEY_IS = "; key %s of the recording is %s"
+IN_SET = ", in set %s of the run"
+NO_FOLDER = "no file can be written in %s: set record to another folder"
+NO_JUDGE = "no judge was found: %s cannot be run. Copy the file judge/listset.js of this judge's repository, and set LISTSET to its path (Node 18 runs it); or put the program listset in PATH. LISTSET=skip skips this test"
+IS_FOLDER = "%s is a folder: set LISTSET to the program in it"
+NO_VERDICT = "%s printed no verdict, but: %s. Use a newer listset"
+AND_MORE = "%s, and %s more calls"
+ALONE = ", the calls that show it in %s"
+SKIPPED = "skipped: LISTSET is skip"
+NOT_IN_CI = "LISTSET is skip, but the variable CI is set: in CI no test is skipped"
+NUMBER = "the variable %s is %s, but must be a number from %s to %s"
 # end of what is made
 
 
 @dataclasses.dataclass(frozen=True)
 class Verdict:
-    """What is known if some order explains each run: the calls, those that overlapped a change of their key, by the judge, and which
-    judge it was, with whether it says that it is proved. It prints itself."""
+    """The result of a test without a failure: some order explains each run. It has the number of calls, how
+    many of them overlapped a change of their key, as the judge counted them, and the judge with its
+    statement about its proof. str() prints it."""
 
     calls: int
     overlapped: int
@@ -100,19 +111,19 @@ class Verdict:
 
     @property
     def is_few(self) -> bool:
-        """Whether so few calls met that `ok` says little."""
+        """Decides whether too few calls overlapped for `ok` to mean much."""
         return self.overlapped * 100 < self.calls * ENOUGH
 
     def __str__(self) -> str:
-        return f"{OK % (self.calls, self.overlapped)}{f'; {FEW}' * self.is_few}; judge: {self.judge}"
+        return f"{(FEW if self.is_few else OK) % (self.calls, self.overlapped)}; judge: {self.judge}"
 
 
 class Failed(AssertionError):
-    """What the judge said of the run of the seed `seed`, `said`; the file that has its recording, `file`."""
+    """A failed run: its seed, what the judge printed (`said`), and the file with its recording."""
 
-    def __init__(self, seed: int, name: str, said: str, file: pathlib.Path, judge: Judge):
+    def __init__(self, seed: int, said: str, file: pathlib.Path, text: str):
         self.seed, self.said, self.file = seed, said, file
-        super().__init__(FAILED_RUN % (seed, name, said, file, judge))
+        super().__init__(text)
 
 
 class NotLinearizable(Failed):
@@ -120,33 +131,46 @@ class NotLinearizable(Failed):
 
 
 class CutShort(Failed):
-    """The set crashed, hung or raised in the run, which was judged up to there."""
+    """The set crashed, hung or raised in the run. The calls before that were judged."""
 
 
 class TooFew(AssertionError):
-    """Fewer calls overlapped a change of their key than `at_least` asks for."""
+    """Fewer calls overlapped a change of their key than `at_least` requires."""
 
 
 class NoVerdict(Exception):
-    """Nothing is known of the set: an option is out of range, no set could be made, it has not the three calls, or there is no judge."""
+    """Nothing is known about the set: an option is out of range, no set could be created, the set lacks one
+    of the three calls, or no judge was found."""
 
 
-class Options(collections.namedtuple("Options", "threads calls keys key pauses runs seed seconds at_least shares own_process opens_with_keys record")):
-    """What `judge` is given."""
+class Options(collections.namedtuple("Options", "threads calls keys key pauses runs seed seconds within at_least shares own_process opens_with_keys record")):
+    """The arguments of `judge`."""
 
     def check(self) -> None:
         first = [1 if it is None else it for it in (self.threads, self.calls, self.keys)]
         all_calls = first[0] * first[1] if all(isinstance(it, int) for it in first) else 1
         shares = sum(self.shares) if min(self.shares) >= 0 else min(self.shares)
-        given = (first[0], all_calls, first[2], self.pauses, self.runs, self.seconds, self.at_least, shares)
+        given = (first[0], all_calls, first[2], self.pauses, self.runs, self.seconds, self.within, self.at_least, shares)
         for (name, least, most), it in zip(RANGES, given):
             if not (isinstance(it, int) and least <= it <= most):
                 raise NoVerdict(RANGE % (name, it, least, most))
 
+    def by_environment(self) -> Options:
+        """Applies the environment variables. LISTSET_SECONDS repeats runs for this many seconds, with seeds
+        that count up from the current time. LISTSET_SEED sets the first seed."""
+        most = {name: most for name, _, most in RANGES}
+        seconds = number_of("LISTSET_SECONDS", None, 1, most["within"])
+        it = self._replace(within=seconds, runs=most["runs"], seed=int(time.time())) if seconds else self
+        return it._replace(seed=number_of("LISTSET_SEED", it.seed, 0, 2**32 - 1))
+
     def shape_of(self, seed: int) -> Shape:
-        """The preset of a seed, with what these options say."""
+        """Returns the preset for a seed, changed by these options."""
         it = PRESETS[(seed - 1) % len(PRESETS)]
-        it = it._replace(calls=it.calls // SLOW if it.sets == 1 and it.keys <= 2 * HOT else it.calls, threads=self.threads or it.threads)
+        if it.sets == 1:
+            it = it._replace(calls=it.calls // (SLOW if it.keys <= 2 * HOT else 2))
+        elif it.keys > 2 * HOT:
+            it = it._replace(sets=it.sets // 4)
+        it = it._replace(threads=self.threads or it.threads)
         if self.keys or self.key:
             it = it._replace(keys=self.keys or it.keys, times=1)
         if self.calls or self.opens_with_keys:
@@ -154,8 +178,10 @@ class Options(collections.namedtuple("Options", "threads calls keys key pauses r
         return it
 
     def harder(self, it: Shape) -> Shape:
-        """With more threads and fewer keys, where these options leave them open."""
-        return it._replace(threads=self.threads or min(2 * it.threads, 8), keys=self.keys or max(it.keys // 2, 1))
+        """Returns a shape whose calls overlap more: more threads, even more than processors, and fewer keys,
+        unless these options set them. The number of all calls does not grow."""
+        threads = self.threads or min(max(2 * it.threads, (os.cpu_count() or 1) + 2), 64)
+        return it._replace(threads=threads, calls=self.calls or max(it.calls * it.threads // threads, 1), keys=self.keys or max(it.keys // 2, 1))
 
     def check_keys(self, it: Shape) -> None:
         seen = {}
@@ -165,67 +191,97 @@ class Options(collections.namedtuple("Options", "threads calls keys key pauses r
                 raise NoVerdict(TWICE % (repr(key), seen[key], number))
 
     def key_of(self, number: int, it: Shape) -> Any:
-        """The key of a number, each time made anew."""
+        """Returns the key of a number. Each call creates a new object."""
         return (self.key or int)(number * it.times)
 
 
+def number_of(variable: str, other: int | None, least: int, most: int) -> int | None:
+    """Returns the number in an environment variable, or `other` if the variable is not set."""
+    text = os.environ.get(variable)
+    if not text:
+        return other
+    if not (re.fullmatch("[0-9]{1,18}", text) and least <= int(text) <= most):
+        raise NoVerdict(NUMBER % (variable, text, least, most))
+    return int(text)
+
+
 def judge(make: Callable[[], Any], *, threads: int | None = None, calls: int | None = None, keys: int | None = None,
-          key: Callable[[int], Any] | None = None, pauses: int = 20, runs: int = 20, seed: int = 1, seconds: int = 10, at_least: int = 0,
-          adds: int = 1, removes: int = 1, finds: int = 1, own_process: bool = True, opens_with_keys: bool = False,
-          record: str | os.PathLike | None = None) -> Verdict:
-    """The Verdict of so many sets that `make` makes; raises NotLinearizable of a run that no order explains, and CutShort of one that
-    crashes or hangs.
+          key: Callable[[int], Any] | None = None, pauses: int = 20, runs: int = 20, seed: int = 1, seconds: int = 10, within: int = WITHIN,
+          at_least: int = 0, adds: int = 1, removes: int = 1, finds: int = 1, own_process: bool = True,
+          opens_with_keys: bool = False, record: str | os.PathLike | None = None) -> Verdict:
+    """Judges the sets that `make` creates and returns a Verdict. Raises NotLinearizable for a run that no
+    order explains, and CutShort for a run that crashes or hangs.
 
-    threads -- that call a set at once: 1 to 64; by the presets of runs, in turn, where it is left out, as the next two
-    calls -- of each thread: 1 or more, and 1,000,000,000 at most of all threads, which rest after each 20,000 until these are written
-    keys -- calls are on the keys of the numbers below this: 1 to 1,048,576; half of them on the first four
-    key -- gives the key of a number, each another one
-    pauses -- before how many of 100 lines of the set, and in one of ten calls of its steps, a thread lets others go on: 0 to 100
-    runs -- sets that are called, or rows of fresh sets: 1 to 1,000,000
-    seed -- what calls, keys and pauses of the first run are drawn from; the next run has the next seed
-    seconds -- a run in which no call begins or ends for so long is ended: 1 to 3,600
-    at_least -- TooFew is raised if fewer of 100 calls overlap a change of their key
-    adds, removes, finds -- the shares of the three operations
-    own_process -- False: in this process, which then crashes with the set (for a debugger, or for coverage)
-    opens_with_keys -- True: before the first call, `contains` is asked of each key
-    record -- a folder that keeps the recording of each run; else that of a run that fails is kept, in the folder for temporary files
+    threads -- the number of threads that call a set at once: 1 to 64; None for the presets in turn
+    calls -- the number of calls of each thread: at least 1, and at most 1,000,000,000 for all threads together; None for
+             the presets in turn; after each 20,000 calls, these are written to the file while the threads wait
+    keys -- the number of keys: 1 to 1,048,576; None for the presets in turn; with more than eight keys, half of the
+            calls use the first four
+    key -- returns the key of a number; must return a different key for each number
+    pauses -- the percentage of the set's lines, and in one of ten calls also of its steps, before which a thread lets
+              others run: 0 to 100
+    runs -- the number of runs: 1 to 1,000,000; a run calls one set, or several new sets one after another
+    seed -- the seed of the calls, keys and pauses of the first run; the next run has the next seed
+    seconds -- a run is cut short as hung if no call begins or ends for this many seconds: 1 to 3,600
+    within -- no run begins after this many seconds of the test: 1 to 604,800
+    at_least -- TooFew is raised if less than this percentage of the calls overlap a change of their key
+    adds, removes, finds -- the shares of add, remove and contains
+    own_process -- if False, sets are called in this process, which crashes or hangs with them: for debuggers and coverage
+    opens_with_keys -- if True, `contains` is called for each key before all other calls, to record the opening keys
+    record -- the folder that keeps the recording of each run; if None, only the recording of a failed run is kept: in
+              the folder that the variable LISTSET_RECORD names, or else in the folder for temporary files
 
-    A call that answers None has an outcome that is not known, as after a time-out.
+    A call that returns None has an unknown outcome, such as after a timeout.
     """
-    __tracebackhide__ = True  # (pytest shows the line of the test alone)
-    how = Options(threads, calls, keys, key, pauses, runs, seed, seconds, at_least, (adds, removes, finds), own_process, opens_with_keys, record)
+    __tracebackhide__ = True  # (pytest then shows only the line of the test)
+    how = Options(threads, calls, keys, key, pauses, runs, seed, seconds, within, at_least, (adds, removes, finds), own_process, opens_with_keys, record)
     how.check()
-    tester, count, overlapped, until = Tester(make, how), 0, 0, time.monotonic() + PATIENCE
-    for one in range(seed, seed + runs):
-        shape = how.shape_of(one)
-        for tries in range(HARDER + 1):
-            found = tester.judged_run(one, shape)
-            count, overlapped = count + found.calls, overlapped + found.overlapped
-            if found.refused:
-                found = tester.smallest(found)
-            if found.failed:
-                raise found.failed
-            if found.overlapped * 100 >= found.calls * ENOUGH or time.monotonic() > until:
-                break
-            shape = how.harder(shape)
-    verdict = Verdict(count, overlapped, str(tester.by))
-    if overlapped * 100 < count * at_least:
-        raise TooFew(TOO_FEW % (overlapped, count, at_least))
+    if os.environ.get("LISTSET") == "skip":
+        if os.environ.get("CI"):
+            raise NoVerdict(NOT_IN_CI)
+        raise unittest.SkipTest(SKIPPED)
+    tester = Tester(make, how.by_environment())
+    verdict = tester.all()
+    if verdict.overlapped * 100 < verdict.calls * at_least:
+        raise TooFew(TOO_FEW % (verdict.overlapped, verdict.calls, at_least))
     if verdict.is_few:
-        warnings.warn(str(verdict), RuntimeWarning, stacklevel=2)  # (a test that passes may show no verdict)
+        warnings.warn(str(verdict), RuntimeWarning, stacklevel=2)  # (a test that passes can hide what it prints)
     return verdict
 
 
-Outcome = collections.namedtuple("Outcome", "seed calls overlapped refused failed")
+def is_few(overlapped: int, calls: int) -> bool:
+    """Decides whether too few calls overlapped for `ok` to mean much."""
+    return overlapped * 100 < calls * ENOUGH
 
 
 class Tester:
-    """Judges one run after another of the sets that `make` makes."""
+    """The state of a test: judges one run after another."""
 
     def __init__(self, make: Callable[[], Any], how: Options):
-        self.make, self.how, self.by = make, how, Judge()
+        self.make, self.how, self.by, self.calls, self.overlapped = make, how, Judge(), 0, 0
 
-    def judged_run(self, seed: int, shape: Shape) -> Outcome:
+    def all(self) -> Verdict:
+        """Makes the requested runs, each up to three times, then more runs while few calls have overlapped.
+        Raises the error of a failed run."""
+        __tracebackhide__ = True  # (pytest then shows only the line of the test)
+        began, how = time.monotonic(), self.how
+        for seed in range(how.seed, how.seed + how.runs):
+            if seed > how.seed and time.monotonic() > began + how.within:
+                break
+            shape = how.shape_of(seed)
+            for _ in range(HARDER + 1):
+                if not self.judged_run(seed, shape) or time.monotonic() > began + PATIENCE:
+                    break
+                shape = how.harder(shape)
+        end = min(began + how.within, time.monotonic() + PATIENCE)
+        while is_few(self.overlapped, self.calls) and time.monotonic() < end:
+            seed += 1
+            self.judged_run(seed, how.harder(how.harder(how.shape_of(seed))))
+        return Verdict(self.calls, self.overlapped, str(self.by))
+
+    def judged_run(self, seed: int, shape: Shape) -> bool:
+        """Makes a run and judges it. Returns whether few of its calls overlapped. Raises if the run failed."""
+        __tracebackhide__ = True
         self.how.check_keys(shape)
         file, is_kept = recording_of(seed, self.how.record), self.how.record is not None
         try:
@@ -235,39 +291,37 @@ class Tester:
         finally:
             if not is_kept:
                 file.unlink()
-        said = explained(refused, file) + self.key_line(refused, shape) if refused else ""
-        failed = NotLinearizable(seed, shape.name, said, file, self.by) if refused else None
-        if trouble:
-            said = UNDER_WAY % (trouble, under_way, said or EXPLAINED)
-            refused, failed = "", CutShort(seed, shape.name, said, file, self.by)
-        return Outcome(seed, shape.threads * shape.sets * shape.calls, overlapped, refused, failed)
+        calls = shape.threads * shape.sets * shape.calls
+        self.calls, self.overlapped = self.calls + calls, self.overlapped + overlapped
+        if trouble or refused:
+            said = UNDER_WAY % (trouble, under_way, refused or EXPLAINED) if trouble else refused
+            key = key_in(refused)
+            where = self.key_line(key, shape), file, self.alone(file, key), self.by
+            raise (CutShort if trouble else NotLinearizable)(seed, said, file, FAILED_RUN % (said, seed, shape.name, shape.threads, *where))
+        return is_few(overlapped, calls)
 
-    def key_line(self, refused: str, shape: Shape) -> str:
-        """Which key of which set it is that the judge names, if its number does not say so."""
-        number = key_in(refused)
+    def key_line(self, number: str, shape: Shape) -> str:
+        """Describes the key of a number in the recording, and its set if the run has several. Empty if the number is enough."""
         one, at = divmod(int(number or 0), shape.keys)
         key = repr(self.how.key_of(at, shape))
         if not number or shape.sets == 1 and key == number:
             return ""
-        return "\n" + KEY_IS % (number, key) + (IN_SET % (one + 1) if shape.sets > 1 else "")
+        return KEY_IS % (number, key) + (IN_SET % (one + 1) if shape.sets > 1 else "")
 
-    def smallest(self, found: Outcome) -> Outcome:
-        """Of the refusal and of further runs, the one that has the fewest calls, and two at least."""
-        until = time.monotonic() + PATIENCE
-        for seed in range(found.seed + len(PRESETS), found.seed + (FURTHER + 1) * len(PRESETS), len(PRESETS)):
-            if rank(found.refused) <= READABLE // 2 or time.monotonic() > until:
-                break
-            other = self.judged_run(seed, self.how.shape_of(seed))
-            if other.refused and rank(other.refused) < rank(found.refused):
-                found, other = other, found
-            if other.failed and not self.how.record:
-                other.failed.file.unlink()
-        return found
+    def alone(self, file: pathlib.Path, key: str) -> str:
+        """Writes the calls that show a refusal to a small file beside the recording. Returns the part of the
+        message that names the file."""
+        text = self.by.only(file, key) if key else ""
+        if not text:
+            return ""
+        small = file.with_name(f"{file.stem}-key-{key}.calls")
+        small.write_text(text)
+        return ALONE % small
 
 
 def recording_of(seed: int, record: str | os.PathLike | None) -> pathlib.Path:
-    """The file, empty, into which a run is written as it grows."""
-    folder = pathlib.Path(record or tempfile.gettempdir())
+    """Creates the file for the recording of a run, and returns its path."""
+    folder = pathlib.Path(record or os.environ.get("LISTSET_RECORD") or tempfile.gettempdir())
     try:
         folder.mkdir(parents=True, exist_ok=True)
         if record is None:
@@ -281,58 +335,30 @@ def recording_of(seed: int, record: str | os.PathLike | None) -> pathlib.Path:
         raise NoVerdict(NO_FOLDER % folder) from None
 
 
-# ---- a refusal, as it is told
-
-
 def key_in(refused: str) -> str:
-    """The number of the key of which the judge speaks."""
+    """Returns the number of the key that the judge names."""
     found = OF_KEY.search(refused)
     return found[1] if found else ""
-
-
-def calls_in(refused: str) -> int:
-    return len(CALL.findall(refused)) + 1000 * (" belong to these" in refused)
-
-
-def rank(refused: str) -> int:
-    """The number of its calls; a refusal of one call alone comes last."""
-    return calls_in(refused) if calls_in(refused) > 1 else 999
-
-
-def explained(refused: str, file: pathlib.Path) -> str:
-    """What the judge says; or, in place of many calls, what their count shows."""
-    counted = count_of(file, key_in(refused)) if calls_in(refused) > READABLE else ""
-    return "\n".join([*refused.split("\n")[:2], counted]) if counted else refused
-
-
-def count_of(file: pathlib.Path, key: str) -> str:
-    """In words, that the calls of a key that answered true do not fit to how it was; else nothing."""
-    text = file.read_text()
-    count = collections.Counter((word, reply) for word, its_key, reply in CALL.findall(text) if its_key == key)
-    adds, removes = count[ADD, "true"], count[REMOVE, "true"]
-    was, left = (f"\n{word} {key}\n" in text for word in ("opening", "key"))
-    if text.endswith("\ncut\n") or any(reply == "-" for _, reply in count) or was + adds == left + removes:
-        return ""
-    return COUNTED % (adds, removes, key, THERE if was else NOT_THERE, THERE if left else NOT_THERE)
 
 
 # ---- a run, recorded
 
 
 class Run:
-    """The calls of sets. They are written down as the run goes, in memory that a process of its own shares with this one, and part by
-    part into the file."""
+    """A run. Its calls are recorded in memory that the set's own process shares with this one, and are
+    written to the file part by part."""
 
-    SLOT, COUNT = struct.Struct("=IIIIBB"), struct.Struct("=Q")  # of a call: begin, end or 0, thread, key, word, reply; how far a thread is
-    AT = 240  # where it is noted how far the run is, behind what was raised
+    SLOT, COUNT = struct.Struct("=IIIIBB"), struct.Struct("=Q")  # a call: begin, end or 0, thread, key, word, reply; and the progress of a thread
+    AT = 240  # the offset of the run's progress, after the error
 
     def __init__(self, make, how, shape, seed, file):
         self.make, self.how, self.shape, self.seed, self.file = make, how, shape, seed, file
         self.tickets, self.there = itertools.count(1), threading.Barrier(shape.threads + 1)
-        self.most = min(shape.calls, PART // shape.threads)  # of each thread the most calls of a part
-        self.parts = -(-shape.calls // self.most)  # of a set
+        self.most = min(shape.calls, PART // shape.threads)  # the largest number of calls of a thread in a part
+        self.parts = -(-shape.calls // self.most)  # of each set
         self.rounds = shape.sets * self.parts
-        # what was raised; how far the run is, each thread, the looks, and the file; the calls
+        # The memory has, in this order: the error; the progress of the run, of each thread and of `contains`;
+        # the length of the file; the calls.
         self.at_slots = self.AT + 1 + (shape.threads + 2) * self.COUNT.size
         self.slots = mmap.mmap(-1, self.at_slots + shape.threads * self.most * self.SLOT.size)
 
@@ -341,20 +367,21 @@ class Run:
 
     @property
     def written(self):
-        """The bytes of the file."""
+        """The length of the file."""
         return self.COUNT.unpack_from(self.slots, self.at_slots - self.COUNT.size)[0]
 
     def fail(self, said, at=GOING):
-        """Writes down what was raised; the first stays."""
+        """Stores an error. Only the first one is kept."""
         if not self.slots[0]:
             said = said.encode()[: self.AT]
             self.slots[: len(said)] = said
             self.slots[self.AT] = at
 
-    # ---- from outside
+    # ---- in the process that watches
 
     def ended(self):
-        """Has the run made; gives how it was cut short, and the calls under way, if it was: then its last calls are written here."""
+        """Makes the run. Returns why it was cut short and the pending calls, or two empty texts. If it was
+        cut short, writes the last calls."""
         is_own = self.how.own_process and hasattr(os, "fork") and threading.active_count() == 1
         trouble = self.made_in_child() if is_own else self.made_here()
         why = self.slots[: self.AT].rstrip(b"\0").decode(errors="replace")
@@ -368,10 +395,12 @@ class Run:
         os.truncate(self.file, self.written)
         with open(self.file, "a") as file:
             file.write("".join(map(line_of, rows)) + "cut\n")
-        return trouble, "".join(line_of(it) for it in rows if not it.end and it.reply != UNKNOWN)
+        pending = [line_of(it).strip() for it in rows if not it.end and it.reply != UNKNOWN]
+        first = pending[0] if pending else "no call"
+        return trouble, AND_MORE % (first, len(pending) - 1) if len(pending) > 1 else first
 
     def made_in_child(self):
-        """Has it made in a process of its own; gives how it was cut short, if it was."""
+        """Makes the run in a child process. Returns why it was cut short, if it was."""
         child, status = os.fork(), []
         if child == 0:
             try:
@@ -393,11 +422,12 @@ class Run:
                 os.waitpid(child, 0)
         if os.WIFSIGNALED(status[0]):
             return CRASHED % signal.Signals(os.WTERMSIG(status[0])).name
-        ended = os.WEXITSTATUS(status[0])  # (not 0 if the set ended its process while it was deleted)
+        ended = os.WEXITSTATUS(status[0])  # (not 0 if the set ended its process in its destructor)
         return ENDED_SO % ended if ended or self.slots[self.AT] == GOING and not self.slots[0] else ""
 
     def made_here(self):
-        """The same in threads of this process, which stay if they hang."""
+        """Makes the run in threads of this process. Threads that hang are left running. Returns why the run
+        was cut short, if it was."""
         leader = threading.Thread(target=self.make_all, daemon=True)
         leader.start()
         try:
@@ -406,7 +436,7 @@ class Run:
             self.there.abort()
 
     def comes_to_end(self, is_done):
-        """Waits until it is done; False if no call begins or ends for too long before that."""
+        """Waits until it is done. Returns False if no call begins or ends for `seconds` before that."""
         seen, since, wait = None, time.monotonic(), 0.0005
         while not is_done():
             time.sleep(wait)
@@ -418,7 +448,7 @@ class Run:
         return True
 
     def rows(self):
-        """The calls since those in the file, by their begins."""
+        """Returns the calls in memory, in the order of their begins."""
         found = self.SLOT.iter_unpack(self.slots[self.at_slots :])
         return sorted(Call(begin, 0 if reply == UNKNOWN else end, thread, WORDS[word], key, reply)
                       for begin, end, thread, key, word, reply in found if begin)
@@ -426,7 +456,7 @@ class Run:
     # ---- the thread that makes the sets
 
     def make_all(self):
-        """Makes sets and has them called, to the end."""
+        """Creates the sets of the run and calls them."""
         before = sys.getswitchinterval()
         started = [threading.Thread(target=self.call_in_rounds, args=(i,), daemon=True) for i in range(self.shape.threads)]
         try:
@@ -440,11 +470,12 @@ class Run:
             self.fail(f"{type(why).__qualname__}: {why}")
         finally:
             sys.setswitchinterval(before)
-        self.set = self.replies_of = None  # (it may go wrong at its end)
+        self.set = self.replies_of = None  # (deleting the set can raise too)
         self.slots[self.AT] = self.slots[self.AT] or ENDED
 
     def lead(self):
-        """Makes each set and has the threads call it; writes each part once it is made."""
+        """Creates each set and starts the threads on it, part by part. Writes each part when its calls have
+        ended."""
         left = []
         try:
             with open(self.file, "wb", 0) as file:
@@ -454,7 +485,7 @@ class Run:
                         self.make_set()
                         if self.how.opens_with_keys:
                             self.write(file, self.lines_of_keys("opening", one))
-                    self.there.wait()  # none begins before all are there
+                    self.there.wait()  # no thread begins before all have arrived
                     self.there.wait()
                     if (one + 1) % self.parts == 0:
                         left += self.lines_of_keys("key", one)
@@ -476,7 +507,7 @@ class Run:
     def check_replies(self, rows):
         for word in (ADD, REMOVE):
             if {it.reply for it in rows if it.call == word and (it.end or it.reply == UNKNOWN)} == {UNKNOWN}:
-                self.fail(f"each {word} answered None, and has to answer True or False", UNMADE)
+                self.fail(f"every {word} returned None, but must return True or False", UNMADE)
 
     def make_set(self):
         self.set = self.replies_of = None
@@ -488,7 +519,7 @@ class Run:
             raise
 
     def lines_of_keys(self, word, one):
-        """Those of the keys that the set of a round has."""
+        """Calls `contains` for each key. Returns a line for each key found."""
         first, lines = one // self.parts * self.shape.keys, []
         for number in range(self.shape.keys):
             if self.replies_of[2](self.how.key_of(number, self.shape)):
@@ -499,7 +530,7 @@ class Run:
     # ---- the threads that call them
 
     def call_in_rounds(self, thread):
-        """The calls of one thread."""
+        """Makes the calls of one thread, part by part."""
         draw, number = random.Random(self.seed * 64 + thread), thread
         try:
             for one in range(self.rounds):
@@ -515,17 +546,18 @@ class Run:
             self.there.abort()
 
     def call(self, places, of_set, thread, number, draw):
-        """Makes calls; gives the number of the thread, which is another one after a reply that is not known."""
+        """Makes calls. Returns the number of the thread, which changes after an unknown reply."""
         before, keys, few = sys.gettrace(), self.shape.keys, min(HOT, self.shape.keys)
         drawn = [word for word, share in enumerate(self.how.shares) for _ in range(share)]
-        if self.how.pauses:
-            sys.settrace(pausing(self.how.pauses, random.Random(draw.random()), before))
+        tracer = pausing(self.how.pauses, random.Random(draw.random()), before) if self.how.pauses else before
         try:
             for at in places:
                 word, number_of_key = draw.choice(drawn), draw.randrange(few if keys > 2 * HOT and draw.random() < 0.5 else keys)
+                if self.how.pauses:  # (of many keys, those that are seldom called overlap no call)
+                    sys.settrace(tracer if keys <= 64 or number_of_key < few else before)
                 key, at_slot, written = self.how.key_of(number_of_key, self.shape), self.at_slots + at * self.SLOT.size, of_set + number_of_key
                 self.count(thread, at)
-                begin = next(self.tickets)  # (one step of the interpreter)
+                begin = next(self.tickets)  # (a single step of the interpreter)
                 self.SLOT.pack_into(self.slots, at_slot, begin, 0, number, written, word, NO)
                 reply = self.replies_of[word](key)
                 reply = UNKNOWN if reply is None else YES if reply else NO
@@ -547,8 +579,9 @@ def line_of(it):
 
 
 def pausing(pauses, draw, before):
-    """A trace function that lets other threads go on, before so many of 100 lines of all code but this file's, and of its steps in one of
-    ten calls; the one before goes on."""
+    """Returns a trace function that lets other threads run. It does so before this percentage of the lines of
+    all code outside this file, and in one of ten calls also before this percentage of the steps. `before`
+    is the previous trace function, which is called too."""
 
     def of_frame(inner):
         def at_line(frame, event, arg):
@@ -572,27 +605,28 @@ def pausing(pauses, draw, before):
 
 
 class Judge:
-    """The judge underneath. It prints its name, and what it says of its proof."""
+    """A judge: the library, or a program. str() returns its name and its statement about its proof."""
 
     def __init__(self):
         try:
             import listset
 
-            self.name, self.answer, version = "liblistset", listset.judge_file, listset.version()
+            self.name, self.answer, self.words, version = "liblistset", listset.judge_file, [], listset.version()
         except (ImportError, AttributeError):
             self.name = os.environ.get("LISTSET") or "listset"
             words = ["node", self.name] if self.name.endswith(".js") else [self.name]
-            self.answer = lambda file: said([*words, "judge", file], subprocess.PIPE)
-            version, status = said([*words, "--version", "--long"])  # (what it says of a judge that it builds is for the user's eyes)
+            self.words, self.answer = words, lambda file: said([*words, "judge", file], subprocess.PIPE)
+            version, status = said([*words, "--version", "--long"])  # (the user sees what a judge prints while it is built)
             if status == 127:
-                raise NoVerdict(NO_JUDGE % self.name)
+                raise NoVerdict((IS_FOLDER if os.path.isdir(self.name) else NO_JUDGE) % self.name) from None
         self.proof = next((it for it in version.splitlines() if it.startswith("proof ")), "proof unknown")
 
     def __str__(self):
         return f"{self.name}, {self.proof}"
 
     def judged(self, file: pathlib.Path) -> tuple[int, str]:
-        """How many calls of a recording overlapped a change of their key; and what the judge says if no order explains it."""
+        """Judges a recording. Returns how many calls overlapped a change of their key, and what the judge
+        printed if no order explains them."""
         text, status = self.answer(file)
         met = OVERLAPPED.match(text)
         if status == 0 and met:
@@ -601,9 +635,14 @@ class Judge:
             return 0, text.strip()
         raise NoVerdict(NO_VERDICT % (self.name, text.partition("\n")[0] or "nothing"))
 
+    def only(self, file: pathlib.Path, key: str) -> str:
+        """Returns the recording of one key, if the judge can print it."""
+        text, status = said([*self.words, "judge", "--only", key, file], subprocess.PIPE) if self.words else ("", 1)
+        return text if status == 0 else ""
+
 
 def said(words: list, errors: int | None = None) -> tuple[str, int]:
-    """What a command says, and its status; 127 if it cannot be run."""
+    """Runs a command. Returns its output and its status; 127 if it cannot be run."""
     try:
         done = subprocess.run(words, stdin=subprocess.DEVNULL, stdout=subprocess.PIPE, stderr=errors)
     except OSError:

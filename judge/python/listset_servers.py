@@ -1,13 +1,15 @@
-"""Servers as sets that `listset_judge.judge` calls: a line to the server and a line back, on a connection for each thread.
+"""Servers as sets for `listset_judge.judge`. A call sends a line to the server and reads a line back, on one
+connection per thread.
 
     def test_redis_is_linearizable():
         print(listset_judge.judge(lambda: listset_servers.Redis(6379), pauses=0))
 
-(Pauses are for sets of Python's own: in a client they hide most of what a replica does wrong.)
+Use `pauses=0`: pauses are for sets in Python. In a client they hide most of the errors of a replica.
 
-A reply that does not come in time, or is lost with its connection, is not known: the call answers None, and the thread connects anew
-for its next call. `listset_servers.Redis(6379, read_at=6380)` writes at one address and reads at another one, as clients of a replica do.
-For another server write a class as `Redis` is.
+If a reply does not arrive in time, or is lost with its connection, the outcome is unknown: the call
+returns None, and the thread opens a new connection for its next call. `listset_servers.Redis(6379,
+read_at=6380)` writes to one address and reads from another, as clients of a replica do. For another
+server, write a class like `Redis`.
 """
 
 import contextlib
@@ -16,7 +18,7 @@ import socket
 import threading
 import time
 
-OPENING = 30  # seconds, for a connection that is made anew while a server starts again
+OPENING = 30  # seconds to open a connection again, while the server restarts
 
 
 class Connection:
@@ -45,7 +47,7 @@ class Connection:
 
     def close(self):
         for it in filter(None, (self.file, self.socket)):
-            with contextlib.suppress(OSError):  # (of what was never sent)
+            with contextlib.suppress(OSError):  # (if bytes were never sent)
                 it.close()
         self.socket = self.file = None
 
@@ -53,7 +55,7 @@ class Connection:
         self.close()
 
     def ask(self, line):
-        """The line of the server's answer; None if it is not known."""
+        """Sends a line and returns the line of the reply; None if the outcome is unknown."""
         self.open_again()
         with contextlib.suppress(TimeoutError, ConnectionError):
             self.file.write(f"{line}\n".encode())
@@ -72,7 +74,8 @@ class Server:
         self.address, self.read_at, self.seconds, self.mine = address, read_at or address, seconds, threading.local()
 
     def ask(self, line, replies, is_read=False):
-        """What the server's answer means by `replies`; None if it is not known; any other answer is an error."""
+        """Sends a line and returns what the reply means by `replies`; None if the outcome is unknown. Raises
+        ConnectionError for any other reply."""
         mine, address = vars(self.mine), self.read_at if is_read else self.address
         if address not in mine:
             mine[address] = Connection(address, self.seconds)
@@ -83,7 +86,7 @@ class Server:
 
 
 class Redis(Server):
-    """A set of Redis, under a name that no other has, so that a call which was not answered in time has no effect on it."""
+    """A set of Redis. Its name is new, so a late call on an earlier set has no effect on it."""
 
     REPLIES, made = {":1": True, ":0": False}, 0
 

@@ -13,9 +13,9 @@ import static java.util.Collections.synchronizedMap;
 import static java.util.Collections.synchronizedSet;
 
 /**
- * Sets of Java and of JCTools (Debian's package libjctools-java), and wrong ones, each judged in so many tests: {@code javac -cp
- * /usr/share/java/jctools-core.jar -d out ../java/Judge.java Jctools.java}, and {@code java -cp out:/usr/share/java/jctools-core.jar
- * Jctools 20}.
+ * Judges sets of Java and of JCTools (Debian's package libjctools-java), and wrong sets, each in a number of tests:
+ * {@code javac -cp /usr/share/java/jctools-core.jar -d out ../java/Judge.java Jctools.java}, and {@code java -cp
+ * out:/usr/share/java/jctools-core.jar Jctools 20}.
  */
 final class Jctools {
     private Jctools() { }

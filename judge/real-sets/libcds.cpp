@@ -1,16 +1,23 @@
-// Sets of libcds (Debian's package libcds-dev), each judged in so many tests:
+// Judges sets of libcds (Debian's package libcds-dev), each in a number of tests:
 //     g++ -O2 -std=c++17 -pthread libcds.cpp -lcds -o libcds && ./libcds 20
-// As libcds-2.3.3.patch has it, SkipListSet is right:
-//     mkdir -p patched && cp -r /usr/include/cds patched && patch -p1 -d patched < libcds-2.3.3.patch, and -Ipatched for g++
 #include "tests.hpp"
 #include <cds/container/ellen_bintree_set_hp.h>
 #include <cds/container/lazy_list_hp.h>
 #include <cds/container/michael_list_hp.h>
+#include <cds/container/michael_set.h>
+#include <cds/container/skip_list_map_hp.h>
+#include <cds/container/skip_list_set_dhp.h>
 #include <cds/container/skip_list_set_hp.h>
+#include <cds/container/split_list_set.h>
+#include <cds/container/striped_set/std_set.h>
+#include <cds/container/striped_set.h>
+#include <cds/gc/dhp.h>
 #include <cds/gc/hp.h>
 #include <cds/init.h>
+#include <functional>
+#include <set>
 
-// A thread has to register with libcds before its first call.
+// Registers a thread with libcds, which is required before its first call.
 struct attached {
     attached() { cds::threading::Manager::attachThread(); }
     ~attached() { cds::threading::Manager::detachThread(); }
@@ -27,13 +34,37 @@ struct of_tree : by_less<cds::container::ellen_bintree::traits> {
     using key_extractor = itself;
 };
 
+struct of_map : cds::container::skip_list::traits {
+    using less = std::less<unsigned>;
+};
+struct hashed : cds::container::michael_set::traits {
+    using hash = std::hash<unsigned>;
+};
+struct split : cds::container::split_list::traits {
+    using ordered_list = cds::container::michael_list_tag;
+    using hash = std::hash<unsigned>;
+    struct ordered_list_traits : by_less<cds::container::michael_list::traits> { };
+};
+
+// A hash table whose buckets are lists.
+template <class List> struct Hashed : cds::container::MichaelHashSet<cds::gc::HP, List, hashed> {
+    Hashed() : cds::container::MichaelHashSet<cds::gc::HP, List, hashed>(64, 4) { }
+};
+
 int main(int, char **words) {
     using namespace cds::container;
     using gc = cds::gc::HP;
     cds::Initialize();
     gc pointers(128);
+    cds::gc::DHP others(128);
     judge<MichaelList<gc, unsigned, by_less<michael_list::traits>>>("MichaelList", words, attach);
     judge<LazyList<gc, unsigned, by_less<lazy_list::traits>>>("LazyList", words, attach);
     judge<EllenBinTreeSet<gc, unsigned, unsigned, of_tree>>("EllenBinTreeSet", words, attach);
-    judge<SkipListSet<gc, unsigned, by_less<skip_list::traits>>>("SkipListSet", words, attach);
+    judge<SkipListSet<gc, unsigned, by_less<skip_list::traits>>>("SkipListSet<HP>", words, attach);
+    judge<SkipListSet<cds::gc::DHP, unsigned, by_less<skip_list::traits>>>("SkipListSet<DHP>", words, attach);
+    judge<SkipListMap<gc, unsigned, bool, of_map>>("SkipListMap<HP>", words, attach);
+    judge<Hashed<MichaelList<gc, unsigned, by_less<michael_list::traits>>>>("MichaelHashSet of MichaelList", words, attach);
+    judge<Hashed<LazyList<gc, unsigned, by_less<lazy_list::traits>>>>("MichaelHashSet of LazyList", words, attach);
+    judge<SplitListSet<gc, unsigned, split>>("SplitListSet", words, attach);
+    judge<StripedSet<std::set<unsigned>, cds::opt::hash<std::hash<unsigned>>, cds::opt::less<std::less<unsigned>>>>("StripedSet", words, attach);
 }

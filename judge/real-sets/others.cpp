@@ -1,4 +1,5 @@
-// Sets of TBB, of liburcu and of Concurrency Kit (Debian's packages libtbb-dev, liburcu-dev, libck-dev), each judged in so many tests:
+// Judges sets of TBB, of liburcu and of Concurrency Kit (Debian's packages libtbb-dev, liburcu-dev, libck-dev), each in
+// a number of tests:
 //     g++ -O2 -std=c++17 -pthread others.cpp -ltbb -lurcu-cds -lurcu -lck -o others && ./others 20
 #include "tests.hpp"
 #include <mutex>
@@ -18,13 +19,13 @@ struct Tbb {
 
 constexpr unsigned long hash_of(unsigned long key) { return key * 0x9E3779B97F4A7C15; }
 
-// One writer at a time, and readers without a lock.
+// A set with one writer at a time. Readers take no lock.
 struct Ck {
     ck_hs_t keys;
     std::mutex writers;
     static void *allocate(size_t size) { return malloc(size); }
     static void *grow(void *old, size_t, size_t size, bool) { return realloc(old, size); }
-    static void leave(void *, size_t, bool) {}  // (a reader may still be there)
+    static void leave(void *, size_t, bool) {}  // (a reader can still use the memory)
     static unsigned long hash(const void *key, unsigned long) { return hash_of(reinterpret_cast<uintptr_t>(key)); }
     static void *of(unsigned key) { return reinterpret_cast<void *>((uintptr_t(key) + 1) * 4); }
     Ck() {
@@ -36,7 +37,7 @@ struct Ck {
     bool contains(unsigned key) { return ck_hs_get(&keys, hash(of(key), 0), of(key)) != nullptr; }
 };
 
-// A thread has to register with liburcu before its first call.
+// Registers a thread with liburcu, which is required before its first call.
 struct registered {
     registered() { rcu_register_thread(); }
     ~registered() { rcu_unregister_thread(); }
@@ -60,7 +61,7 @@ struct Urcu {
         return answer;
     }
     bool add(unsigned key) {
-        node *mine = new node{{}, key};  // (what is removed stays)
+        node *mine = new node{{}, key};  // (removed nodes are never deleted)
         return reading(key, [&](cds_lfht_node *) { return cds_lfht_add_unique(keys, hash_of(key), is_key, &key, &mine->in) == &mine->in; });
     }
     bool remove(unsigned key) { return reading(key, [&](cds_lfht_node *it) { return it && cds_lfht_del(keys, it) == 0; }); }

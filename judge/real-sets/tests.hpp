@@ -1,8 +1,8 @@
-// So many tests of a published set, and how many of them refused it.
+// Runs a number of tests of a published set, and prints how many of them refused it.
 #include "../cpp/listset_judge.hpp"
 #include <iostream>
 
-// The words are the number of tests, and the name of the one set that is judged if not all are.
+// `words` are the arguments: the number of tests, and the name of the only set to judge, if one is given.
 template <class S> void judge(const char *name, char **words, void (*begins)() = nullptr) {
     const unsigned tests = words[1] ? unsigned(std::stoul(words[1])) : 1;
     if (words[1] && words[2] && words[2] != std::string(name)) return;

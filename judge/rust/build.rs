@@ -1,4 +1,5 @@
-//! Links the judge into the tests if liblistset.a is found: in the folder LISTSET_LIB, in this crate's `lib`, or where a release has it.
+//! Links the judge into the tests if liblistset.a is found: in the folder LISTSET_LIB, in `lib` of this crate, or in
+//! the `lib` of a release.
 use std::path::{Path, PathBuf};
 use std::{env, fs};
 
@@ -13,7 +14,7 @@ fn main() {
     };
     let found = places.iter().find(|it| it.join("liblistset.a").exists());
     assert!(found.is_some() || places.len() > 1, "LISTSET_LIB names {}, where no liblistset.a is", places[0].display());
-    let Some(found) = found else { return };
+    let found = match found { Some(it) => it, None => return };
     let library = found.join("liblistset.a");
     let is_new = fs::read(&library).unwrap_or_default().windows(18).any(|it| it == b"listset_judge_from");
     assert!(is_new, "{} has no function listset_judge_from: take a newer one", library.display());

@@ -1,4 +1,5 @@
-// Judges the set that the variable SET names, with the options of HOW, as "threads=4 runs=2"; prints how the verdict came out, and it.
+// Judges the set that the variable SET names, with the options in HOW, such as "threads=4 runs=2". Prints the kind of
+// the result, and the result.
 #include "../listset_judge.hpp"
 #include <iostream>
 #include <mutex>
@@ -11,7 +12,7 @@ template <class K> struct Right {
     bool remove(const K &key) { std::lock_guard held(lock); return keys.erase(key) > 0; }
     bool contains(const K &key) { std::lock_guard held(lock); return keys.count(key) > 0; }
 };
-// By the names of the standard library, and without a removal.
+// A set with the names of the standard library, and without a removal.
 struct AddsOnly {
     std::set<unsigned> keys;
     std::mutex lock;
@@ -19,7 +20,7 @@ struct AddsOnly {
     size_t count(unsigned key) { std::lock_guard held(lock); return keys.count(key); }
 };
 
-// Right, but for what the variable SET says.
+// A right set, except for the error that the variable SET names.
 struct Set : Right<unsigned> {
     using right = Right<unsigned>;
     const std::string is = std::getenv("SET");
@@ -30,22 +31,23 @@ struct Set : Right<unsigned> {
         if (is == "opens") keys = {1, 3};
         if (is == "not made") throw std::runtime_error("no room");
     }
-    // With "first use" the part of a key is made by its first call, and two calls may make it.
+    // Returns the whole set. With "first use" each key has a set of its own, which its first call creates; two calls
+    // can both create it.
     right &part(unsigned key) {
         if (is != "first use") return *this;
-        if (!parts[key]) parts[key] = new right;  // (which stays)
+        if (!parts[key]) parts[key] = new right;  // (never deleted)
         return *parts[key];
     }
-    // "collides" takes keys for one that have a place in common.
+    // Returns the key. With "collides", keys with the same remainder are one key.
     unsigned place(unsigned key) const { return is == "collides" ? key % 64 : key; }
 
-    // Each fiftieth reply is lost: then it is not known, or the call is made again.
+    // Loses each fiftieth reply: the outcome is unknown, or the call is made again.
     template <class Call> std::optional<bool> called(Call call) {
         const bool reply = call();
         if ((is != "not known" && is != "again") || ++calls % 50 > 0) return reply;
         return is == "again" ? std::optional(call()) : std::nullopt;
     }
-    // A remove does not come back, with the lock held.
+    // Never returns from a `remove`, and keeps the lock.
     void stop() {
         std::lock_guard held(lock);
         if (++calls != (is == "crashes late" ? 10'000 : 30)) return;
@@ -73,7 +75,7 @@ listset::options how_of(std::istream &words) {
     unsigned own_process = 1, opens_with_keys = 0;
     std::map<std::string, unsigned *> numbers{
         {"threads", &how.threads}, {"calls", &how.calls}, {"keys", &how.keys}, {"pauses", &how.pauses}, {"runs", &how.runs},
-        {"seed", &how.seed}, {"seconds", &how.seconds}, {"at_least", &how.at_least}, {"adds", &how.adds}, {"removes", &how.removes},
+        {"seed", &how.seed}, {"seconds", &how.seconds}, {"within", &how.within}, {"at_least", &how.at_least}, {"adds", &how.adds}, {"removes", &how.removes},
         {"finds", &how.finds}, {"own_process", &own_process}, {"opens_with_keys", &opens_with_keys}};
     for (std::string word; words >> word;) {
         auto name = word.substr(0, word.find('=')), given = word.substr(name.size() + 1);

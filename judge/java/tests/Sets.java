@@ -8,11 +8,12 @@ import java.util.concurrent.atomic.AtomicInteger;
 import java.util.concurrent.locks.LockSupport;
 import java.util.function.BooleanSupplier;
 
-/** Judges the set that the variable SET names, with the options of HOW, as "threads=4 runs=2"; prints how the verdict came out, and it. */
+/** Judges the set that the variable SET names, with the options in HOW, such as "threads=4 runs=2". Prints the kind of
+ * the result, and the result. */
 final class Sets {
     private Sets() { }
 
-    /** Right, but for what the variable SET says. */
+    /** A right set, except for the error that the variable SET names. */
     static final class Named extends ConcurrentSkipListSet<Integer> {
         private static final long serialVersionUID = 1;
         private final String is = System.getenv("SET");
@@ -24,17 +25,17 @@ final class Sets {
             if (is.equals("not made")) throw new IllegalStateException("no room");
         }
 
-        /** "collides" takes keys for one that have a place in common. */
+        /** Returns the key. With "collides", keys with the same remainder are one key. */
         private Integer place(Object key) { return is.equals("collides") ? (Integer) key % 64 : (Integer) key; }
 
-        /** With "first use" the part of a key is made by its first call, and two calls may make it. */
+        /** With "first use" each key has a set of its own, which its first call creates; two calls can both create it. */
         private Set<Integer> part(Object key) {
             Set<Integer> found = parts.get(key);
             if (found == null) parts.put(key, found = new ConcurrentSkipListSet<>());
             return found;
         }
 
-        /** Each fiftieth reply is lost: then it is not known, or the call is made again. */
+        /** Loses each fiftieth reply: the outcome is unknown, or the call is made again. */
         private boolean called(BooleanSupplier call) {
             boolean reply = call.getAsBoolean();
             if (!is.equals("not known") && !is.equals("again") || calls.incrementAndGet() % 50 > 0) return reply;
@@ -42,7 +43,7 @@ final class Sets {
             return call.getAsBoolean();
         }
 
-        /** A remove does not come back, with the lock of all others. */
+        /** Never returns from a remove. */
         private synchronized void stop() {
             int due = is.equals("crashes late") ? 10_000 : 30;
             if (calls.incrementAndGet() != due) return;
@@ -71,12 +72,41 @@ final class Sets {
         }
     }
 
+    /** A set whose subclasses inherit the three calls. */
+    abstract static class Inherited {
+        final Set<Integer> keys = new ConcurrentSkipListSet<>();
+
+        abstract boolean finds(Integer key);
+
+        public boolean add(Integer key) { return keys.add(key); }
+
+        public boolean remove(Integer key) { return keys.remove(key); }
+
+        public boolean contains(Integer key) { return finds(key); }
+    }
+
+    static final class First extends Inherited {
+        @Override boolean finds(Integer key) { return keys.contains(key); }
+    }
+
+    static final class Second extends Inherited {
+        @Override boolean finds(Integer key) { return keys.contains(key); }
+    }
+
+    /** A set that finds every key. */
+    static final class Third extends Inherited {
+        @Override boolean finds(Integer key) { return true; }
+    }
+
     private static Judge.Verdict judged(String set, Judge.Options how) {
         Object here = new Object();
         return switch (set) {
             case "texts" -> Judge.judge(ConcurrentSkipListSet<String>::new, it -> "key " + it, Set::add, Set::remove, Set::contains, how);
             case "twice" -> Judge.judge(HashSet<String>::new, it -> "key " + it / 2, Set::add, Set::remove, Set::contains, how);
             case "not passed on" -> Judge.judge(() -> new ConcurrentSkipListSet<>(here.hashCode() == 0 ? Set.of(1) : Set.of()), how);
+            case "inherits first" -> Judge.judge(First::new, First::add, First::remove, First::contains, how);
+            case "inherits second" -> Judge.judge(Second::new, Second::add, Second::remove, Second::contains, how);
+            case "inherits and finds all" -> Judge.judge(Third::new, Third::add, Third::remove, Third::contains, how);
             default -> Judge.judge(Named::new, how);
         };
     }
@@ -95,6 +125,7 @@ final class Sets {
                 case "runs" -> how.withRuns(number);
                 case "seed" -> how.withSeed(number);
                 case "seconds" -> how.withSeconds(number);
+                case "within" -> how.withWithin(number);
                 case "at_least" -> how.withAtLeast(number);
                 case "own_process" -> how.withOwnProcess(number == 1);
                 case "opens_with_keys" -> how.withOpeningKeys(number == 1);

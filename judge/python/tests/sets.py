@@ -1,10 +1,12 @@
-"""Judges the set that the variable SET names, with the options of HOW, as "threads=4 runs=2"; prints how the verdict came out, and it."""
+"""Judges the set that the variable SET names, with the options in HOW, such as "threads=4 runs=2". Prints the
+kind of the result, and the result."""
 
 import os
 import pathlib
 import sys
 import threading
 import time
+import unittest
 
 sys.path.insert(0, str(pathlib.Path(__file__).resolve().parent.parent))
 import listset_judge  # noqa: E402
@@ -27,7 +29,7 @@ class Right:
 
 
 class Named(Right):
-    """Right, but for what its name says."""
+    """A right set, except for the error that its name says."""
 
     def __init__(self, name):
         super().__init__()
@@ -38,7 +40,8 @@ class Named(Right):
             raise RuntimeError("no room")
 
     def part(self, key):
-        """All of it; with "first use" the part of a key is made by its first call, and two calls may make it."""
+        """Returns the whole set. With "first use" each key has a set of its own, which its first call
+        creates; two calls can both create it."""
         if self.name != "first use":
             return super()
         if key not in self.parts:
@@ -46,11 +49,11 @@ class Named(Right):
         return self.parts[key]
 
     def place(self, key):
-        """The key; "collides" takes keys for one that have a place in common."""
+        """Returns the key. With "collides", keys with the same remainder are one key."""
         return key % 64 if self.name == "collides" else key
 
     def called(self, call, key):
-        """Each fiftieth reply is lost: then it is not known, or the call is made again."""
+        """Loses each fiftieth reply: the outcome is unknown, or the call is made again."""
         reply, is_lossy = call(self.place(key)), self.name in ("not known", "again")
         self.calls += is_lossy
         if not is_lossy or self.calls % 50:
@@ -58,9 +61,9 @@ class Named(Right):
         return call(key) if self.name == "again" else None
 
     def stop(self):
-        """A remove does not come back, with the lock held."""
+        """Never returns from a `remove`, and keeps the lock."""
         self.calls += 1
-        if self.calls >= (10_000 if self.name == "crashes late" else 30):  # (two threads may count at once)
+        if self.calls >= (10_000 if self.name == "crashes late" else 30):  # (two threads can count at once)
             with self.lock:
                 STOPS[self.name]()
 
@@ -87,7 +90,7 @@ def fails():
 
 STOPS = {"hangs": lambda: time.sleep(1 << 20), "crashes": os.abort, "crashes late": os.abort, "exits": lambda: os._exit(3), "throws": fails}
 KEYS = {"texts": lambda number: f"key {number}", "twice": lambda number: f"key {number // 2}"}
-KINDS = {listset_judge.NotLinearizable: "refused", listset_judge.CutShort: "cut short", listset_judge.TooFew: "too few", listset_judge.NoVerdict: "none"}
+KINDS = {listset_judge.NotLinearizable: "refused", listset_judge.CutShort: "cut short", listset_judge.TooFew: "too few", listset_judge.NoVerdict: "none", unittest.SkipTest: "skipped"}
 
 
 def judged(name, how):

@@ -1,5 +1,5 @@
-"""Servers on the loopback, judged: `listset serve`; and, if it is installed, Redis, a client that checks and then acts, a replica that is
-read, and connections that pause and are lost.
+"""Tests of servers on the loopback: `listset serve` and, if it is installed, Redis, a client that checks and
+then acts, a replica that is read, and connections that pause or are lost.
 
 python3 -m unittest discover -s tests -t tests
 """
@@ -19,19 +19,19 @@ import listset_judge
 import listset_servers
 
 FEW = {"threads": 4, "calls": 250, "keys": 4, "runs": 4, "pauses": 0}
-SESSIONS = 3 * FEW["runs"] * (FEW["threads"] + 1)  # (a run whose calls did not meet is made again, up to twice)
-SECONDS = 30  # until a server listens, or ends
+SESSIONS = 3 * FEW["runs"] * (FEW["threads"] + 1)  # (a run whose calls did not overlap is made again, up to twice)
+SECONDS = 30  # to wait until a server listens, or ends
 
 
 class CheckThenAct(listset_servers.Redis):
-    """Two lines to the server for a change, between which another client's may come."""
+    """A client whose `add` consists of two requests. Another client's request can come between them."""
 
     def add(self, key):
         return not self.contains(key) and (super().add(key) or True)
 
 
 class Again(listset_servers.Redis):
-    """What is not known is asked again."""
+    """A client that repeats an `add` with an unknown outcome."""
 
     def add(self, key):
         reply = super().add(key)
@@ -59,11 +59,11 @@ class Served(unittest.TestCase):
         self.assertGreater(verdict.overlapped, 0)
         print(verdict)
 
-    def test_what_a_server_refuses_is_one_sentence(self):
-        with self.assertRaisesRegex(listset_judge.NoVerdict, "the set could not be made: .*refused"):
+    def test_a_refused_connection_is_one_sentence(self):
+        with self.assertRaisesRegex(listset_judge.NoVerdict, "the set could not be created: .*refused"):
             listset_judge.judge(lambda: listset_servers.Redis(free_port()), **FEW)
 
-    def test_an_answer_that_does_not_come_is_not_known(self):
+    def test_a_missing_answer_is_an_unknown_outcome(self):
         with socket.create_server(("127.0.0.1", 0)) as listening:
             server = listset_servers.Server(listening.getsockname()[1], seconds=1)
             self.assertIsNone(server.ask("ADD 1", {"TRUE": True}))
@@ -122,7 +122,7 @@ class OfRedis(unittest.TestCase):
             listset_judge.judge(lambda: listset_servers.Redis(self.port, read_at=replica), pauses=0)
         print(refused.exception)
 
-    def test_answers_that_are_late_or_lost(self):
+    def test_late_and_lost_answers_are_unknown_outcomes(self):
         breaks = f"import listset_servers, time; c = listset_servers.Connection({self.port}, 9)\nwhile True: c.ask('CLIENT PAUSE 150'); time.sleep(0.4); c.ask('CLIENT KILL TYPE normal'); time.sleep(0.1)"
         breaking = subprocess.Popen([sys.executable, "-c", breaks])
         self.addCleanup(breaking.wait)

@@ -1,4 +1,4 @@
-//! A run, written down as it goes, in memory that a process of its own may share with this one.
+//! Makes a run and records it, in memory that can be shared with a process of the set's own.
 use std::any::Any;
 use std::fs::File;
 use std::io::{self, Seek, SeekFrom, Write};
@@ -9,20 +9,22 @@ use std::sync::atomic::Ordering::{Relaxed, Release, SeqCst};
 use std::time::{Duration, Instant};
 
 use crate::memory::Memory;
+use crate::stops::Stops;
 use crate::words::*;
 use crate::{no_verdict, Failure, Options, Replies, Shape, Source};
 
-const UNKNOWN: u32 = 2; // of a call what it answered: 0, 1 or this
+const UNKNOWN: u32 = 2; // a reply: 0 for false, 1 for true, or this
 
 const WRITABLE: &str = "the recording can be written";
 
-/// How far a run is.
+/// The progress of a run.
 const GOING: u32 = 1;
 const OVER: u32 = 2;
 const FAILED: u32 = 3;
 const UNMADE: u32 = 4;
 
-/// Where the numbers of a run are: among them what it draws moments from, how far it is, and the bytes of its file.
+/// The positions of a run's numbers in memory, among them the counter of moments, the progress, and the length of the
+/// file.
 #[derive(Clone, Copy)]
 enum At {
     Tickets,
@@ -31,6 +33,7 @@ enum At {
     Begun,
     Phase,
     IsStopping,
+    IsBusy,
     IsHere,
     Numbers,
     Seed,
@@ -44,22 +47,30 @@ enum At {
     Why,
 }
 
-const WHY: usize = At::Why as usize; // from there a text, a byte in each number, as why it failed;
-const FILE: usize = WHY + 240; // the path of its file;
-const SLOTS: usize = FILE + 1024; // the calls,
-const SLOT: usize = 6; // each with its end, begin, thread, word, key and reply; the first two are 0 as long as there is none
+const WHY: usize = At::Why as usize; // a text from here on, one byte in each number: why the run failed;
+const FILE: usize = WHY + 240; // then the path of the file;
+const SLOTS: usize = FILE + 1024; // then the calls,
+const SLOT: usize = 6; // each with end, begin, thread, word, key and reply. Begin and end are 0 until they happen
 const SIZE: usize = SLOTS + PART as usize * SLOT;
 
-/// The memory of a run: the calls since those in its file.
+/// The memory of a run. It has the calls that are not yet in the file.
 pub struct Area {
     memory: Memory,
     pub options: Options,
 }
 
-/// A call that was recorded.
+/// A recorded call.
 struct Row([u32; SLOT]);
 
 impl Row {
+    /// Returns the call as it was at a moment. `None` if the call had not begun then.
+    fn as_of(mut self, now: u32) -> Option<Row> {
+        if self.0[0] > now {
+            self.0[0] = 0;
+        }
+        Some(self).filter(|it| (1..=now).contains(&it.0[1]))
+    }
+
     fn is_under_way(&self) -> bool {
         self.0[0] == 0
     }
@@ -76,10 +87,10 @@ impl Row {
 }
 
 impl Area {
-    /// The numbers that it takes.
+    /// The number of `u32`s of an area.
     pub const SIZE: usize = SIZE;
 
-    /// An area in memory of that size.
+    /// Wraps memory of `Area::SIZE` numbers.
     pub fn new(memory: Memory, options: &Options) -> Area {
         Area { memory, options: options.clone() }
     }
@@ -117,7 +128,7 @@ impl Area {
 
     // ---- its file
 
-    /// Writes lines behind those in the file, for the calls that are in memory, which are then over.
+    /// Appends lines for the calls in memory to the file, and clears these calls.
     pub fn write(&self, lines: &str) -> io::Result<()> {
         let written = u64::from(self.get(At::WrittenHigh)) << 32 | u64::from(self.get(At::Written));
         let mut file = File::options().write(true).open(self.text(FILE))?;
@@ -131,19 +142,21 @@ impl Area {
         Ok(())
     }
 
-    /// The calls since those in the file, by their begins, and those under way.
+    /// Returns the lines of the calls in memory, in the order of their begins, and the lines of the pending ones. Threads
+    /// can still make calls: a call that begins later than now is left out, and a call that ends later is pending.
     pub fn lines(&self) -> (String, String) {
+        let now = self.get(At::Tickets);
         let slots = self.memory[SLOTS..].chunks(SLOT);
         let numbers = |slot: &[AtomicU32]| Row(std::array::from_fn(|it| slot[it].load(SeqCst)));
-        let mut rows: Vec<Row> = slots.map(numbers).filter(|it| it.0[1] > 0).collect();
+        let mut rows: Vec<Row> = slots.filter_map(|it| numbers(it).as_of(now)).collect();
         rows.sort_unstable_by_key(|it| it.0[1]);
         (rows.iter().map(Row::line).collect(), rows.iter().filter(|it| it.is_under_way()).map(Row::line).collect())
     }
 
-    // ---- who watches a run
+    // ---- for the process that watches a run
 
-    /// Has a run of this shape begin: whoever makes it may go on.
-    pub fn begin(&self, seed: u64, of: Shape, file: &Path) {
+    /// Prepares the memory for a run of this shape, and then starts the run.
+    pub(crate) fn begin(&self, seed: u64, of: Shape, file: &Path) {
         let is_here = self.get(At::IsHere);
         self.memory.iter().for_each(|it| it.store(0, Relaxed));
         let shape =
@@ -164,7 +177,8 @@ impl Area {
         self.get(At::IsHere) == 1
     }
 
-    /// Waits until a run is made; gives how it was cut short, if it was. `ended` is how the process that makes it has ended.
+    /// Waits until a run has ended. Returns why it was cut short, if it was. `ended` returns how the process that makes
+    /// the run has ended, if it has.
     pub fn watch(&self, ended: &dyn Fn() -> Option<String>) -> Result<Option<String>, Failure> {
         let trouble = self.end(ended);
         let phase = self.get(At::Phase);
@@ -175,7 +189,8 @@ impl Area {
         }
     }
 
-    /// Waits until the run is over, or no call begins or ends for too long; gives how that went wrong.
+    /// Waits until the run is over, its process has ended, or no call has begun or ended for `seconds`. Returns the
+    /// error, if any.
     fn end(&self, ended: &dyn Fn() -> Option<String>) -> Option<String> {
         let (mut seen, mut since) = (self.get(At::Tickets), Instant::now());
         while self.get(At::Phase) < OVER {
@@ -193,10 +208,10 @@ impl Area {
         None
     }
 
-    // ---- who makes it
+    // ---- for the process that makes a run
 
-    /// Makes the runs that another process asks for.
-    pub fn serve<S: Sync>(&self, source: &Source<S>) -> ! {
+    /// Makes the runs that the test's process asks for. Never returns.
+    pub(crate) fn serve<S: Sync>(&self, source: &Source<S>) -> ! {
         self.set(At::IsHere, 1);
         loop {
             if self.get(At::Phase) == GOING {
@@ -206,14 +221,14 @@ impl Area {
         }
     }
 
-    /// Makes sets and calls them, to the end.
-    pub fn call_all<S: Sync>(&self, source: &Source<S>) {
+    /// Creates the sets of a run and calls them.
+    pub(crate) fn call_all<S: Sync>(&self, source: &Source<S>) {
         let (of, mut left) = (self.shape(), String::new());
         self.tried(|| self.write("listset-calls 1\n").expect(WRITABLE));
         for one in 0..of.sets {
             match catch_unwind(AssertUnwindSafe(source.make)) {
                 Err(why) => self.fail(UNMADE, why),
-                // (`move`: where it is dropped it may panic too)
+                // (`move`: dropping the set can panic too)
                 Ok(set) => {
                     let left = &mut left;
                     self.tried(move || *left += &Play { area: self, set: &set, reply: source.reply, of, one }.all());
@@ -231,7 +246,7 @@ impl Area {
         catch_unwind(AssertUnwindSafe(does)).unwrap_or_else(|why| self.fail(FAILED, why));
     }
 
-    /// Writes down why it failed; the first stays.
+    /// Stores why the run failed. Only the first failure is kept.
     fn fail(&self, phase: u32, panic: Box<dyn Any + Send>) {
         if self.at(At::IsStopping).swap(1, SeqCst) == 0 {
             let words =
@@ -243,7 +258,7 @@ impl Area {
         }
     }
 
-    /// Waits, for so many looks awake; false if the run stops.
+    /// Waits until `is_done`: polls `awake` times, then sleeps between polls. Returns false if the run was stopped.
     fn waits(&self, awake: u32, is_done: impl Fn() -> bool) -> bool {
         for looks in 0_u32.. {
             if is_done() || self.get(At::IsStopping) == 1 {
@@ -257,7 +272,7 @@ impl Area {
     }
 }
 
-/// A set that is called.
+/// The calls of one set.
 struct Play<'a, S> {
     area: &'a Area,
     set: &'a S,
@@ -267,19 +282,20 @@ struct Play<'a, S> {
 }
 
 impl<S: Sync> Play<'_, S> {
-    /// Calls the set; gives the lines of the keys that are left.
+    /// Runs all threads on the set. Returns the lines of the final keys.
     fn all(&self) -> String {
         let mut left = String::new();
+        let is_stopped = self.area.memory.is_shared() && self.area.options.pauses > 0;
         std::thread::scope(|scope| {
             for thread in 0..self.of.threads {
-                scope.spawn(move || self.area.tried(|| self.call_in_parts(thread)));
+                scope.spawn(move || self.area.tried(|| self.call_in_parts(thread, is_stopped)));
             }
             self.area.tried(|| left = self.lead());
         });
         left
     }
 
-    /// Has the threads make each part, and writes it then.
+    /// Starts each part of the calls, waits for its end, and writes it.
     fn lead(&self) -> String {
         let area = self.area;
         if area.options.opens_with_keys {
@@ -299,7 +315,7 @@ impl<S: Sync> Play<'_, S> {
         left
     }
 
-    /// The lines of the keys that the set has.
+    /// Calls `contains` for each key. Returns a line for each key found.
     fn lines_of_keys(&self, word: &str) -> String {
         let is_there = |key: &u32| {
             self.area.next(At::Tickets);
@@ -308,11 +324,12 @@ impl<S: Sync> Play<'_, S> {
         (0..self.of.keys).filter(is_there).map(|key| format!("{word} {}\n", self.one * self.of.keys + key)).collect()
     }
 
-    /// The calls of one thread.
-    fn call_in_parts(&self, thread: u32) {
+    /// Makes the calls of one thread, part by part.
+    fn call_in_parts(&self, thread: u32, is_stopped: bool) {
         let (area, of, rows) = (self.area, self.of, self.of.rows());
+        let stops = if is_stopped { Stops::of_this_thread() } else { None };
         let mut draws = Draws((u64::from(area.get(At::Seed)) << 20) + u64::from(self.one << 6) + u64::from(thread));
-        let mut number = self.one * of.threads + thread;
+        let (mut stopping, mut number) = (Draws(!draws.0), self.one * of.threads + thread);
         for part in 0..of.parts() {
             if !area.waits(LONGEST, || area.get(At::Begun) > self.one * of.parts() + part) {
                 return;
@@ -321,22 +338,35 @@ impl<S: Sync> Play<'_, S> {
                 if row % MEET == 0 && !self.meet() {
                     return;
                 }
+                let is_due = stopping.below(of.sets * of.calls) < STOPS;
+                if let Some(it) = stops.as_ref().filter(|_| is_due) {
+                    it.after(1 + stopping.below(SOON));
+                }
                 self.call(&area.memory[SLOTS + (thread * rows + row) as usize * SLOT..][..SLOT], &mut number, &mut draws);
             }
             area.next(At::Done);
         }
     }
 
-    /// Waits until all threads are here, awake if each may have a processor, so that all go on at once.
+    /// Waits until all threads are here, so that they continue at once. Polls without sleeping if each thread can have
+    /// a processor, unless such a wait took too long before.
     fn meet(&self) -> bool {
         let processors = std::thread::available_parallelism().map_or(1, |it| it.get());
-        let awake = if self.of.threads as usize <= processors { AWAKE } else { LONGEST };
+        let may_be_awake = self.of.threads as usize <= processors && self.area.get(At::IsBusy) == 0;
         let all = (self.area.next(At::There) - 1) / self.of.threads * self.of.threads + self.of.threads;
-        self.area.waits(awake, || self.area.get(At::There) >= all)
+        let looks = std::cell::Cell::new(0);
+        let are_there = self.area.waits(if may_be_awake { AWAKE } else { LONGEST }, || {
+            looks.set(looks.get() + 1);
+            self.area.get(At::There) >= all
+        });
+        if looks.get() > AWAKE {
+            self.area.set(At::IsBusy, 1);
+        }
+        are_there
     }
 
-    /// A call, which its thread writes down at its begin, and again at its end. The thread goes on under a new number after an outcome
-    /// that is not known.
+    /// Makes a random call, and records it at its begin and at its end. After an unknown outcome the thread continues
+    /// with a new thread number.
     fn call(&self, slot: &[AtomicU32], number: &mut u32, draws: &mut Draws) {
         let (area, keys) = (self.area, self.of.keys);
         let [adds, removes, finds] = area.options.shares;

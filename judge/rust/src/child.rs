@@ -1,4 +1,5 @@
-//! Who makes runs: on Unix a process of its own, which runs this test again up to this judge; else this one.
+//! Makes runs: on Unix in a process of the set's own, which runs this test again up to this judge; elsewhere in this
+//! process.
 use std::cell::RefCell;
 use std::collections::HashMap;
 use std::fs::File;
@@ -14,10 +15,10 @@ use crate::memory::Memory;
 use crate::words::*;
 use crate::{no_verdict, Failure, Options, Shape, Source};
 
-const MEMORY: &str = "LISTSET_AREA"; // the variable that tells a process of its own the file with the memory of runs,
-const MINE: &str = "LISTSET_CHECK"; // and the one that tells it for which judge it is
+const MEMORY: &str = "LISTSET_AREA"; // the variable that names the file with the shared memory,
+const MINE: &str = "LISTSET_CHECK"; // and the variable that names the judge for which the process was started
 
-/// A file of the folder for temporary files, removed with this.
+/// A temporary file, deleted on drop.
 struct Temporary(PathBuf);
 
 impl Drop for Temporary {
@@ -26,14 +27,15 @@ impl Drop for Temporary {
     }
 }
 
-/// Has runs made.
+/// Makes runs, in a child process or in this one.
 pub struct Runner {
     pub area: Area,
     child: Option<RefCell<Child>>,
 }
 
 impl Runner {
-    /// None in a process of its own that is for another judge. In one for this judge it makes runs, and does not come back.
+    /// Starts a child process, or prepares this one. In a child process: makes runs and never returns if it was started
+    /// for this judge, and returns `None` if for another judge.
     pub(crate) fn started<S: Sync>(source: &Source<S>, options: &Options) -> Result<Option<Runner>, Failure> {
         let name = name_of_judge();
         if let Ok(mine) = std::env::var(MINE) {
@@ -48,7 +50,7 @@ impl Runner {
         }
     }
 
-    /// That of a process that runs the test again, and has come to this judge.
+    /// Starts a child process that runs the test again, and waits until it has reached this judge.
     fn in_child(name: &str, options: &Options) -> Result<Runner, Failure> {
         static FILES: AtomicU32 = AtomicU32::new(0);
         let path = std::env::temp_dir().join(format!("listset-{}-{}.area", std::process::id(), FILES.fetch_add(1, SeqCst)));
@@ -67,7 +69,7 @@ impl Runner {
         Ok(Runner { area, child: Some(RefCell::new(child)) })
     }
 
-    /// Has a run made; gives how it was cut short, if it was.
+    /// Makes a run. Returns why it was cut short, if it was.
     pub(crate) fn made<S: Sync>(
         &self,
         source: &Source<S>,
@@ -101,7 +103,8 @@ impl Drop for Runner {
     }
 }
 
-/// The test, and the number of its judge; none where this thread is no test's and not the first.
+/// Returns the name of the test with the number of its judge. `None` if this thread has no name, so that the test
+/// cannot be run again.
 fn name_of_judge() -> Option<String> {
     static JUDGES: Mutex<Option<HashMap<String, u32>>> = Mutex::new(None);
     let test = std::thread::current().name()?.to_string();
@@ -122,7 +125,7 @@ fn process_of(name: &str, file: &Path) -> std::io::Result<Child> {
     command.env(MINE, name).env(MEMORY, file).stdin(Stdio::piped()).stdout(Stdio::null()).spawn()
 }
 
-/// Makes the runs that another process asks for, as long as it is there.
+/// Makes the runs that the parent process asks for, until the parent ends.
 fn serve<S: Sync>(source: &Source<S>, options: &Options) -> ! {
     let file = std::env::var_os(MEMORY).and_then(|it| File::options().read(true).write(true).open(it).ok());
     let memory = file.and_then(|it| Memory::of(&it, Area::SIZE).ok());
@@ -136,7 +139,7 @@ fn serve<S: Sync>(source: &Source<S>, options: &Options) -> ! {
     }
 }
 
-/// How the process has ended, if it has.
+/// Returns how the child process has ended, if it has.
 fn trouble_of(child: &mut Child) -> Option<String> {
     let status = child.try_wait().ok()??;
     Some(status.code().map_or_else(|| say(CRASHED, &[&status]), |code| say(ENDED_SO, &[&code])))

@@ -1,4 +1,4 @@
-//! The judge underneath.
+//! Finds the judge and runs it: `liblistset`, or a program.
 use std::fmt;
 use std::io;
 use std::path::Path;
@@ -7,23 +7,23 @@ use std::process::{Command, Stdio};
 use crate::words::*;
 use crate::{no_verdict, Failure};
 
-/// The judge that is used, and what it says of its proof.
+/// A judge, and its statement about its proof.
 pub struct Judge {
     name: String,
     proof: String,
-    /// The command to which words are added; none is the library.
+    /// The command and its first arguments; empty for the library.
     command: Vec<String>,
 }
 
-/// What a judge says of a recording.
+/// The verdict on a recording.
 pub enum Judged {
-    /// Some order explains it, and so many calls overlapped a change of their key.
+    /// Some order explains the calls. `overlapped` of them overlapped a change of their key.
     Ok { overlapped: u64 },
-    /// None does, in the judge's words.
+    /// No order explains the calls. Contains what the judge printed.
     Refused(String),
 }
 
-/// An exit status, if the command was not killed, and what was said.
+/// The exit status, if there is one, and the output.
 type Answer = (Option<i32>, String);
 
 impl fmt::Display for Judge {
@@ -37,12 +37,25 @@ impl Judge {
         if let Some(version) = library::version() {
             return Ok(Judge { name: "liblistset".to_string(), proof: proof_in(&version), command: Vec::new() });
         }
-        let name = std::env::var("LISTSET").unwrap_or_else(|_| "listset".to_string());
+        let name = std::env::var("LISTSET").ok().filter(|it| !it.is_empty()).unwrap_or_else(|| "listset".to_string());
+        if Path::new(&name).is_dir() {
+            return no_verdict(say(IS_FOLDER, &[&name]));
+        }
         let command = if name.ends_with(".js") { vec!["node".to_string(), name.clone()] } else { vec![name.clone()] };
-        // (what it says of a judge that it builds is for the user's eyes)
+        // (the user sees what a judge prints while it is built)
         match ran(Command::new(&command[0]).args(&command[1..]).args(["--version", "--long"]).stderr(Stdio::inherit())) {
             Ok((Some(127), _)) | Err(_) => no_verdict(say(NO_JUDGE, &[&name])),
             Ok((_, version)) => Ok(Judge { name, proof: proof_in(&version), command }),
+        }
+    }
+
+    /// Returns the recording of one key, if the judge can print it.
+    pub fn only(&self, recording: &Path, key: u32) -> Option<String> {
+        let (first, words) = self.command.split_first()?;
+        let key = key.to_string();
+        match ran(Command::new(first).args(words).args(["judge", "--only", &key[..]]).arg(recording)) {
+            Ok((Some(0), said)) => Some(said + "\n"),
+            _ => None,
         }
     }
 
@@ -66,12 +79,12 @@ fn ran(command: &mut Command) -> io::Result<Answer> {
     Ok((ended.status.code(), String::from_utf8_lossy(&said).trim().to_string()))
 }
 
-/// The number of the second line, below the word `ok`.
+/// Returns the number in the second line, if the first one begins with `ok`.
 fn overlapped_in(said: &str) -> Option<u64> {
     said.strip_prefix("ok ")?.lines().nth(1)?.split(" of them").next()?.parse().ok()
 }
 
-/// The line in which a judge says whether it is proved.
+/// Returns the line that states whether a judge is proved.
 fn proof_in(version: &str) -> String {
     version.lines().find(|it| it.starts_with("proof ")).unwrap_or("proof unknown").to_string()
 }
@@ -79,8 +92,8 @@ fn proof_in(version: &str) -> String {
 #[cfg(linked)]
 mod library {
     use std::ffi::CStr;
-    use std::os::fd::AsRawFd;
     use std::os::raw::c_char;
+    use std::os::unix::io::AsRawFd;
 
     extern "C" {
         fn listset_version() -> *const c_char;
@@ -88,13 +101,13 @@ mod library {
     }
 
     pub fn version() -> Option<String> {
-        // SAFETY: it gives a text that is constant and ends with a zero byte.
+        // SAFETY: the function returns a constant text that ends with a zero byte.
         Some(unsafe { CStr::from_ptr(listset_version()) }.to_string_lossy().into_owned())
     }
 
     pub fn judge(recording: &std::path::Path) -> std::io::Result<super::Answer> {
         let (file, mut room, mut status) = (std::fs::File::open(recording)?, [0; 8192], 0);
-        // SAFETY: the pointers are those of a room of that size and a status, which nobody else writes.
+        // SAFETY: the pointers are to a buffer of this size and to a status, which nobody else accesses.
         let length = unsafe { listset_judge_from(file.as_raw_fd(), room.as_mut_ptr(), room.len(), &mut status) };
         Ok((Some(status.into()), String::from_utf8_lossy(&room[..length]).trim().to_string()))
     }

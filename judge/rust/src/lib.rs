@@ -1,4 +1,4 @@
-//! Whether runs of a concurrent set of your own are linearizable, in one line of a test:
+//! Tests whether a concurrent set of your own is linearizable, in one line of a test:
 //!
 //! ```ignore
 //! #[test]
@@ -7,18 +7,23 @@
 //! }
 //! ```
 //!
-//! `MySet` has `new`, `add`, `remove` and `contains`; [`judge`] takes any other set, by closures. Threads call fresh sets, and the
-//! begin and the end of each call are recorded. A judge says whether any order of the calls explains their replies: `liblistset`, if
-//! `build.rs` finds it; else the program that the environment variable `LISTSET` names, or `listset` of `PATH`. `LISTSET` may also
-//! name the page's `listset.js`, which node runs. On Unix the sets have a process of their own, which runs this test again up to this
-//! judge, so that a set that crashes or hangs is judged up to there.
+//! `MySet` has `new`, `add`, `remove` and `contains`; for any other set, pass closures to [`judge`]. Threads call new sets,
+//! and the begin and the end of each call are recorded. A judge decides whether some order of the calls explains their
+//! replies.
+//!
+//! The judge is `liblistset`, if `build.rs` finds it. Otherwise it is the program that the environment variable
+//! `LISTSET` names, or else `listset` in `PATH`. `LISTSET` can also name a `listset.js`, which node runs. If it is
+//! `skip`, nothing is judged.
+//!
+//! On Unix the sets are called in a process of their own, which runs this test again up to this judge. If a set crashes
+//! or hangs there, its calls so far are judged.
 
 mod area;
 mod child;
 mod judges;
 mod memory;
 mod recording;
-mod told;
+mod stops;
 mod words;
 
 use std::collections::HashMap;
@@ -26,40 +31,47 @@ use std::fmt::{self, Debug};
 use std::hash::Hash;
 use std::io::Write;
 use std::path::PathBuf;
-use std::time::{Duration, Instant};
+use std::time::{Duration, Instant, SystemTime, UNIX_EPOCH};
 
 use child::Runner;
 use judges::Judge;
 use recording::Recording;
 use words::*;
 
-/// How the set is called. Each field is checked before the first set is made.
+/// Options of a test. All are checked before the first set is created.
 #[derive(Clone, Debug)]
 pub struct Options {
-    /// Threads that call a set at once: 1 to 64; 0, here and in the next two: by the presets of runs, in turn.
+    /// The number of threads that call a set at once: 1 to 64. 0 uses the presets in turn.
     pub threads: u32,
-    /// Calls of each thread: 1 or more, and 1,000,000,000 at most of all threads, which rest after each 20,000 until these are written.
+    /// The number of calls of each thread: at least 1, and at most 1,000,000,000 for all threads together. 0 uses the
+    /// presets in turn. After each 20,000 calls of all threads, these are written to the file while the threads wait.
     pub calls: u32,
-    /// Calls are on the keys of the numbers below this: 1 to 1,048,576; half of them on the first four.
+    /// The number of keys: 1 to 1,048,576. 0 uses the presets in turn. With more than eight keys, half of the calls use
+    /// the first four.
     pub keys: u32,
-    /// Before how many of 100 calls a thread pauses, for some microseconds at most: 0 to 100.
+    /// The percentage of calls before which a thread pauses, for at most a few microseconds: 0 to 100. Unless it is 0,
+    /// threads in a process of the set's own are also stopped during calls, by the signal SIGURG.
     pub pauses: u32,
-    /// Sets that are called, or rows of fresh sets: 1 to 1,000,000. Run `i` has the seed `seed + i`.
+    /// The number of runs: 1 to 1,000,000. A run calls one set, or several new sets one after another. Run `i` has the
+    /// seed `seed + i`.
     pub runs: u32,
-    /// What calls, keys and pauses of the first run are drawn from.
+    /// The seed of the calls, keys and pauses of the first run.
     pub seed: u32,
-    /// A run in which no call begins or ends for so long is ended: 1 to 3,600.
+    /// A run is cut short as hung if no call begins or ends for this many seconds: 1 to 3,600.
     pub seconds: u32,
-    /// There is no verdict if fewer of 100 calls overlap a change of their key.
+    /// No run begins after this many seconds of the test: 1 to 604,800.
+    pub within: u32,
+    /// The test fails with `TooFew` if less than this percentage of the calls overlap a change of their key.
     pub at_least: u32,
     /// The shares of `add`, `remove` and `contains`.
     pub shares: [u32; 3],
-    /// If false, sets are called in this process, which then crashes or hangs with them. That is for a debugger, for coverage, and for
-    /// a set that needs threads which this process has started.
+    /// If false, sets are called in this process, which crashes or hangs with them. For debuggers, for coverage, and
+    /// for sets that need threads of this process.
     pub own_process: bool,
-    /// If true, `contains` is asked of each key before the first call.
+    /// If true, `contains` is called for each key before all other calls, to record the opening keys.
     pub opens_with_keys: bool,
-    /// A folder that keeps the recording of each run. Else that of a run that fails is kept, in the folder for temporary files.
+    /// The folder that keeps the recording of each run. If `None`, only the recording of a failed run is kept: in the
+    /// folder that the variable `LISTSET_RECORD` names, or else in the folder for temporary files.
     pub record: Option<PathBuf>,
 }
 
@@ -73,6 +85,7 @@ impl Default for Options {
             runs: 20,
             seed: 1,
             seconds: 10,
+            within: WITHIN,
             at_least: 0,
             shares: [1, 1, 1],
             own_process: true,
@@ -82,15 +95,16 @@ impl Default for Options {
     }
 }
 
-struct Range {
+pub(crate) struct Range {
     name: &'static str,
     least: u64,
     most: u64,
 }
 
-/// A run: the threads, the fresh sets one after another, the calls of each thread on each, the keys, what their numbers are multiples of.
+/// The shape of a run: the number of threads, of new sets one after another, of calls of each thread on each set, and
+/// of keys. The keys are the multiples of `times`.
 #[derive(Clone, Copy)]
-struct Shape {
+pub(crate) struct Shape {
     name: &'static str,
     threads: u32,
     sets: u32,
@@ -100,7 +114,7 @@ struct Shape {
 }
 
 impl Shape {
-    /// The calls of each thread from one rest to the next, of which the last of a set may be fewer.
+    /// Returns how many calls a thread makes in a part. The last part of a set can have fewer.
     fn rows(&self) -> u32 {
         self.calls.min(PART / self.threads)
     }
@@ -117,7 +131,7 @@ impl Shape {
 impl Options {
     fn check(&self) -> Result<(), Failure> {
         let [threads, calls, keys] = [self.threads, self.calls, self.keys].map(|it| u64::from(it.max(1)));
-        let others = [self.pauses, self.runs, self.seconds, self.at_least].map(u64::from);
+        let others = [self.pauses, self.runs, self.seconds, self.within, self.at_least].map(u64::from);
         let shares = self.shares.iter().copied().map(u64::from).sum();
         let given = [threads, threads * calls, keys].into_iter().chain(others).chain([shares]);
         match RANGES.iter().zip(given).find(|(its, given)| !(its.least..=its.most).contains(given)) {
@@ -126,7 +140,7 @@ impl Options {
         }
     }
 
-    /// The preset of a seed, with what these options say.
+    /// Returns the preset for a seed, changed by these options.
     fn shape_of(&self, seed: u64) -> Shape {
         let mut it = PRESETS[(seed as usize + PRESETS.len() - 1) % PRESETS.len()];
         if self.threads > 0 {
@@ -144,32 +158,48 @@ impl Options {
         it
     }
 
-    /// With more threads and fewer keys, where these options leave them open.
-    fn harder(&self, it: Shape) -> Shape {
-        let threads = if self.threads == 0 { (2 * it.threads).min(8) } else { it.threads };
-        let keys = if self.keys == 0 { (it.keys / 2).max(1) } else { it.keys };
-        Shape { threads, keys, ..it }
+    /// Applies the environment variables. `LISTSET_SECONDS` repeats runs for this many seconds, with seeds from the current time
+    /// on; `LISTSET_SEED` sets the first seed.
+    fn by_environment(&self) -> Result<Options, Failure> {
+        let mut it = self.clone();
+        let seconds = number_of("LISTSET_SECONDS", 0, 1, RANGES[6].most as u32)?;
+        if seconds > 0 {
+            let now = SystemTime::now().duration_since(UNIX_EPOCH).unwrap_or_default();
+            (it.within, it.runs, it.seed) = (seconds, RANGES[4].most as u32, now.as_secs() as u32);
+        }
+        it.seed = number_of("LISTSET_SEED", it.seed, 0, u32::MAX)?;
+        Ok(it)
     }
 
-    /// All shapes that a run may have.
+    /// Returns a shape whose calls overlap more: more threads, even more than processors, and fewer keys, unless these
+    /// options set them. The number of all calls does not grow.
+    fn harder(&self, it: Shape) -> Shape {
+        let processors = std::thread::available_parallelism().map_or(1, |it| it.get()) as u32;
+        let threads = if self.threads == 0 { (2 * it.threads).max(processors + 2).min(64) } else { it.threads };
+        let calls = if self.calls == 0 { (it.calls * it.threads / threads).max(1) } else { it.calls };
+        let keys = if self.keys == 0 { (it.keys / 2).max(1) } else { it.keys };
+        Shape { threads, calls, keys, ..it }
+    }
+
+    /// Returns the shapes of all presets, changed by these options.
     fn shapes(&self) -> impl Iterator<Item = Shape> + '_ {
         (1..=PRESETS.len() as u64).map(|it| self.shape_of(it))
     }
 }
 
-/// What is known if some order explains each run. It prints itself.
+/// The result of a test without a failure: some order explains each run. `Display` prints it.
 #[derive(Clone, Debug)]
 #[non_exhaustive]
 pub struct Verdict {
     pub calls: u64,
-    /// Calls that overlapped a change of their key, by the judge.
+    /// The number of calls that overlapped a change of their key, as the judge counted them.
     pub overlapped: u64,
-    /// Which judge it was, and whether it says that it is proved.
+    /// The name of the judge, and its statement about its proof.
     pub judge: String,
 }
 
 impl Verdict {
-    /// Whether so few calls met that `ok` says little.
+    /// Decides whether too few calls overlapped for `ok` to mean much.
     fn is_few(&self) -> bool {
         is_few(self.overlapped, self.calls)
     }
@@ -181,44 +211,47 @@ fn is_few(overlapped: u64, calls: u64) -> bool {
 
 impl fmt::Display for Verdict {
     fn fmt(&self, f: &mut fmt::Formatter<'_>) -> fmt::Result {
-        let few = if self.is_few() { format!("; {FEW}") } else { String::new() };
-        write!(f, "{}{few}; judge: {}", say(OK, &[&self.calls, &self.overlapped]), self.judge)
+        if self.judge.is_empty() {
+            return write!(f, "{SKIPPED}");
+        }
+        let text = if self.is_few() { FEW } else { OK };
+        write!(f, "{}; judge: {}", say(text, &[&self.calls, &self.overlapped]), self.judge)
     }
 }
 
-/// A run that failed.
+/// A failed run.
 #[derive(Clone, Debug)]
 #[non_exhaustive]
 pub struct Failed {
     pub seed: u64,
-    /// The preset of the run.
+    /// The name of the run's preset.
     pub name: String,
-    /// What the judge said, below how the run came to no end if it did not.
+    /// What the judge printed. For a run that was cut short, the reason comes first.
     pub said: String,
-    /// The file that has the recording.
+    /// The file with the recording.
     pub file: PathBuf,
     pub judge: String,
+    /// The whole message.
+    pub text: String,
 }
 
-/// Why there is no `Verdict`. It prints itself, by `unwrap` too.
+/// The error of a test. `Display` and `unwrap` print the whole message.
 #[non_exhaustive]
 pub enum Failure {
     /// No order explains the run.
     NotLinearizable(Failed),
-    /// The set crashed, hung or panicked in the run, which was judged up to there.
+    /// The set crashed, hung or panicked. The calls before that were judged.
     CutShort(Failed),
-    /// Fewer calls overlapped a change of their key than `at_least` asks for.
+    /// Fewer calls overlapped a change of their key than `at_least` requires.
     TooFew(String),
-    /// Nothing is known of the set: an option is out of range, no set could be made, or there is no judge.
+    /// Nothing is known about the set: an option is out of range, no set could be created, or no judge was found.
     NoVerdict(String),
 }
 
 impl fmt::Display for Failure {
     fn fmt(&self, f: &mut fmt::Formatter<'_>) -> fmt::Result {
         match self {
-            Failure::NotLinearizable(it) | Failure::CutShort(it) => {
-                write!(f, "{}", say(FAILED_RUN, &[&it.seed, &it.name, &it.said, &it.file.display(), &it.judge]))
-            }
+            Failure::NotLinearizable(it) | Failure::CutShort(it) => write!(f, "{}", it.text),
             Failure::TooFew(why) | Failure::NoVerdict(why) => write!(f, "{why}"),
         }
     }
@@ -232,7 +265,7 @@ impl Debug for Failure {
 
 impl std::error::Error for Failure {}
 
-/// What a call answers: `bool`, or `Option<bool>`, of which `None` is an outcome that is not known, as after a time-out.
+/// A reply of a call: `bool`, or `Option<bool>`, in which `None` is an unknown outcome, such as after a timeout.
 pub trait Reply {
     fn known(self) -> Option<bool>;
 }
@@ -249,8 +282,8 @@ impl Reply for Option<bool> {
     }
 }
 
-/// Judges a type that has `new()`, or what `make:` names in its place, and `add(&self, u32) -> bool`, `remove` and `contains`;
-/// `Options` may follow.
+/// Judges a type with `new()`, `add(&self, u32) -> bool`, `remove` and `contains`. `make: FUNCTION` replaces `new`, and
+/// `Options` can follow.
 #[macro_export]
 macro_rules! judge {
     ($set:ty) => {
@@ -267,19 +300,19 @@ macro_rules! judge {
     };
 }
 
-/// How the sets of a test are made, and called by the numbers of keys.
+/// How a test creates its sets and calls them by the numbers of keys.
 struct Source<'a, S> {
     make: &'a dyn Fn() -> S,
     reply: Replies<'a, S>,
     shown: &'a dyn Fn(u32) -> String,
-    /// Whether the test gives the keys of numbers.
+    /// Whether the test has a function for keys.
     has_keys: bool,
 }
 
-/// The reply of a set to `add`, `remove` or `contains` (0 to 2) of a key.
+/// Calls `add`, `remove` or `contains` (0 to 2) of a key, and returns the reply.
 type Replies<'a, S> = &'a (dyn Fn(&S, u8, u32) -> Option<bool> + Sync);
 
-/// Judges the sets that `make` makes, which are called by the three closures from many threads at once.
+/// Judges the sets that `make` creates. The three closures are called from many threads at once.
 pub fn judge<S: Sync, A: Reply, R: Reply, C: Reply>(
     make: impl Fn() -> S,
     add: impl Fn(&S, u32) -> A + Sync,
@@ -296,7 +329,8 @@ pub fn judge<S: Sync, A: Reply, R: Reply, C: Reply>(
     judged(&Source { make: &make, reply: &reply, shown: &|key| key.to_string(), has_keys: false }, &options)
 }
 
-/// The same for a set of other keys: `key` gives the key of a number, each another one.
+/// Judges sets with keys of another type. `key` returns the key of a number, and must return a different key for each
+/// number.
 pub fn judge_keys<S: Sync, K: Eq + Hash + Debug + Sync, A: Reply, R: Reply, C: Reply>(
     make: impl Fn() -> S,
     key: impl Fn(u32) -> K,
@@ -322,15 +356,38 @@ pub fn judge_keys<S: Sync, K: Eq + Hash + Debug + Sync, A: Reply, R: Reply, C: R
     judged(&Source { make: &make, reply: &reply, shown: &shown, has_keys: true }, &options)
 }
 
+/// Returns the number in an environment variable, or `other` if the variable is not set.
+fn number_of(variable: &str, other: u32, least: u32, most: u32) -> Result<u32, Failure> {
+    match std::env::var(variable) {
+        Ok(text) if !text.is_empty() => match text.parse() {
+            Ok(found) if (least..=most).contains(&found) => Ok(found),
+            _ => no_verdict(say(NUMBER, &[&variable, &text, &least, &most])),
+        },
+        _ => Ok(other),
+    }
+}
+
 fn judged<S: Sync>(source: &Source<S>, options: &Options) -> Result<Verdict, Failure> {
-    let Some(runner) = Runner::started(source, options)? else {
-        return Ok(Verdict { calls: 0, overlapped: 0, judge: String::new() }); // (in a process that is for another judge of the test)
+    if std::env::var_os("LISTSET").map_or(false, |it| it == "skip") {
+        if std::env::var_os("CI").map_or(false, |it| !it.is_empty()) {
+            return no_verdict(NOT_IN_CI.to_string());
+        }
+        let _ = writeln!(std::io::stderr(), "{SKIPPED}");
+        return Ok(Verdict { calls: 0, overlapped: 0, judge: String::new() });
+    }
+    let options = &options.by_environment()?;
+    let runner = match Runner::started(source, options)? {
+        Some(it) => it,
+        None => {
+            return Ok(Verdict { calls: 0, overlapped: 0, judge: String::new() });
+            // (in a child process that was started for another judge of the test)
+        }
     };
     let judge = Judge::found()?;
     Tester { source, options, runner: &runner, judge: &judge }.all()
 }
 
-/// Judges one run after another.
+/// The state of a test: judges one run after another.
 struct Tester<'a, S> {
     source: &'a Source<'a, S>,
     options: &'a Options,
@@ -339,22 +396,37 @@ struct Tester<'a, S> {
 }
 
 impl<S: Sync> Tester<'_, S> {
+    /// Makes the requested runs, each up to three times, then more runs while few calls have overlapped.
     fn all(&self) -> Result<Verdict, Failure> {
-        let (mut verdict, began) = (Verdict { calls: 0, overlapped: 0, judge: self.judge.to_string() }, Instant::now());
-        for seed in (u64::from(self.options.seed)..).take(self.options.runs as usize) {
-            let mut shape = self.options.shape_of(seed);
+        let mut verdict = Verdict { calls: 0, overlapped: 0, judge: self.judge.to_string() };
+        let (began, options) = (Instant::now(), self.options);
+        let is_within = |since: Instant, seconds: u32| since.elapsed() < Duration::from_secs(seconds.into());
+        let mut run = |seed, shape| -> Result<(bool, bool), Failure> {
+            let (overlapped, calls) = (self.judged_run(seed, shape)?, shape.all_calls());
+            verdict.overlapped += overlapped;
+            verdict.calls += calls;
+            Ok((is_few(overlapped, calls), verdict.is_few()))
+        };
+        let (first, mut seed, mut are_few) = (u64::from(options.seed), u64::from(options.seed), false);
+        while seed < first + u64::from(options.runs) && (seed == first || is_within(began, options.within)) {
+            let mut shape = options.shape_of(seed);
             for _ in 0..=HARDER {
-                let overlapped = self.judged_run(seed, shape).or_else(|why| self.smallest(why))?;
-                verdict.overlapped += overlapped;
-                verdict.calls += shape.all_calls();
-                if !is_few(overlapped, shape.all_calls()) || began.elapsed() > Duration::from_secs(PATIENCE.into()) {
+                let (is_few, all) = run(seed, shape)?;
+                are_few = all;
+                if !is_few || !is_within(began, PATIENCE) {
                     break;
                 }
-                shape = self.options.harder(shape);
+                shape = options.harder(shape);
             }
+            seed += 1;
+        }
+        let end = Instant::now();
+        while are_few && is_within(began, options.within) && is_within(end, PATIENCE) {
+            are_few = run(seed, options.harder(options.harder(options.shape_of(seed))))?.1;
+            seed += 1;
         }
         if verdict.is_few() {
-            let _ = writeln!(std::io::stderr(), "{verdict}"); // (which a test that passes shows, unlike what `eprintln!` prints)
+            let _ = writeln!(std::io::stderr(), "{verdict}"); // (a passed test shows this, unlike the output of `eprintln!`)
         }
         if verdict.overlapped * 100 < verdict.calls * u64::from(self.options.at_least) {
             return Err(Failure::TooFew(say(TOO_FEW, &[&verdict.overlapped, &verdict.calls, &self.options.at_least])));
@@ -362,7 +434,7 @@ impl<S: Sync> Tester<'_, S> {
         Ok(verdict)
     }
 
-    /// How many calls of a run overlapped a change of their key.
+    /// Makes a run and judges it. Returns how many calls overlapped a change of their key.
     fn judged_run(&self, seed: u64, mut shape: Shape) -> Result<u64, Failure> {
         if self.source.has_keys {
             shape.times = 1;
@@ -370,37 +442,6 @@ impl<S: Sync> Tester<'_, S> {
         let recording = Recording::new(self.options, shape, seed, self.judge)?;
         let trouble = self.runner.made(self.source, seed, shape, &recording.path)?;
         recording.judged(self.source, &self.runner.area, trouble)
-    }
-
-    /// Of a refusal and of further runs, the one that has the fewest calls, and two at least.
-    fn smallest(&self, why: Failure) -> Result<u64, Failure> {
-        let Failure::NotLinearizable(mut found) = why else { return Err(why) };
-        let (began, first) = (Instant::now(), found.seed);
-        for seed in (first..).step_by(PRESETS.len()).skip(1).take(FURTHER as usize) {
-            if told::rank(&found.said) <= READABLE as usize / 2 || began.elapsed() > Duration::from_secs(PATIENCE.into()) {
-                break;
-            }
-            match self.judged_run(seed, self.options.shape_of(seed)) {
-                Err(Failure::NotLinearizable(mut other)) => {
-                    if told::rank(&other.said) < told::rank(&found.said) {
-                        std::mem::swap(&mut found, &mut other);
-                    }
-                    self.drop_file(&other);
-                }
-                Err(Failure::CutShort(other)) => {
-                    self.drop_file(&other);
-                    break; // (a process of its own that has ended makes no further run)
-                }
-                _ => {}
-            }
-        }
-        Err(Failure::NotLinearizable(found))
-    }
-
-    fn drop_file(&self, failed: &Failed) {
-        if self.options.record.is_none() {
-            let _ = std::fs::remove_file(&failed.file);
-        }
     }
 }
 

@@ -4,7 +4,7 @@ use std::io;
 use std::ops::Deref;
 use std::sync::atomic::AtomicU32;
 
-/// Numbers of this process, or of a file that processes share.
+/// The numbers of this process, or of a file that processes share.
 pub enum Memory {
     Own(Vec<AtomicU32>),
     #[cfg_attr(not(unix), allow(dead_code))]
@@ -18,7 +18,7 @@ impl Memory {
 
     #[cfg(unix)]
     pub fn of(file: &File, size: usize) -> io::Result<Memory> {
-        use std::os::fd::AsRawFd;
+        use std::os::unix::io::AsRawFd;
         const READ_AND_WRITE: i32 = 3;
         const SHARED: i32 = 1;
         // SAFETY: a new mapping touches no other memory.
@@ -26,13 +26,19 @@ impl Memory {
         if place as isize == -1 {
             return Err(io::Error::last_os_error());
         }
-        // SAFETY: it is mapped until this is dropped, and each value of a number is one.
+        // SAFETY: the mapping exists until the drop, and every bit pattern is a valid number.
         Ok(Memory::Shared(unsafe { std::slice::from_raw_parts(place.cast(), size) }))
     }
 
     #[cfg(not(unix))]
     pub fn of(_: &File, _: usize) -> io::Result<Memory> {
         Err(io::ErrorKind::Unsupported.into())
+    }
+}
+
+impl Memory {
+    pub fn is_shared(&self) -> bool {
+        matches!(self, Memory::Shared(_))
     }
 }
 
@@ -51,8 +57,8 @@ impl Drop for Memory {
     fn drop(&mut self) {
         #[cfg(unix)]
         if let Memory::Shared(numbers) = self {
-            // SAFETY: nothing refers to it any more.
-            unsafe { system::munmap(numbers.as_ptr().cast_mut().cast(), 4 * numbers.len()) };
+            // SAFETY: nothing refers to the mapping any more.
+            unsafe { system::munmap((numbers.as_ptr() as *mut std::sync::atomic::AtomicU32).cast(), 4 * numbers.len()) };
         }
     }
 }

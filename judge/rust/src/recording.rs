@@ -1,4 +1,4 @@
-//! A run, as it is judged.
+//! Judges a recorded run, and writes the message of a failure.
 use std::fs::File;
 use std::path::PathBuf;
 use std::sync::atomic::AtomicU32;
@@ -7,9 +7,9 @@ use std::sync::atomic::Ordering::SeqCst;
 use crate::area::Area;
 use crate::judges::{Judge, Judged};
 use crate::words::*;
-use crate::{no_verdict, told, Failed, Failure, Options, Shape, Source};
+use crate::{no_verdict, Failed, Failure, Options, Shape, Source};
 
-/// The file into which a run is written as it grows.
+/// The file with the recording of a run, which grows during the run. Deleted on drop unless it is kept.
 pub struct Recording<'a> {
     judge: &'a Judge,
     shape: Shape,
@@ -20,7 +20,9 @@ pub struct Recording<'a> {
 
 impl<'a> Recording<'a> {
     pub(crate) fn new(options: &Options, shape: Shape, seed: u64, judge: &'a Judge) -> Result<Recording<'a>, Failure> {
-        let folder = options.record.clone().unwrap_or_else(std::env::temp_dir);
+        let named =
+            || std::env::var_os("LISTSET_RECORD").filter(|it| !it.is_empty()).map_or_else(std::env::temp_dir, PathBuf::from);
+        let folder = options.record.clone().unwrap_or_else(named);
         let is_kept = options.record.is_some();
         let path = folder.join(name_of(seed, is_kept));
         match std::fs::create_dir_all(&folder).and_then(|()| File::create(&path)) {
@@ -29,39 +31,66 @@ impl<'a> Recording<'a> {
         }
     }
 
-    /// How many calls of the run, which may have been cut short, overlapped a change of their key; or what is wrong with it.
+    /// Judges the recording. Returns how many calls overlapped a change of their key. `trouble` is why the run was cut
+    /// short, if it was.
     pub(crate) fn judged<S>(mut self, source: &Source<S>, area: &Area, trouble: Option<String>) -> Result<u64, Failure> {
         let (lines, under_way) = area.lines();
         if trouble.is_some() && area.write(&format!("{lines}cut\n")).is_err() {
             return no_verdict(say(NO_FOLDER, &[&self.path.display()]));
         }
-        let said = match self.judge.judged(&self.path)? {
+        let (refused, key) = match self.judge.judged(&self.path)? {
             Judged::Ok { overlapped } if trouble.is_none() => return Ok(overlapped),
-            Judged::Ok { .. } => EXPLAINED.to_string(),
-            Judged::Refused(said) => told::explained(&said, &self.path) + &self.key_line(&said, source),
+            Judged::Ok { .. } => (EXPLAINED.to_string(), None),
+            Judged::Refused(said) => (said.clone(), key_in(&said)),
         };
         self.is_kept = true;
-        let (seed, name, file, judge) = (self.seed, self.shape.name.into(), self.path.clone(), self.judge.to_string());
-        Err(match trouble {
-            None => Failure::NotLinearizable(Failed { seed, name, said, file, judge }),
-            Some(trouble) => {
-                let said = say(UNDER_WAY, &[&trouble, &under_way, &said]);
-                Failure::CutShort(Failed { seed, name, said, file, judge })
-            }
-        })
+        let said = match &trouble {
+            None => refused,
+            Some(trouble) => say(UNDER_WAY, &[trouble, &first_of(&under_way), &refused]),
+        };
+        let Shape { name, threads, .. } = self.shape;
+        let (of_key, alone) = key.map_or_else(Default::default, |it| (self.key_line(it, source), self.alone(it)));
+        let text = say(FAILED_RUN, &[&said, &self.seed, &name, &threads, &of_key, &self.path.display(), &alone, self.judge]);
+        let failed =
+            Failed { seed: self.seed, name: name.into(), said, file: self.path.clone(), judge: self.judge.to_string(), text };
+        Err(if trouble.is_some() { Failure::CutShort(failed) } else { Failure::NotLinearizable(failed) })
     }
 
-    /// Which key of which set it is that the judge names, if its number does not say so.
-    fn key_line<S>(&self, refused: &str, source: &Source<S>) -> String {
-        let Some(number) = told::key_in(refused) else { return String::new() };
+    /// Describes the key of a number in the recording, and its set if the run has several. Empty if the number is enough.
+    fn key_line<S>(&self, number: u32, source: &Source<S>) -> String {
         let shown = (source.shown)(number % self.shape.keys * self.shape.times);
         let of_set = if self.shape.sets > 1 { say(IN_SET, &[&(number / self.shape.keys + 1)]) } else { String::new() };
         let is_plain = shown == number.to_string() && of_set.is_empty();
         if is_plain {
             String::new()
         } else {
-            format!("\n{}{of_set}", say(KEY_IS, &[&number, &shown]))
+            say(KEY_IS, &[&number, &shown]) + &of_set
         }
+    }
+
+    /// Writes the calls that show a refusal to a small file beside the recording. Returns the part of the message that
+    /// names the file.
+    fn alone(&self, key: u32) -> String {
+        let stem = self.path.file_stem().unwrap_or_default().to_string_lossy();
+        let small = self.path.with_file_name(format!("{stem}-key-{key}.calls"));
+        match self.judge.only(&self.path, key).map(|text| std::fs::write(&small, text)) {
+            Some(Ok(())) => say(ALONE, &[&small.display()]),
+            _ => String::new(),
+        }
+    }
+}
+
+/// Returns the number of the key that the judge names.
+fn key_in(refused: &str) -> Option<u32> {
+    refused.split("of key ").nth(1)?.split(' ').next()?.parse().ok()
+}
+
+/// Returns the first line of several calls, and how many more there are.
+fn first_of(lines: &str) -> String {
+    match lines.lines().count() {
+        0 => "no call".to_string(),
+        1 => lines.trim().to_string(),
+        count => say(AND_MORE, &[&lines.lines().next().unwrap_or_default(), &(count - 1)]),
     }
 }
 

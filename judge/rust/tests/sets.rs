@@ -1,4 +1,5 @@
-//! Judges the set that the variable SET names, with the options of HOW, as "threads=4 runs=2"; prints how the verdict came out, and it.
+//! Judges the set that the variable SET names, with the options in HOW, such as "threads=4 runs=2". Prints the kind of
+//! the result, and the result.
 use std::collections::{BTreeMap, BTreeSet};
 use std::sync::atomic::{AtomicU32, Ordering::SeqCst};
 use std::sync::{Arc, Mutex};
@@ -24,7 +25,7 @@ impl<K: Ord + Clone> Right<K> {
     }
 }
 
-/// Right, but for what the variable SET says.
+/// A right set, except for the error that the variable SET names.
 struct Set {
     is: String,
     keys: Right<u32>,
@@ -40,8 +41,8 @@ impl Set {
         Set { is, keys: Right(Mutex::new(keys)), calls: AtomicU32::new(0), parts: Mutex::default() }
     }
 
-    /// A call of it, or with "first use" of a part: that of a key is made by its first call, and two calls may make it. "collides" takes
-    /// keys for one that have a place in common.
+    /// Makes a call. With "first use" each key has a set of its own, which its first call creates; two calls can both
+    /// create it. With "collides", keys with the same remainder are one key.
     fn call(&self, call: fn(&Right<u32>, &u32) -> bool, key: u32) -> bool {
         if self.is != "first use" {
             return call(&self.keys, &if self.is == "collides" { key % 64 } else { key });
@@ -55,7 +56,7 @@ impl Set {
         call(&part, &key)
     }
 
-    /// Each fiftieth reply is lost: then it is not known, or the call is made again.
+    /// Loses each fiftieth reply: the outcome is unknown, or the call is made again.
     fn called(&self, call: fn(&Right<u32>, &u32) -> bool, key: u32) -> Option<bool> {
         let reply = self.call(call, key);
         let is_lost = ["not known", "again"].contains(&&*self.is) && self.calls.fetch_add(1, SeqCst) % 50 == 49;
@@ -66,9 +67,9 @@ impl Set {
         }
     }
 
-    /// A remove does not come back, with the lock held.
+    /// Never returns from a `remove`. Keeps the lock, unless it panics: other threads that find the lock poisoned panic too.
     fn stop(&self) {
-        let _held = self.keys.0.lock().unwrap();
+        let _held = (self.is != "throws").then(|| self.keys.0.lock().unwrap());
         match (&*self.is, self.calls.fetch_add(1, SeqCst)) {
             ("hangs", 29) => sleep(Duration::from_secs(3600)),
             ("crashes", 29) | ("crashes late", 9999) => std::process::abort(),
@@ -124,6 +125,7 @@ fn how_of(words: &str) -> Options {
             "runs" => how.runs = number,
             "seed" => how.seed = number,
             "seconds" => how.seconds = number,
+            "within" => how.within = number,
             "at_least" => how.at_least = number,
             "adds" => how.shares[0] = number,
             "removes" => how.shares[1] = number,
