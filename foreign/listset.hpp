@@ -1,10 +1,11 @@
-// Sorted-list sets and their judge for C++17, over listset.h, which tells what each function says and what the caller owes.
+// listset.hpp: sorted-list sets that threads share, and the judge of their calls, for C++17, over listset.h. listset.h documents each
+// function of the judge, and the duties of the caller.
 //
 //     listset::said verdict = listset::judge_text(recording);
 //     if (!verdict.is_ok()) std::cerr << verdict.text;
 //
 //     listset::seat mine = listset::open(listset::list::lazy, 2, 1000), other = mine.split();
-//     mine.add(7);                              // and `other` in another thread
+//     if (mine.add(7) == listset::added::is_true) ..   // and `other` in another thread
 //     mine.gather(std::move(other));
 //     std::vector<uint32_t> keys = mine.close();
 #ifndef LISTSET_HPP
@@ -12,22 +13,26 @@
 
 #include "listset.h"
 
+#include <algorithm>
+#include <array>
 #include <atomic>
+#include <chrono>
 #include <deque>
 #include <mutex>
 #include <optional>
 #include <stdexcept>
 #include <string>
 #include <string_view>
+#include <thread>
 #include <utility>
 #include <vector>
 
 namespace listset {
 
-// What this library is, in the four lines of listset_version.
+/// Returns the four lines of `listset_version` about this library.
 inline std::string_view version() { return listset_version(); }
 
-// What the program `listset` prints of a text, and its exit status.
+/// What the program `listset` prints, and its exit status.
 struct said {
   std::string text;
   unsigned status;
@@ -35,7 +40,7 @@ struct said {
   bool is_ok() const { return status == LISTSET_OK; }
 };
 
-// What a call says that takes a room, its size and where the status goes; std::bad_alloc where there is no memory for its text.
+/// Calls `call(room, size, &status)`, again with a larger room if the first was too short. Throws std::bad_alloc if an allocation fails.
 template <typename Call> said said_by(Call call) {
   said made{std::string(4096, '\0'), LISTSET_OK};
   for (;;) {
@@ -48,30 +53,41 @@ template <typename Call> said said_by(Call call) {
   }
 }
 
-// A text that has a place also where it is empty.
+/// Returns the text, with a pointer that is not null if the text is empty.
 inline std::string_view placed(std::string_view text) { return text.data() == nullptr ? std::string_view("") : text; }
 
+/// Calls a function of the judge on a text.
 inline said of_text(listset_function *function, std::string_view given) {
   std::string_view text = placed(given);
   return said_by([&](char *room, size_t size, uint8_t *status) { return function(text.data(), text.size(), room, size, status); });
 }
 
+/// Runs a schedule. Returns its report.
 inline said replay(std::string_view schedule) { return of_text(listset_replay, schedule); }
+/// Judges a recording. Returns `ok N calls` if some order explains its calls, otherwise calls that show that none does.
 inline said judge_text(std::string_view recording) { return of_text(listset_judge, recording); }
+/// Returns `ok` if the order of a report explains its calls, otherwise the first error.
 inline said check(std::string_view report) { return of_text(listset_check, report); }
+/// Returns the schedule of a draft.
 inline said draft(std::string_view draft) { return of_text(listset_draft, draft); }
+/// Returns the schedule of the example with this name.
 inline said example(std::string_view name) { return of_text(listset_example, name); }
+/// Returns the report of the example with this name, of a list without the check that the example shows.
 inline said broken_example(std::string_view name) { return of_text(listset_broken_example, name); }
+/// Returns the names of the examples, each with its list and a line about it.
 inline said examples() { return said_by(listset_examples); }
+/// Returns a line about each error, and a sentence about each cause.
 inline said faults() { return said_by(listset_faults); }
 
+/// Returns the trace of a schedule; `with_chains`, with the chain after each event that changed the chain.
 inline said trace(std::string_view schedule, bool with_chains = false) {
   return of_text(with_chains ? listset_trace_with_chains : listset_trace, schedule);
 }
 
-// What is drawn of a run: from one moment to another, in so many columns. 0 is none that is given: all of it, at its own width.
+/// The part of a run to draw: the first and the last moment, and the number of columns. 0 stands for the run's own.
 using window = listset_window;
 
+/// Returns the picture of a schedule or a report, as text or as an SVG.
 inline said show(std::string_view given, const window &asked = {}, bool as_svg = false) {
   std::string_view text = placed(given);
   return said_by([&](char *room, size_t size, uint8_t *status) {
@@ -79,70 +95,152 @@ inline said show(std::string_view given, const window &asked = {}, bool as_svg =
   });
 }
 
-// The schedule that is generated: KIND is coarse, fine, optimistic, lazy or lock-free.
+/// Generates a schedule. `kind` is coarse, fine, optimistic, lazy or lock-free.
 inline said gen(const std::string &kind, uint32_t threads, uint32_t quota, uint32_t calls, uint32_t keys, uint64_t seed) {
   const listset_plan plan = {kind.c_str(), threads, quota, calls, keys, seed};
   return said_by([&](char *room, size_t size, uint8_t *status) { return listset_generate(&plan, room, size, status); });
 }
 
+/// The five lists.
 enum class list : uint8_t { coarse, fine, optimistic, lazy, lock_free };
 
-enum class added : uint8_t { not_new, is_new, full };
+/// The reply of `add`. `is_full`: the key is absent, and the seat has used its quota. A reply is no condition: compare it.
+enum class [[nodiscard]] added : uint8_t { is_false, is_true, is_full };
 
-// Why something was refused: LISTSET_NONE_THERE is a call on a seat that was moved away, gathered or closed.
+/// The exception of a refused call; `code` says why. LISTSET_NONE_THERE: the seat was moved away, gathered or closed, or another thread is
+/// in a call from it.
 struct fault : std::runtime_error {
   listset_fault code;
 
   explicit fault(listset_fault code) : std::runtime_error(std::string("listset: ") + listset_fault_text(code)), code(code) {}
 };
 
-// A thread's place in a set, or nothing. It is moved and not copied; one thread uses it at a time. A call writes to it, so each has
-// lines of the cache of its own.
+/// Returns the keys of a closed set.
+inline std::vector<uint32_t> keys_of(listset_seat &closed) {
+  uint32_t none = 0;
+  std::vector<uint32_t> keys(listset_keys(&closed, &none, 0));
+  if (!keys.empty()) listset_keys(&closed, keys.data(), keys.size());
+  return keys;
+}
+
+/// A receipt of all that a seat had seen when it gave the receipt, or nothing. It can be moved, not copied, and may go to any thread.
+class receipt {
+public:
+  receipt() = default;
+  receipt(receipt &&other) noexcept : raw(std::exchange(other.raw, listset_receipt LISTSET_NONE)) {}
+  receipt &operator=(receipt &&other) noexcept {
+    std::swap(raw, other.raw);
+    return *this;
+  }
+  ~receipt() { listset_drop_receipt(&raw); }
+
+private:
+  listset_receipt raw = LISTSET_NONE;
+  friend class seat;
+};
+
+/// Returns the maximum number of steps of `seat::contains_now` in the runs of a list that was opened with `seats` seats, this quota and
+/// `opening` keys; 0 if no set opens with these.
+inline uint64_t most_reads(uint32_t seats, uint32_t quota, uint32_t opening) { return listset_most_reads(seats, quota, opening); }
+
+/// A thread's seat in a set, or nothing. It can be moved, not copied, and one thread at a time may use it. A call that begins while
+/// another thread is in a call from the seat throws `fault`. Seats are aligned to cache lines, since a call writes to its seat.
 class alignas(128) seat {
 public:
   seat() = default;
   seat(seat &&other) noexcept : raw(std::exchange(other.raw, listset_seat LISTSET_NONE)) {}
   seat &operator=(seat &&other) noexcept {
-    seat moved(std::move(other)); // (which lets go of the set that was here)
+    seat moved(std::move(other)); // Its destructor drops what this seat contained.
     std::swap(raw, moved.raw);
     return *this;
   }
   ~seat() { listset_drop(&raw); }
 
-  // Takes a seat out of this one, for another thread.
+  /// Splits a seat off this one, for another thread.
   seat split() {
+    use held(*this);
     seat made;
     tell(listset_split(&raw, &made.raw));
     return made;
   }
 
-  added add(uint32_t key) { return static_cast<added>(replied(listset_add(&raw, key))); }
-  bool remove(uint32_t key) { return replied(listset_remove(&raw, key)) == LISTSET_TRUE; }
-  bool contains(uint32_t key) { return replied(listset_contains(&raw, key)) == LISTSET_TRUE; }
+  /// Adds a key. Returns `is_true` if the key was absent, `is_false` if it was present, `is_full` if it is absent and the seat has used its
+  /// quota.
+  added add(uint32_t key) { return static_cast<added>(by(listset_add, key)); }
 
-  // The least key at or above this one, if there is one.
+  /// Removes a key. Returns whether the key was present.
+  bool remove(uint32_t key) { return by(listset_remove, key) == LISTSET_TRUE; }
+
+  /// Returns whether a key is in the set.
+  bool contains(uint32_t key) { return by(listset_contains, key) == LISTSET_TRUE; }
+
+  /// Makes a `contains` of a lazy or a lock-free list. Such a call waits for no lock, and has at most `most_reads` steps in every run of the
+  /// list, whatever the other threads do. Throws, with LISTSET_READS_BLOCK, on the other lists.
+  bool contains_now(uint32_t key) {
+    listset_answer answer = by(listset_contains_now, key);
+    if (answer == LISTSET_MAY_BLOCK) throw fault(LISTSET_READS_BLOCK);
+    return answer == LISTSET_TRUE;
+  }
+
+  /// Returns the smallest key of the set that is at least `key`.
   std::optional<uint32_t> ceiling(uint32_t key) {
+    use held(*this);
     uint32_t at = 0;
     return replied(listset_ceiling(&raw, key, &at)) == LISTSET_AT ? std::optional<uint32_t>(at) : std::nullopt;
   }
 
-  // Takes another seat of this set in. Where it throws, both are as they were.
-  void gather(seat &&from) { tell(&from == this ? LISTSET_NO_GATHER : listset_gather(&raw, &from.raw)); }
+  /// Returns a receipt of all that this seat has seen, for another thread's `after`.
+  listset::receipt receipt() {
+    use held(*this);
+    listset::receipt made;
+    tell(listset_receipt_of(&raw, &made.raw));
+    return made;
+  }
 
-  // Ends the set, whose seats are all within this one, and gives its keys. Where it throws, nothing is lost: it may be called again.
+  /// Takes a receipt: the next calls of this seat come after all calls that the receipt stands for. If it throws, both are unchanged.
+  void after(listset::receipt &&given) {
+    use held(*this);
+    tell(listset_after(&raw, &given.raw));
+  }
+
+  /// Merges another seat of the set into this one. If it throws, both are unchanged.
+  void gather(seat &&from) {
+    if (&from == this) throw fault(LISTSET_NO_GATHER);
+    use held(*this), other(from);
+    tell(listset_gather(&raw, &from.raw));
+  }
+
+  /// Closes the set, all of whose seats this one must contain, and returns its final keys. If it throws, nothing is lost: call it again.
   std::vector<uint32_t> close() {
+    use held(*this);
+    const listset_fault code = listset_close(&raw);
     uint32_t none = 0;
-    listset_fault code = listset_close(&raw);
-    size_t count = listset_keys(&raw, &none, 0);
-    if (count == SIZE_MAX) throw fault(code);
-    std::vector<uint32_t> keys(count);
-    if (!keys.empty()) listset_keys(&raw, keys.data(), keys.size());
+    if (listset_keys(&raw, &none, 0) == SIZE_MAX) throw fault(code);
+    std::vector<uint32_t> keys = keys_of(raw);
     listset_drop(&raw);
     return keys;
   }
 
 private:
   listset_seat raw = LISTSET_NONE;
+  std::atomic<bool> is_used{false};
+
+  // The use of a seat by one call. Its constructor throws if another thread uses the seat.
+  class use {
+    seat &of;
+
+  public:
+    explicit use(seat &it) : of(it) {
+      if (of.is_used.exchange(true, std::memory_order_acquire)) throw fault(LISTSET_NONE_THERE);
+    }
+    use(const use &) = delete;
+    ~use() { of.is_used.store(false, std::memory_order_release); }
+  };
+
+  listset_answer by(listset_reply (*call)(listset_seat *, uint32_t), uint32_t key) {
+    use held(*this);
+    return replied(call(&raw, key));
+  }
 
   static void tell(listset_fault code) {
     if (code != LISTSET_OK) throw fault(code);
@@ -154,20 +252,269 @@ private:
   }
 
   friend seat open(list, uint32_t, uint32_t, const std::vector<uint32_t> &);
+  friend void renew(std::vector<seat> &, list, uint32_t, uint32_t);
+  friend class renewed_set;
 };
 
-// Opens a set with keys that rise, and gives a seat that has all others within it.
-inline seat open(list kind, uint32_t seats, uint32_t quota, const std::vector<uint32_t> &keys = {}) {
+/// Returns a number that no other set of this program has.
+inline uint64_t next_number() {
   static std::atomic<uint64_t> sets{0};
+  return sets++;
+}
+
+/// Opens a set with keys in strictly increasing order. Returns a seat that contains all others.
+inline seat open(list kind, uint32_t seats, uint32_t quota, const std::vector<uint32_t> &keys = {}) {
   seat made;
   uint32_t none = 0;
   const uint32_t *first = keys.empty() ? &none : keys.data();
-  seat::tell(listset_open(static_cast<listset_list>(kind), seats, quota, sets++, first, keys.size(), &made.raw));
+  seat::tell(listset_open(static_cast<listset_list>(kind), seats, quota, next_number(), first, keys.size(), &made.raw));
   return made;
 }
 
-// A set that threads share without a seat for each, with a pool of seats: a call takes one that no other call uses, or waits for one.
-// What is proved is of seats: a seat's calls keep their order. Two calls of one thread may go by two seats.
+/// Closes the set whose seats are all in `seats`, and opens a set of the list `kind` with its keys. `seats` then has the `count` seats of
+/// that set, each with this quota. If it throws, nothing is lost: `seats` has all seats or the closed set, and the call can be made again.
+inline void renew(std::vector<seat> &seats, list kind, uint32_t count, uint32_t quota) {
+  if (count > 64) throw fault(LISTSET_BAD_SEATS);
+  seats.resize(std::max<size_t>(seats.size(), count));
+  std::vector<listset_seat> raws;
+  for (seat &it : seats) raws.push_back(std::exchange(it.raw, listset_seat LISTSET_NONE));
+  const listset_fault code = listset_renew(raws.data(), raws.size(), static_cast<listset_list>(kind), count, quota, next_number());
+  for (size_t at = 0; at < seats.size(); at++) seats[at].raw = raws[at];
+  seat::tell(code);
+  seats.resize(count);
+}
+
+/// A set that renews itself: when a seat has used its quota, the set is closed, and another one opened with its keys.
+///
+/// A thread takes a seat of its own by `split`; the destructor of the seat returns it. During a renewal calls wait, and the renewal waits
+/// for pending calls, but for no thread that is between two calls. A call waits at most `patience` for another one. Then it throws, with
+/// LISTSET_TIMED_OUT, and was not made. docs/FOREIGN.md says what is promised of the order of calls.
+class renewed_set {
+  struct alignas(128) place {
+    std::mutex lock;
+    listset_seat raw = LISTSET_NONE;
+    uint32_t adds = 0, removes = 0; // The calls that changed the set since it was last opened.
+    std::atomic<bool> is_taken{false};
+  };
+  enum class stage { open, to_be_renewed, closed };
+  using clock = std::chrono::steady_clock;
+  using held = std::unique_lock<std::mutex>;
+
+  const list kind;
+  const uint32_t quota;
+  const std::chrono::nanoseconds patience;
+  std::mutex renewing; // Is locked before all places are.
+  std::atomic<bool> is_wanted{false}; // A thread has waited long for the places: the others' next calls wait for it.
+  std::deque<place> places;
+  // These change only while all places are locked.
+  stage now = stage::open;
+  size_t opened_with;
+
+  static constexpr size_t MOST_OPENING = 1 << 20;
+  static constexpr std::chrono::milliseconds LONG{5};
+
+  // Locks `lock`. The thread with the lock may be in a `ceiling` of a lock-free list, which can retry until another call unlinks a marked
+  // node. An `add` from `helper` unlinks it, and changes no key if the seat of `helper` has used its quota.
+  // A thread with a helper locks all places. After 5 ms the others' next calls wait for it, unless a call could be needed as a helper.
+  held taken(std::mutex &lock, place *helper = nullptr) {
+    held it(lock, std::try_to_lock);
+    for (const clock::time_point begun = clock::now(); !it; it.try_lock()) {
+      const auto waited = clock::now() - begun;
+      if (waited > patience) throw fault(LISTSET_TIMED_OUT);
+      const bool is_full = helper && helper->adds == quota;
+      if (kind == list::lock_free && is_full && now == stage::open) static_cast<void>(add_from(*helper, UINT32_MAX));
+      if (helper && (kind != list::lock_free || is_full) && waited > LONG) is_wanted = true;
+      std::this_thread::sleep_for(std::chrono::microseconds(50));
+    }
+    return it;
+  }
+
+  // All places, locked.
+  class all_taken {
+    std::atomic<bool> &is_wanted;
+    held one;
+    std::vector<held> all;
+
+  public:
+    all_taken(renewed_set &set, place &mine) : is_wanted(set.is_wanted), one(set.taken(set.renewing)) {
+      try {
+        all.push_back(set.taken(mine.lock));
+        for (place &it : set.places)
+          if (&it != &mine) all.push_back(set.taken(it.lock, &mine));
+        if (set.now == stage::closed) throw fault(LISTSET_NONE_THERE);
+      } catch (...) {
+        is_wanted = false;
+        throw;
+      }
+    }
+    all_taken(const all_taken &) = delete;
+    ~all_taken() { is_wanted = false; }
+  };
+
+  size_t keys_now() const {
+    size_t keys = opened_with;
+    for (const place &it : places) keys = keys + it.adds - it.removes;
+    return keys;
+  }
+
+  // Makes a call of all seats; their places are locked.
+  template <typename Call> void by_all(Call call) {
+    std::array<listset_seat, 64> raws;
+    now = stage::to_be_renewed;
+    for (size_t at = 0; at < places.size(); at++) raws[at] = places[at].raw;
+    const listset_fault code = call(raws.data(), static_cast<uint32_t>(places.size()));
+    for (size_t at = 0; at < places.size(); at++) places[at].raw = raws[at];
+    seat::tell(code);
+  }
+
+  std::vector<uint32_t> close_taken() {
+    by_all([](listset_seat *raws, uint32_t count) { return listset_close_all(raws, count); });
+    return keys_of(places.front().raw);
+  }
+
+  void renew_taken() {
+    by_all([&](listset_seat *raws, uint32_t count) {
+      return listset_renew(raws, count, static_cast<listset_list>(kind), count, quota, next_number());
+    });
+    opened_with = keys_now();
+    for (place &it : places) it.adds = it.removes = 0;
+    now = stage::open;
+  }
+
+  // Makes a call from a place. If an allocation of the last renewal failed, renews the set first.
+  template <typename Call> auto by(place &mine, Call call) {
+    for (;;) {
+      if (is_wanted) taken(renewing).unlock();
+      if (held it = taken(mine.lock); now == stage::open) return call(mine);
+      all_taken all(*this, mine);
+      if (now != stage::open) renew_taken();
+    }
+  }
+
+  static added add_from(place &mine, uint32_t key) {
+    const added answer = static_cast<added>(seat::replied(listset_add(&mine.raw, key)));
+    mine.adds += answer == added::is_true;
+    return answer;
+  }
+
+  // Renews the set and adds a key from `mine`, whose seat has used its quota.
+  added add_renewed(place &mine, uint32_t key) {
+    all_taken all(*this, mine);
+    if (now == stage::open) {
+      const added answer = add_from(mine, key); // Another thread can have renewed the set in the meantime.
+      if (answer != added::is_full || keys_now() > MOST_OPENING || quota == 0) return answer;
+    }
+    renew_taken();
+    return add_from(mine, key);
+  }
+
+public:
+  /// A thread's seat of the set. One thread at a time may use it. The set must outlive it.
+  class own_seat {
+    renewed_set *set;
+    place *mine;
+    friend class renewed_set;
+    own_seat(renewed_set *set, place *mine) : set(set), mine(mine) {}
+
+    template <typename Call> auto by(Call call) {
+      if (mine == nullptr) throw fault(LISTSET_NONE_THERE);
+      return set->by(*mine, call);
+    }
+
+  public:
+    own_seat(own_seat &&other) noexcept : set(other.set), mine(std::exchange(other.mine, nullptr)) {}
+    own_seat &operator=(own_seat &&other) noexcept {
+      std::swap(set, other.set), std::swap(mine, other.mine);
+      return *this;
+    }
+    ~own_seat() {
+      if (mine != nullptr) mine->is_taken = false;
+    }
+
+    /// Adds a key, and renews the set if the seat has used its quota. Returns `is_full` only if the quota is 0, or if the set has more than
+    /// 1,048,576 keys, with which no set opens.
+    added add(uint32_t key) {
+      const auto call = [&](place &it) { return add_from(it, key); };
+      added answer = by(call);
+      if (answer == added::is_full) {
+        set->taken(set->renewing).unlock(); // Another thread can be renewing the set.
+        answer = by(call);
+      }
+      return answer == added::is_full ? set->add_renewed(*mine, key) : answer;
+    }
+
+    /// Removes a key. Returns whether the key was present.
+    bool remove(uint32_t key) {
+      return by([&](place &it) {
+        const bool was_there = seat::replied(listset_remove(&it.raw, key)) == LISTSET_TRUE;
+        it.removes += was_there;
+        return was_there;
+      });
+    }
+
+    /// Returns whether a key is in the set.
+    bool contains(uint32_t key) {
+      return by([&](place &it) { return seat::replied(listset_contains(&it.raw, key)) == LISTSET_TRUE; });
+    }
+
+    /// Returns the smallest key of the set that is at least `key`.
+    std::optional<uint32_t> ceiling(uint32_t key) {
+      return by([&](place &it) {
+        uint32_t at = 0;
+        return seat::replied(listset_ceiling(&it.raw, key, &at)) == LISTSET_AT ? std::optional<uint32_t>(at) : std::nullopt;
+      });
+    }
+  };
+
+  /// Opens a set with 1 to 64 seats, each of which adds `quota` keys before it renews the set, and with keys in strictly increasing order.
+  renewed_set(list kind, uint32_t seats, uint32_t quota, const std::vector<uint32_t> &keys = {},
+              std::chrono::nanoseconds patience = std::chrono::nanoseconds::max())
+      : kind(kind), quota(quota), patience(patience), opened_with(keys.size()) {
+    std::vector<seat> all;
+    all.push_back(open(kind, seats, quota, keys));
+    while (all.size() < seats) all.push_back(all.front().split());
+    for (seat &it : all) places.emplace_back().raw = std::exchange(it.raw, listset_seat LISTSET_NONE);
+  }
+  renewed_set(const renewed_set &) = delete;
+  ~renewed_set() {
+    for (place &it : places) listset_drop(&it.raw);
+  }
+
+  /// Takes a seat, for a thread. Throws, with LISTSET_NO_MORE, if all seats are taken.
+  own_seat split() {
+    for (place &it : places)
+      if (!it.is_taken.exchange(true)) {
+        own_seat mine(this, &it);
+        const held at = taken(it.lock);
+        if (now == stage::closed) throw fault(LISTSET_NONE_THERE);
+        return mine;
+      }
+    throw fault(LISTSET_NO_MORE);
+  }
+
+  /// Renews the set and returns its keys at that moment. Throws, with LISTSET_BAD_KEYS, if they are more than 1,048,576.
+  std::vector<uint32_t> keys() {
+    all_taken all(*this, places.front());
+    if (keys_now() > MOST_OPENING) throw fault(LISTSET_BAD_KEYS);
+    std::vector<uint32_t> keys = close_taken();
+    renew_taken();
+    return keys;
+  }
+
+  /// Closes the set and returns its final keys. Throws, with LISTSET_SEATS_OUT, while a thread has a seat; the set is then unchanged.
+  std::vector<uint32_t> close() {
+    all_taken all(*this, places.front());
+    for (place &it : places)
+      if (it.is_taken) throw fault(LISTSET_SEATS_OUT);
+    std::vector<uint32_t> keys = close_taken();
+    listset_drop(&places.front().raw);
+    now = stage::closed;
+    return keys;
+  }
+};
+
+/// A set with a pool of seats, which any number of threads may call: a call takes a seat that no other call uses, or waits for one. Two
+/// calls of one thread can use two seats, so not even a thread's own calls are promised to keep their order.
 class shared {
   struct alignas(128) place {
     std::mutex lock;
@@ -175,13 +522,13 @@ class shared {
   };
   std::deque<place> places;
 
-  // The place that has the seats when the set is closed. A set that was moved from has none.
+  // Returns the place that gathers all seats when the set is closed. Throws if the set was moved from.
   place &first() {
     if (places.empty()) throw fault(LISTSET_NONE_THERE);
     return places.front();
   }
 
-  // Makes a call from a seat: a thread begins to look for a free one at its own place.
+  // Makes a call from a free seat. A thread looks for one from its own place on.
   template <typename Call> auto by(Call call) {
     first();
     static std::atomic<size_t> threads{0};
@@ -196,27 +543,32 @@ class shared {
   }
 
 public:
-  // As many calls go on at once as there are seats, 1 to 64.
+  /// Opens a set with keys in strictly increasing order. Up to `seats` calls, 1 to 64, run at once.
   shared(list kind, uint32_t seats, uint32_t quota, const std::vector<uint32_t> &keys = {}) {
     places.emplace_back().mine = open(kind, seats, quota, keys);
     while (places.size() < seats) places.emplace_back().mine = places.front().mine.split();
   }
 
-  // Puts the key in, if it was not there; full if each seat has used its quota.
+  /// Adds a key. Returns `is_full` if the key is absent and each seat has used its quota.
   added add(uint32_t key) {
     added answer = by([&](seat &it) { return it.add(key); });
-    for (auto at = places.begin(); answer == added::full && at != places.end(); ++at) {
+    for (auto at = places.begin(); answer == added::is_full && at != places.end(); ++at) {
       std::lock_guard<std::mutex> held(at->lock);
       answer = at->mine.add(key);
     }
     return answer;
   }
 
+  /// Removes a key. Returns whether the key was present.
   bool remove(uint32_t key) { return by([&](seat &it) { return it.remove(key); }); }
+
+  /// Returns whether a key is in the set.
   bool contains(uint32_t key) { return by([&](seat &it) { return it.contains(key); }); }
+
+  /// Returns the smallest key of the set that is at least `key`.
   std::optional<uint32_t> ceiling(uint32_t key) { return by([&](seat &it) { return it.ceiling(key); }); }
 
-  // Ends the set, which no call uses any more, and gives its keys. If it throws, as memory was refused, it may be called again.
+  /// Closes the set, which no call may use any more, and returns its final keys. If an allocation fails, it throws: call it again.
   std::vector<uint32_t> close() {
     seat &all = first().mine;
     for (; places.size() > 1; places.pop_back()) all.gather(std::move(places.back().mine));

@@ -1,4 +1,6 @@
-"""Sorted-list sets that threads share, and their judge in this process, by liblistset.so. The judge: a text in, a text out.
+"""Sorted-list sets that threads share, and the judge of their calls, by liblistset.so.
+
+The judge reads a text and returns a text:
 
     import listset
 
@@ -6,29 +8,40 @@
     report = listset.replay(schedule)
     print(listset.show(report, width=60))
 
-A text is str or bytes. Where the exit status of the program `listset` would not be 0, `Wrong` is raised with it, and with what the
-program prints: the first fault of an order, the trace up to an event that is not enabled, or the line about a trouble. Any number
-of threads may call at once, and run side by side: a call lets go of Python's lock.
+A text is str or bytes. If the exit status of the program `listset` would not be 0, a function raises `Wrong` with the status and with what
+the program prints. Any number of threads may call at once, and run in parallel: a call releases Python's global lock.
 
-The sets, for tests and teaching: a thread calls from a seat of its own, and one thread uses a seat at a time.
+The sets are for tests and teaching. Each thread calls from a seat of its own, and one thread at a time uses a seat:
 
-    mine = listset.open_set("lazy", seats=2, quota=1000)
+    mine = listset.open("lazy", seats=2, quota=1000)
     other = mine.split()
     mine.add(7)                           # and `other` in another thread
     mine.gather(other)
     keys = mine.close()
 
-A key, the seats and the quota are 0 to 4294967295: another integer raises ValueError, what is no integer TypeError, and the set
-stays as it was.
+A `Shared` set can be called by any thread. A `RenewedSet` has seats that do not run out of quota.
 
-The library is that of the folder LISTSET_LIB where this is set, else that beside this file.
+A key, a number of seats and a quota are integers from 0 to 4294967295. An integer out of range raises ValueError, anything else TypeError;
+the set is then unchanged.
+
+The library is loaded from the folder LISTSET_LIB if that is set, otherwise from where foreign/build installs it beside this file.
 """
 
+import builtins
+import contextlib
 import ctypes
+import enum
 import itertools
 import operator
 import os
 import pathlib
+import re
+import threading
+import time
+
+__all__ = ["Added", "Fault", "Full", "LISTS", "Receipt", "RenewedSet", "Seat", "Shared", "TimedOut", "Wrong", "broken_example", "check",
+           "draft", "example", "examples", "faults", "gen", "judge_file", "judge_text", "most_reads", "open_set", "renew", "replay", "show",
+           "trace", "version"]  # fmt: skip
 
 HERE = pathlib.Path(__file__).resolve().parent
 PLACES = [HERE, HERE / "out" / "lib", HERE.parent.parent / "lib", pathlib.Path("/usr/lib")]
@@ -36,18 +49,24 @@ FIRST_ROOM = 1 << 16  # bytes
 
 
 class Wrong(Exception):
-    """What the program would say with an exit status that is not 0: 1 of a wrong text, 2 of a wrong value, 3 of want of memory."""
+    """The program's error. `status` is 1 for a wrong text, 2 for a wrong argument, 3 if memory ran out; `text` is what the program prints. If a
+    line of the text is wrong, `line` is its number, from 1, and `cause` names the cause, which `faults()` explains. Otherwise both are
+    None."""
 
     def __init__(self, text, status):
         super().__init__(text.rstrip("\n"))
         self.text, self.status = text, status
+        found = re.fullmatch(r"listset: line (\d+): (\w+)\n", text)
+        self.line, self.cause = (int(found[1]), found[2]) if found else (None, None)
 
 
 def _library():
-    places = [pathlib.Path(it) for it in [os.environ.get("LISTSET_LIB")] if it] or PLACES
+    named = os.environ.get("LISTSET_LIB")
+    places = [pathlib.Path(named)] if named else PLACES
     found = next((it / "liblistset.so" for it in places if (it / "liblistset.so").exists()), None)
     if found is None:
-        raise ImportError(f"liblistset.so is in none of {', '.join(map(str, places))}: foreign/build makes it")
+        told = f"LISTSET_LIB is {named!r}: name the folder that has it" if named else f"it is in none of {', '.join(map(str, places))}"
+        raise ImportError(f"liblistset.so is missing ({told}). In a clone, foreign/build makes it")
     return ctypes.CDLL(str(found))
 
 
@@ -55,15 +74,15 @@ _LIBRARY = _library()
 
 
 def version():
-    """What the library is, in the four lines of listset_version: its version, the kit and the logic, the commit of its sources, and
-    "proof checked" where it is proved, else "proof missing"."""
+    """Returns four lines about the library: its version; the kit and the logic; the commit of its sources; and "proof checked" if it is
+    proved, otherwise "proof missing"."""
     function = _LIBRARY.listset_version
     function.restype = ctypes.c_char_p
     return function().decode()
 
 
 def said(name, *texts):
-    """What the function of this name of liblistset says of these bytes, and the status."""
+    """Calls the function listset_NAME on these bytes. Returns its bytes and its exit status."""
     function, status, size = getattr(_LIBRARY, f"listset_{name}"), ctypes.c_uint8(), FIRST_ROOM
     function.restype = ctypes.c_size_t
     given = [it for text in texts for it in (ctypes.c_char_p(text), ctypes.c_size_t(len(text)))]
@@ -76,7 +95,11 @@ def said(name, *texts):
 
 
 def _bytes(text):
-    return text if isinstance(text, bytes) else str(text).encode()
+    if isinstance(text, (bytes, bytearray, memoryview)):
+        return bytes(text)
+    if not isinstance(text, str):
+        raise TypeError(f"a text is str or bytes, and {text!r} is of type {type(text).__name__}")
+    return text.encode(errors="surrogateescape")
 
 
 def _asked(name, *texts):
@@ -92,83 +115,124 @@ def _words(values):
 
 
 def replay(schedule):
-    """The report of a schedule."""
+    """Runs a schedule. Returns its report."""
     return _asked("replay", schedule)
 
 
 def judge_text(recording):
-    """`ok N calls` if some order explains the calls of a recording. If none does, `Wrong` has a few calls that show it."""
+    """Judges a recording. Returns `ok N calls` if some order explains its calls. Otherwise raises `Wrong` with calls that show that none does."""
     return _asked("judge", recording)
 
 
 def judge_file(path):
-    """What the program says of the recording in a file, of any length, and its exit status."""
+    """Judges the recording in the file `path`, of any length. Returns what the program prints, and its exit status."""
     room, status = ctypes.create_string_buffer(8192), ctypes.c_uint8()
     function = _LIBRARY.listset_judge_from
     function.restype = ctypes.c_size_t
-    with open(path, "rb") as file:
+    with builtins.open(path, "rb") as file:
         length = function(ctypes.c_int32(file.fileno()), room, ctypes.c_size_t(len(room)), ctypes.byref(status))
     return room.raw[:length].decode(errors="replace"), status.value
 
 
 def check(report):
-    """Raises `Wrong` where the order of a report does not explain its calls, or where the text is none."""
+    """Checks a report. Raises `Wrong` if its order does not explain its calls, or if the text is no report."""
     _asked("check", report)
 
 
 def trace(schedule, with_chains=False):
-    """What each step of a schedule did."""
+    """Returns the trace of a schedule: what each step did. `with_chains` adds the chain after each event that changed the chain."""
     return _asked("trace_with_chains" if with_chains else "trace", schedule)
 
 
 def draft(text):
-    """The schedule of a draft."""
+    """Returns the schedule of a draft."""
     return _asked("draft", text)
 
 
 def show(text, as_svg=False, *, first=None, last=None, width=None):
-    """The picture of a schedule or a report, from the moment `first` to the moment `last`."""
+    """Returns the picture of a schedule or a report, as text or as an SVG, from the moment `first` to the moment `last`."""
     options = _words("" if it is None else f"={it}" for it in (first, last, width))
     return _asked("show_svg" if as_svg else "show", text, options)
 
 
 def gen(kind, threads, quota, calls, keys, seed):
-    """A schedule that is generated; `kind` is coarse, fine, optimistic, lazy or lock-free."""
+    """Generates a schedule. `kind` is coarse, fine, optimistic, lazy or lock-free."""
     return _asked("gen", _words([kind, threads, quota, calls, keys, seed]))
 
 
 def examples():
-    """The names of the examples, each with its list and the line about it."""
+    """Returns the names of the examples, each with its list and a line about it."""
     return _asked("examples")
 
 
 def example(name, is_broken=False):
-    """The schedule of an example, or the report of a list without the check that it shows."""
+    """Returns the schedule of the example `name`; or, if `is_broken`, the report of a list without the check that the example shows."""
     return _asked("broken_example" if is_broken else "example", name)
 
 
 def faults():
-    """Each line about a fault, and each cause in a sentence."""
+    """Returns a line about each error, and a sentence about each cause."""
     return _asked("faults")
 
 
 LISTS = ["coarse", "fine", "optimistic", "lazy", "lock-free"]
-FULL, AT, NO_SEAT = 2, 3, 255  # replies; 0 and 1 are False and True
-GREATEST = 2**32 - 1
+FULL, AT, MAY_BLOCK, NO_SEAT = 2, 3, 254, 255  # replies; 0 and 1 are False and True
+NO_MORE, NO_GATHER, SEATS_OUT, BAD_KEYS, READS_BLOCK, TIMED_OUT = 17, 18, 16, 12, 19, 20  # faults
+GREATEST, MOST_OPENING = 2**32 - 1, 2**20
+POLL, LONG = 50e-6, 5e-3  # seconds
 _NUMBERS = itertools.count()
 
 
 class Fault(Exception):
-    """Why something is refused; `code` is that of listset.h."""
+    """The error of a refused call. `code` is the number of the fault in listset.h."""
 
-    def __init__(self, code):
-        _LIBRARY.listset_fault_text.restype = ctypes.c_char_p
-        super().__init__(_LIBRARY.listset_fault_text(ctypes.c_uint8(code)).decode())
+    def __init__(self, code, text=None):
+        super().__init__(text or _function("fault_text", ctypes.c_char_p)(ctypes.c_uint8(code)).decode())
         self.code = code
+
+
+class Full(Fault):
+    """The error of an add that did not add the key: it is absent, and the seat has used its quota. After `renew`, seats have a new quota."""
+
+    def __init__(self, key):
+        super().__init__(FULL, f"{key} is not in the set, and the seat has used its quota of adds")
+
+
+class TimedOut(Fault, TimeoutError):
+    """The error of a call of a `RenewedSet` that was not made, because another thread was in a call for too long."""
+
+    def __init__(self):
+        super().__init__(TIMED_OUT)
+
+
+class Added(enum.Enum):
+    """The reply of `try_add`. FULL: the key is absent, and the seat has used its quota. A reply is no condition: compare it."""
+
+    FALSE, TRUE, FULL = 0, 1, 2
+
+    def __bool__(self):
+        raise TypeError(f"{self} is no condition, since FULL is neither true nor false: compare it with listset.Added.TRUE")
+
+
+def _function(name, returns, *takes):
+    function = getattr(_LIBRARY, f"listset_{name}")
+    function.restype, function.argtypes = returns, takes or None
+    return function
 
 
 class _Raw(ctypes.Structure):
     _fields_ = [("full", ctypes.c_bool), ("at", ctypes.c_void_p)]
+
+
+_RAW, _U8, _U32, _U64, _SIZE = ctypes.POINTER(_Raw), ctypes.c_uint8, ctypes.c_uint32, ctypes.c_uint64, ctypes.c_size_t
+_OPEN = _function("open", _U8, _U8, _U32, _U32, _U64, ctypes.POINTER(_U32), _SIZE, _RAW)
+_SPLIT, _GATHER, _RECEIPT_OF, _AFTER = (_function(it, _U8, _RAW, _RAW) for it in ("split", "gather", "receipt_of", "after"))
+_ADD, _REMOVE, _CONTAINS, _NOW = (_function(it, _U8, _RAW, _U32) for it in ("add", "remove", "contains", "contains_now"))
+_CEILING = _function("ceiling", _U8, _RAW, _U32, ctypes.POINTER(_U32))
+_CLOSE, _CLOSE_ALL = _function("close", _U8, _RAW), _function("close_all", _U8, _RAW, _SIZE)
+_RENEW = _function("renew", _U8, _RAW, _SIZE, _U8, _U32, _U32, _U64)
+_KEYS, _DROP = _function("keys", _SIZE, _RAW, ctypes.POINTER(_U32), _SIZE), _function("drop", None, _RAW)
+_MOST_READS = _function("most_reads", _U64, _U32, _U32, _U32)
 
 
 def _told(code):
@@ -177,85 +241,483 @@ def _told(code):
 
 
 def _number(given, what="key"):
-    """An integer that C has as a uint32_t: ctypes would cut any other to 32 bits."""
-    number = operator.index(given)
+    """Returns `given` as an integer that fits a uint32_t. (ctypes would cut any other to 32 bits.)"""
+    try:
+        number = operator.index(given)
+    except TypeError:
+        raise TypeError(f"the {what} is an integer, and {given!r} is of type {type(given).__name__}") from None
     if not 0 <= number <= GREATEST:
         raise ValueError(f"the {what} {number} is not in the range 0 to {GREATEST}")
     return number
 
 
+def _list(kind):
+    if kind not in LISTS:
+        raise ValueError(f"there is no list {kind!r}: the lists are {', '.join(LISTS)}")
+    return kind
+
+
 def _keys(keys):
-    return (ctypes.c_uint32 * max(len(keys), 1))(*map(_number, keys))
+    return (_U32 * max(len(keys), 1))(*map(_number, keys))
 
 
-class Seat:
-    """A thread's place in a set, or nothing once it is gathered or closed."""
+def _closed_keys(closed):
+    """Returns the keys of a closed set; None if `closed` is not one."""
+    count = _KEYS(closed, _keys([]), 0)
+    if count == _SIZE(-1).value:
+        return None
+    room = _keys([0] * count)
+    _KEYS(closed, room, count)
+    return list(room[:count])
+
+
+class Receipt:
+    """A receipt of all that a seat had seen when it gave the receipt. It may go to any thread."""
 
     def __init__(self):
         self.raw = _Raw()
 
-    def _call(self, name, *values):
-        function = getattr(_LIBRARY, f"listset_{name}")
-        function.restype = ctypes.c_uint8
-        return function(ctypes.byref(self.raw), *values)
+    def drop(self):
+        """Drops the receipt, which is then empty."""
+        _DROP(self.raw)
 
-    def _reply(self, name, key, *values):
-        reply = self._call(name, ctypes.c_uint32(_number(key)), *values)
+    __del__ = drop
+
+
+class Seat:
+    """A thread's seat in a set, or nothing after it was gathered or closed. One thread at a time may use it: a call that begins while another
+    thread is in a call from it raises `Fault`."""
+
+    def __init__(self):
+        self.raw, self._use = _Raw(), threading.Lock()
+
+    @contextlib.contextmanager
+    def _used(self):
+        if not self._use.acquire(blocking=False):
+            raise Fault(NO_SEAT)
+        try:
+            yield
+        finally:
+            self._use.release()
+
+    def _reply(self, function, key, *values):
+        number = _number(key)
+        if not self._use.acquire(blocking=False):
+            raise Fault(NO_SEAT)
+        try:
+            reply = function(self.raw, number, *values)
+        finally:
+            self._use.release()
         if reply == NO_SEAT:
             raise Fault(reply)
         return reply
 
     def split(self):
-        """Takes a seat out of this one. After a gather there is none left in it."""
+        """Splits a seat off this one, for another thread. From a seat that has gathered another, none can be split off."""
         made = Seat()
-        _told(self._call("split", ctypes.byref(made.raw)))
+        with self._used():
+            _told(_SPLIT(self.raw, made.raw))
         return made
 
     def add(self, key):
-        """True where the key was not there, False where it was; None where it was not and the seat has used its quota."""
-        reply = self._reply("add", key)
-        return None if reply == FULL else bool(reply)
+        """Adds a key. Returns True if the key was absent, False if it was present. Raises `Full` if it is absent and the seat has used its quota."""
+        reply = self._reply(_ADD, key)
+        if reply == FULL:
+            raise Full(key)
+        return bool(reply)
+
+    def try_add(self, key):
+        """Adds a key. Returns `Added.TRUE` if the key was absent, `Added.FALSE` if it was present, `Added.FULL` if it is absent and the seat has
+        used its quota."""
+        return Added(self._reply(_ADD, key))
 
     def remove(self, key):
-        return bool(self._reply("remove", key))
+        """Removes a key. Returns whether the key was present."""
+        return bool(self._reply(_REMOVE, key))
+
+    def discard(self, key):
+        """Removes a key if it is present."""
+        self._reply(_REMOVE, key)
 
     def contains(self, key):
-        return bool(self._reply("contains", key))
+        """Returns whether a key is in the set, as `key in seat` does."""
+        return bool(self._reply(_CONTAINS, key))
+
+    __contains__ = contains
+
+    def contains_now(self, key):
+        """Makes a `contains` of a lazy or a lock-free list. Such a call waits for no lock, and has at most `most_reads` steps in every run of the
+        list, whatever the other threads do. Raises `Fault` on the other lists."""
+        reply = self._reply(_NOW, key)
+        if reply == MAY_BLOCK:
+            raise Fault(READS_BLOCK)
+        return bool(reply)
 
     def ceiling(self, key):
-        """The least key at or above this one, or None."""
-        at = ctypes.c_uint32()
-        return at.value if self._reply("ceiling", key, ctypes.byref(at)) == AT else None
+        """Returns the smallest key of the set that is at least `key`, or None."""
+        at = _U32()
+        return at.value if self._reply(_CEILING, key, at) == AT else None
+
+    def receipt(self):
+        """Returns a receipt of all that this seat has seen, for `after` in another thread."""
+        made = Receipt()
+        with self._used():
+            _told(_RECEIPT_OF(self.raw, made.raw))
+        return made
+
+    def after(self, receipt):
+        """Takes a receipt: the next calls of this seat come after all calls that the receipt stands for."""
+        with self._used():
+            _told(_AFTER(self.raw, receipt.raw))
 
     def gather(self, other):
-        """Takes another seat of this set in, and empties it."""
-        _told(self._call("gather", ctypes.byref(other.raw)) if other is not self else 18)
+        """Merges another seat of the set into this one. `other` is then empty."""
+        if other is self:
+            raise Fault(NO_GATHER)
+        with self._used(), other._used():
+            _told(_GATHER(self.raw, other.raw))
 
     def close(self):
-        """Ends the set, whose seats are all within this one, and gives the keys that are left. Where it raises, nothing is lost."""
-        code, closed = self._call("close"), ctypes.byref(self.raw)
-        _LIBRARY.listset_keys.restype = ctypes.c_size_t
-        count = _LIBRARY.listset_keys(closed, _keys([]), ctypes.c_size_t(0))
-        if count == ctypes.c_size_t(-1).value:
-            raise Fault(code)
-        room = _keys([0] * count)
-        _LIBRARY.listset_keys(closed, room, ctypes.c_size_t(count))
-        self.drop()
-        return list(room[:count])
+        """Closes the set, all of whose seats this one must contain, and returns its final keys. If it raises, nothing is lost: call it again."""
+        with self._used():
+            code = _CLOSE(self.raw)
+            keys = _closed_keys(self.raw)
+            if keys is None:
+                raise Fault(code)
+            _DROP(self.raw)
+        return keys
 
     def drop(self):
-        """Lets go of what the seat holds. Without all its seats a set is not closed any more."""
-        _LIBRARY.listset_drop.restype = None
-        _LIBRARY.listset_drop(ctypes.byref(self.raw))
+        """Drops what the seat contains. A set cannot be closed after one of its seats was dropped."""
+        _DROP(self.raw)
 
     __del__ = drop
 
 
+def most_reads(seats, quota, keys=0):
+    """Returns the maximum number of steps of `Seat.contains_now` in the runs of a list that was opened with `seats` seats, this quota and `keys`
+    keys; 0 if no set opens with these."""
+    return _MOST_READS(_number(seats, "number of seats"), _number(quota, "quota"), _number(keys, "number of keys"))
+
+
 def open_set(kind, seats, quota, keys=()):
-    """Opens a set with keys that rise, and gives a seat that has all others within it."""
+    """Opens a set with keys in strictly increasing order. Returns a seat that contains all others."""
     made, keys = Seat(), list(keys)
-    _LIBRARY.listset_open.restype = ctypes.c_uint8
-    sizes = [ctypes.c_uint32(_number(seats, "number of seats")), ctypes.c_uint32(_number(quota, "quota")), ctypes.c_uint64(next(_NUMBERS))]
-    first, count = _keys(keys), ctypes.c_size_t(len(keys))
-    _told(_LIBRARY.listset_open(ctypes.c_uint8(LISTS.index(kind)), *sizes, first, count, ctypes.byref(made.raw)))
+    sizes = _number(seats, "number of seats"), _number(quota, "quota"), next(_NUMBERS)
+    _told(_OPEN(LISTS.index(_list(kind)), *sizes, _keys(keys), len(keys), made.raw))
     return made
+
+
+open = open_set  # listset.open. It is not in __all__: `from listset import *` keeps Python's own open.
+
+
+def _of_all(seats, call):
+    """Makes a call of all these seats, in an array."""
+    raws = (_Raw * max(len(seats), 1))(*(it.raw for it in seats))
+    code = call(raws)
+    for seat, raw in zip(seats, raws):
+        seat.raw = _Raw(raw.full, raw.at)
+    _told(code)
+
+
+def _renew(seats, kind, quota):
+    _of_all(seats, lambda raws: _RENEW(raws, len(seats), LISTS.index(kind), len(seats), quota, next(_NUMBERS)))
+
+
+def renew(seats, kind, count, quota):
+    """Closes the set whose seats are all in `seats`, and opens a set of the list `kind` with its keys. Returns the `count` seats of that set,
+    each with this quota. During the call no thread may use a seat of `seats`. If it raises, nothing is lost: the given seats still are the
+    set, perhaps gathered; or the first one is closed, and its `close` returns the keys."""
+    given, many, kind = list(seats), _number(count, "number of seats"), _list(kind)
+    places = given + [Seat() for _ in range(len(given), min(many, 64))]
+    with contextlib.ExitStack() as uses:
+        for it in places:
+            uses.enter_context(it._used())
+        number = next(_NUMBERS)
+        _of_all(places, lambda raws: _RENEW(raws, len(places), LISTS.index(kind), many, _number(quota, "quota"), number))
+    return places[:many]
+
+
+class Shared:
+    """A set with a pool of seats, which any number of threads may call: a call takes a seat that no other call uses, or waits for one. Two calls
+    of one thread can use two seats, so not even a thread's own calls are promised to keep their order."""
+
+    def __init__(self, kind, seats, quota, keys=()):
+        first = open_set(kind, seats, quota, keys)
+        self._seats = [first, *(first.split() for _ in range(1, seats))]
+        self._locks = [threading.Lock() for _ in self._seats]
+
+    def _by(self, call):
+        if not self._seats:
+            raise Fault(NO_SEAT)
+        begin = threading.get_ident() // 64
+        places = [(begin + it) % len(self._seats) for it in range(len(self._seats))]
+        place = next((it for it in places if self._locks[it].acquire(blocking=False)), None)
+        if place is None:
+            place = places[0]
+            self._locks[place].acquire()
+        try:
+            return call(self._seats[place])
+        finally:
+            self._locks[place].release()
+
+    def try_add(self, key):
+        """Adds a key. Returns `Added.TRUE` if the key was absent, `Added.FALSE` if it was present, `Added.FULL` if it is absent and each seat has
+        used its quota."""
+        added = self._by(lambda it: it.try_add(key))
+        for seat, lock in zip(self._seats, self._locks):
+            if added is Added.FULL:
+                with lock:
+                    added = seat.try_add(key)
+        return added
+
+    def add(self, key):
+        """Adds a key. Returns True if the key was absent, False if it was present. Raises `Full` if it is absent and each seat has used its quota."""
+        added = self.try_add(key)
+        if added is Added.FULL:
+            raise Full(key)
+        return added is Added.TRUE
+
+    def remove(self, key):
+        """Removes a key. Returns whether the key was present."""
+        return self._by(lambda it: it.remove(key))
+
+    def discard(self, key):
+        """Removes a key if it is present."""
+        self.remove(key)
+
+    def contains(self, key):
+        """Returns whether a key is in the set, as `key in shared` does."""
+        return self._by(lambda it: it.contains(key))
+
+    __contains__ = contains
+
+    def ceiling(self, key):
+        """Returns the smallest key of the set that is at least `key`, or None."""
+        return self._by(lambda it: it.ceiling(key))
+
+    def close(self):
+        """Closes the set, which no call may use any more, and returns its final keys. If it raises, call it again."""
+        if not self._seats:
+            raise Fault(NO_SEAT)
+        while len(self._seats) > 1:
+            self._seats[0].gather(self._seats[-1])
+            self._seats.pop()
+        keys = self._seats[0].close()
+        self._seats.clear()
+        return keys
+
+
+class _Place:
+    def __init__(self, seat):
+        self.lock, self.seat, self.is_taken, self.adds, self.removes = threading.Lock(), seat, False, 0, 0
+
+    def try_add(self, key):
+        added = self.seat.try_add(key)
+        self.adds += added is Added.TRUE
+        return added
+
+
+class RenewedSet:
+    """A set that renews itself: when a seat has used its quota, the set is closed, and another one opened with its keys.
+
+    A thread takes a seat of its own by `split`, and returns it by `drop` or at the end of a `with`. During a renewal calls wait, and the
+    renewal waits for pending calls, but for no thread that is between two calls. A call waits at most `patience` seconds for another one, or
+    for ever if that is None. Then it raises `TimedOut`, and was not made. docs/FOREIGN.md says what is promised of the order of calls.
+    """
+
+    def __init__(self, kind, seats, quota, keys=(), *, patience=None):
+        keys = list(keys)
+        first = open_set(kind, seats, quota, keys)
+        self._kind, self._quota, self._patience, self._opened_with = kind, _number(quota, "quota"), patience, len(keys)
+        self._places = [_Place(it) for it in (first, *(first.split() for _ in range(1, seats)))]
+        self._renewing, self._stage = threading.Lock(), "open"  # The stage changes only while all places are locked.
+        self._splitting = threading.Lock()
+        self._is_wanted = False  # A thread has waited long for the places: the others' next calls wait for it.
+
+    def split(self):
+        """Takes a seat, for a thread. Raises `Fault` if all seats are taken."""
+        with self._splitting:
+            place = next((it for it in self._places if not it.is_taken), None)
+            if place is None or self._stage == "closed":
+                raise Fault(NO_SEAT if self._stage == "closed" else NO_MORE)
+            place.is_taken = True
+        return OwnSeat(self, place)
+
+    def keys(self):
+        """Renews the set and returns its keys at that moment. Raises `Fault` if they are more than 1,048,576."""
+        with self._all_taken(self._places[0]):
+            if self._keys_now() > MOST_OPENING:
+                raise Fault(BAD_KEYS)
+            keys = self._close_taken()
+            self._renew_taken()
+            return keys
+
+    def close(self):
+        """Closes the set and returns its final keys. Raises `Fault` while a thread has a seat; the set is then unchanged."""
+        with self._all_taken(self._places[0]):
+            if any(it.is_taken for it in self._places):
+                raise Fault(SEATS_OUT)
+            keys = self._close_taken()
+            self._places[0].seat.drop()
+            self._stage = "closed"
+            return keys
+
+    def _lock(self, lock, helper=None):
+        """Locks `lock`. The thread with the lock may be in a `ceiling` of a lock-free list, which can retry until another call unlinks a marked
+        node. An `add` from `helper` unlinks it, and changes no key if the seat of `helper` has used its quota.
+
+        A thread with a helper locks all places. After 5 ms the others' next calls wait for it, unless a call could be needed as a helper."""
+        if lock.acquire(blocking=False):
+            return
+        patience = threading.TIMEOUT_MAX if self._patience is None else min(max(self._patience, 0), threading.TIMEOUT_MAX)
+        if helper is None or self._kind != "lock-free":
+            if helper:
+                if lock.acquire(timeout=min(patience, LONG)):
+                    return
+                self._is_wanted = True
+            if not lock.acquire(timeout=patience):
+                raise TimedOut
+            return
+        begun = time.monotonic()
+        while not lock.acquire(blocking=False):
+            waited, is_full = time.monotonic() - begun, helper.adds == self._quota
+            if waited > patience:
+                raise TimedOut
+            if is_full and self._stage == "open":
+                helper.try_add(GREATEST)
+            if is_full and waited > LONG:
+                self._is_wanted = True
+            time.sleep(POLL)
+
+    def _wait_for_renewal(self):
+        """Waits while another thread renews the set."""
+        self._lock(self._renewing)
+        self._renewing.release()
+
+    @contextlib.contextmanager
+    def _all_taken(self, mine):
+        """Locks all places."""
+        with contextlib.ExitStack() as all_taken:
+
+            def take(lock, helper=None):
+                self._lock(lock, helper)
+                all_taken.callback(lock.release)
+
+            take(self._renewing)
+            all_taken.callback(setattr, self, "_is_wanted", False)
+            take(mine.lock)
+            for place in self._places:
+                if place is not mine:
+                    take(place.lock, mine)
+            if self._stage == "closed":
+                raise Fault(NO_SEAT)
+            yield
+
+    def _keys_now(self):
+        return self._opened_with + sum(it.adds - it.removes for it in self._places)
+
+    def _close_taken(self):
+        self._stage, seats = "to be renewed", [it.seat for it in self._places]
+        _of_all(seats, lambda raws: _CLOSE_ALL(raws, len(seats)))
+        return _closed_keys(seats[0].raw)
+
+    def _renew_taken(self):
+        self._stage, seats = "to be renewed", [it.seat for it in self._places]
+        _renew(seats, self._kind, self._quota)
+        self._opened_with = self._keys_now()
+        for place in self._places:
+            place.adds = place.removes = 0
+        self._stage = "open"
+
+    def _by(self, place, call):
+        """Makes a call from a place. If an allocation of the last renewal failed, renews the set first."""
+        while True:
+            if self._is_wanted:
+                self._wait_for_renewal()
+            self._lock(place.lock)
+            try:
+                if self._stage == "open":
+                    return call(place)
+            finally:
+                place.lock.release()
+            with self._all_taken(place):
+                if self._stage != "open":
+                    self._renew_taken()
+
+    def _add_renewed(self, place, key):
+        """Renews the set and adds a key from `place`, whose seat has used its quota."""
+        with self._all_taken(place):
+            if self._stage == "open":
+                added = place.try_add(key)  # Another thread can have renewed the set in the meantime.
+                if added is not Added.FULL or self._keys_now() > MOST_OPENING or self._quota == 0:
+                    return added
+            self._renew_taken()
+            return place.try_add(key)
+
+
+class OwnSeat:
+    """A thread's seat of a `RenewedSet`."""
+
+    def __init__(self, of, place):
+        self._of, self._place = of, place
+
+    def _by(self, call):
+        if self._place is None:
+            raise Fault(NO_SEAT)
+        return self._of._by(self._place, call)
+
+    def try_add(self, key):
+        """Adds a key, and renews the set if the seat has used its quota. Returns `Added.FULL` only if the quota is 0, or if the set has more than
+        1,048,576 keys, with which no set opens."""
+        added = self._by(lambda it: it.try_add(key))
+        if added is Added.FULL:
+            self._of._wait_for_renewal()  # Another thread can be renewing the set.
+            added = self._by(lambda it: it.try_add(key))
+        return self._of._add_renewed(self._place, key) if added is Added.FULL else added
+
+    def add(self, key):
+        """Adds a key, and renews the set if the seat has used its quota. Returns True if the key was absent, False if it was present. Raises
+        `Full` only if the quota is 0, or if the set has more than 1,048,576 keys, with which no set opens."""
+        added = self.try_add(key)
+        if added is Added.FULL:
+            raise Full(key)
+        return added is Added.TRUE
+
+    def remove(self, key):
+        """Removes a key. Returns whether the key was present."""
+
+        def removed(place):
+            was_there = place.seat.remove(key)
+            place.removes += was_there
+            return was_there
+
+        return self._by(removed)
+
+    def discard(self, key):
+        """Removes a key if it is present."""
+        self.remove(key)
+
+    def contains(self, key):
+        """Returns whether a key is in the set, as `key in seat` does."""
+        return self._by(lambda it: it.seat.contains(key))
+
+    __contains__ = contains
+
+    def ceiling(self, key):
+        """Returns the smallest key of the set that is at least `key`, or None."""
+        return self._by(lambda it: it.seat.ceiling(key))
+
+    def drop(self):
+        """Returns the seat to the set."""
+        if self._place is not None:
+            self._place.is_taken = False
+        self._place = None
+
+    __del__ = drop
+
+    def __enter__(self):
+        return self
+
+    def __exit__(self, *raised):
+        self.drop()

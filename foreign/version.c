@@ -1,9 +1,9 @@
-// What the library tells of itself and of its faults: foreign/build gives the text, TOLD, and the number, NUMBER.
+// The library's version, and the sentences of its faults. foreign/build defines the text TOLD and the number NUMBER.
 const char *listset_version(void) { return TOLD; }
 
 unsigned listset_version_number(void) { return NUMBER; }
 
-// (the numbers are those of the enum in listset.h)
+// The numbers are those of `listset_fault` in listset.h.
 const char *listset_fault_text(unsigned char fault) {
   switch (fault) {
   case 0: return "nothing is refused";
@@ -16,6 +16,8 @@ const char *listset_fault_text(unsigned char fault) {
   case 16: return "not all seats are gathered";
   case 17: return "no seat is left to be split off";
   case 18: return "not two seats of one set";
-  default: return "there is no seat";
+  case 19: return "contains_now needs a lazy or a lock-free list";
+  case 20: return "timed out: another thread was in a call for too long";
+  default: return "no seat is here: it was moved, gathered or closed, or another thread is in a call from it";
   }
 }

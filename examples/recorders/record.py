@@ -1,9 +1,9 @@
 """Records a run of a set in threads, as text that `listset judge FILE` reads: python3 record.py FILE."""
 import itertools, random, sys, threading
 
-sys.setswitchinterval(1e-6)  # threads change often, so that calls meet
+sys.setswitchinterval(1e-6)  # threads switch often, so that calls overlap
 
-class MySet:  # put your own here
+class MySet:  # replace it by your own
     def __init__(self): self.keys, self.lock = set(), threading.Lock()
     def contains(self, key):
         with self.lock: return key in self.keys
@@ -12,14 +12,14 @@ class MySet:  # put your own here
     def remove(self, key):
         with self.lock: return key in self.keys and not self.keys.remove(key)
 
-def record(made, file, threads=8, calls=1000, keys=4):  # made: a set that is empty
+def record(made, file, threads=8, calls=1000, keys=4):  # made: an empty set
     tickets, made_calls, all_there = itertools.count(1), [], threading.Barrier(threads)
     def run(thread):
         draw = random.Random(thread)
         all_there.wait()
         for _ in range(calls):
             word, key = draw.choice(["add", "remove", "contains"]), draw.randrange(keys)
-            begin = next(tickets)  # one atomic step
+            begin = next(tickets)  # a single atomic step
             reply = getattr(made, word)(key)
             end = next(tickets)
             made_calls.append((begin, f"call {thread} {word} {key} {begin} {end} {str(reply).lower()}"))

@@ -1,8 +1,8 @@
-// Splits a recording by key into parts, each of which is a recording of its own:
+// Splits a recording by key. Each part is a recording of its own:
 //
 //     cc -O2 by_key.c -o by_key && ./by_key PART .. < RECORDING
 //
-// A PART is a file or a pipe. A part that nobody reads any more gets no more lines.
+// A PART is a file or a pipe. If nobody reads a pipe any more, it receives no further lines.
 #define _GNU_SOURCE
 #include <errno.h>
 #include <fcntl.h>
@@ -43,7 +43,8 @@ static void put(struct part *it, const char *line, size_t length) {
   it->used += length;
 }
 
-// The key of a line: the fourth word of a call, the second of an opening key or of a key left. Any other line has none.
+// Returns the key of a line: the fourth word of a call, the second of an opening key or of a final key. Any other line
+// has no key.
 static int key_of(const char *line, unsigned *key) {
   const char *at = line;
   int spaces = line[0] == 'c' && line[1] == 'a' ? 3 : line[0] == 'o' || line[0] == 'k' ? 1 : 0;
@@ -53,7 +54,7 @@ static int key_of(const char *line, unsigned *key) {
   return 1;
 }
 
-// Puts a line into the part of its key; one without a key goes into each part.
+// Writes a line to the part of its key. A line without a key goes to each part.
 static void put_line(struct part *parts, unsigned count, const char *line, size_t length) {
   unsigned key;
   if (key_of(line, &key)) put(&parts[key % count], line, length);
@@ -68,7 +69,7 @@ int main(int words, char **word) {
   for (unsigned i = 0; i < count; i++) {
     if ((parts[i].file = open(word[i + 1], O_WRONLY | O_CREAT | O_TRUNC, 0666)) < 0) fail(word[i + 1]);
 #ifdef F_SETPIPE_SZ
-    fcntl(parts[i].file, F_SETPIPE_SZ, PIPE);  // (a judge that waits for a processor does not hold up the others)
+    fcntl(parts[i].file, F_SETPIPE_SZ, PIPE);  // (so that a judge that waits for a processor does not delay the others)
 #endif
   }
   size_t kept = 0;

@@ -1,4 +1,4 @@
-//! Finds liblistset.a: in the folder LISTSET_LIB where this is set, else in this crate, or where `foreign/build` puts it beside it.
+//! Finds liblistset.a: in the folder LISTSET_LIB if that is set, otherwise in this crate or where `foreign/build` installs it.
 use std::env;
 use std::path::{Path, PathBuf};
 

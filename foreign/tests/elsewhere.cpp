@@ -1,4 +1,4 @@
-// A second source file of a program: it includes the headers too, and the two have to link.
+// A second source file that includes the headers: the program must link.
 #include "listset.hpp"
 
 #include "listset_judge.hpp"

@@ -1,4 +1,4 @@
-"""The judge from Python: each example in four threads at once, with str and bytes; and what is wrong.
+"""The judge from Python: each example in four threads at once, as str and as bytes; and the errors of wrong texts.
 
     judge.py EXAMPLES     their folder; that of listset.py is in PYTHONPATH
 """
@@ -14,7 +14,7 @@ THREADS = 4
 
 
 def pairs(folder):
-    """The schedules that have a report, but for those that are there to be refused, with both texts."""
+    """Yields the texts of each schedule and its report, except schedules that must be refused."""
     refused = {line.split(":")[0] for line in (folder / "refused-files.txt").read_text().splitlines()}
     for it in sorted(folder.glob("*.schedule")):
         if (report := it.with_suffix(".report")).exists() and it.name not in refused:
@@ -30,7 +30,7 @@ def judge(examples):
 
 
 def wrong(call, *values):
-    """What a call raises: its status, and the last word of its text."""
+    """Returns the status and the last word of the error that a call raises."""
     try:
         call(*values)
     except listset.Wrong as fault:
@@ -59,7 +59,12 @@ def judges_a_recording():
         listset.judge_text(recording.replace("key 5\n", ""))
         raise AssertionError("a key is left out")
     except listset.Wrong as fault:
-        assert fault.status == 1 and fault.text.startswith("not linearizable\n"), fault
+        assert fault.status == 1 and fault.text.startswith("not linearizable\n") and fault.line is fault.cause is None, fault
+    try:
+        listset.judge_text(recording.replace("contains", "finds"))
+        raise AssertionError("a line is wrong")
+    except listset.Wrong as fault:
+        assert (fault.line, fault.cause, str(fault)) == (3, "Line", "listset: line 3: Line"), fault
 
 
 def gen_has_each_value_in_its_place():

@@ -1,27 +1,21 @@
-// The five lists, each shared by eight threads and judged in this process as a set of one's own is (docs/YOUR-SET.md); and a wrong set.
+// Judges the five lists, each shared by eight threads, as docs/YOUR-SET.md judges a user's set; and a wrong set.
 #include "listset.hpp"
 
 #include "listset_judge.hpp"
 
 #include <iostream>
 
-template <listset::list KIND> struct Shared {
-  listset::shared set{KIND, 8, 16384};
-  bool add(uint32_t key) { return set.add(key) == listset::added::is_new; }
-  bool remove(uint32_t key) { return set.remove(key); }
-  bool contains(uint32_t key) { return set.contains(key); }
-};
-
 template <listset::list KIND> static bool is_right() {
   listset::options how;
   how.runs = 7;  // one of each preset
-  listset::verdict verdict = listset::judge<Shared<KIND>>(how);
+  listset::verdict verdict = listset::judge<listset::shared>(how, [] { return std::make_unique<listset::shared>(KIND, 8, 16384); });
   std::cout << verdict << "\n";
   std::string version(listset::version()), proof = version.substr(version.find("\nproof ") + 1);
   return verdict && verdict.overlapped > 0 && "liblistset, " + proof.substr(0, proof.find('\n')) == verdict.judge;
 }
 
-struct FindsAll : Shared<listset::list::lazy> {
+struct FindsAll : listset::shared {
+  FindsAll() : shared(listset::list::lazy, 8, 16384) {}
   bool contains(uint32_t) { return true; }
 };
 

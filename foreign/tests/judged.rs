@@ -1,4 +1,4 @@
-//! The five lists, each shared by eight threads and judged in this process as a set of one's own is (docs/YOUR-SET.md).
+//! Judges the five lists, each shared by eight threads, as docs/YOUR-SET.md judges a user's set.
 use listset::{Added, List, Shared};
 use listset_judge::Options;
 

@@ -1,5 +1,5 @@
-// Each allocation of a call is refused in turn: the call says so, or does with less, and keeps no block. Linked with --wrap for
-// malloc, realloc and free.
+// Lets each allocation of a call fail in turn: the call must report it or work with less memory, and free every block. Link with
+// --wrap for malloc, realloc and free.
 //
 //     memory SCHEDULE REPORT DRAFT RECORDING
 #include "listset.h"
@@ -58,7 +58,7 @@ static size_t faults(const char *given, size_t count, char *to, size_t size, uin
 
 static int is_said(const char *want, size_t count, size_t found) { return found == count && memcmp(room, want, count) == 0; }
 
-// Makes the call with none refused, and then with each in turn; gives how many it told of, or 0 where something was wrong.
+// Makes the call with no allocation failing, then with each one failing. Returns how many failures the call reported; 0 on an error.
 static size_t tried(const char *name, listset_function *function) {
   uint8_t due, status;
   size_t told = 0;
@@ -77,7 +77,7 @@ static size_t tried(const char *name, listset_function *function) {
   }
 }
 
-// The same of `listset_said`, which asks for blocks too: it gives none where one of these is refused. Gives how often it did.
+// Makes the call by `listset_said`, with each of its allocations failing in turn. Returns how often `listset_said` returned NULL.
 static size_t tried_said(listset_function *function) {
   uint8_t due, status;
   size_t count = 0, found, none = 0;
@@ -118,11 +118,11 @@ int main(int count, char **names) {
   size_t failed = count != 5;
   for (size_t at = 0; !failed && at < sizeof CALLS / sizeof *CALLS; at++) {
     read_text(names[CALLS[at].file]);
-    // (what reads and closes a file takes memory too)
+    // Reading and closing a file allocate too.
     asked = blocks = 0;
     size_t told = tried(CALLS[at].name, CALLS[at].function);
     failed += told == 0;
     printf("%s: %zu refusals told\n", CALLS[at].name, told);
   }
-  return failed != 0 || tried_said(faults) < 2; // (a text that is longer than its first block)
+  return failed != 0 || tried_said(faults) < 2; // A text that is longer than the first block.
 }

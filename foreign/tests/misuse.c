@@ -1,5 +1,5 @@
-// Each function of the sets at arguments that are refused, and what comes of them; and each of their allocations refused in turn.
-// Linked with --wrap for malloc, realloc and free.
+// Calls each function of the sets with arguments that it refuses, and with each allocation failing in turn. Link with --wrap for malloc,
+// realloc and free.
 #include "listset.h"
 
 #include <stdio.h>
@@ -39,6 +39,14 @@ static void expect(const char *what, size_t found, size_t due) {
 static void calls_without_a_seat(const char *what, listset_seat *none) {
   uint32_t at = UNTOUCHED, room[4] = {UNTOUCHED};
   listset_seat out = LISTSET_NONE;
+  listset_receipt receipt = LISTSET_NONE;
+  expect(what, listset_contains_now(none, 1).is, LISTSET_NO_SEAT);
+  expect(what, listset_receipt_of(none, &receipt), LISTSET_NONE_THERE);
+  expect(what, listset_after(none, &receipt), LISTSET_NONE_THERE);
+  expect(what, receipt.full, false);
+  expect(what, listset_seats_within(none, &at), 0);
+  expect(what, at, 0);
+  at = UNTOUCHED;
   expect(what, listset_add(none, 1).is, LISTSET_NO_SEAT);
   expect(what, listset_remove(none, 1).is, LISTSET_NO_SEAT);
   expect(what, listset_contains(none, 1).is, LISTSET_NO_SEAT);
@@ -103,6 +111,110 @@ static void refused_calls(uint8_t kind) {
   calls_without_a_seat("a dropped seat", &a);
 }
 
+// Receipts, and `contains_now` on each list.
+static void reads_and_receipts(uint8_t kind) {
+  const bool blocks = kind < LISTSET_LAZY;
+  listset_seat a = LISTSET_NONE, b = LISTSET_NONE, other = LISTSET_NONE;
+  listset_receipt first = LISTSET_NONE, second = LISTSET_NONE;
+  expect("open", listset_open(kind, 2, 2, 1, KEYS, 3, &a), LISTSET_OK);
+  expect("open another", listset_open(kind, 1, 1, 2, KEYS, 0, &other), LISTSET_OK);
+  expect("split", listset_split(&a, &b), LISTSET_OK);
+  expect("contains_now", listset_contains_now(&a, 7).is, blocks ? LISTSET_MAY_BLOCK : LISTSET_TRUE);
+  expect("contains_now of another key", listset_contains_now(&a, 8).is, blocks ? LISTSET_MAY_BLOCK : LISTSET_FALSE);
+  expect("remove", listset_remove(&b, 7).is, LISTSET_TRUE);
+  expect("contains_now of a key that is away", listset_contains_now(&a, 7).is, blocks ? LISTSET_MAY_BLOCK : LISTSET_FALSE);
+  expect("a receipt", listset_receipt_of(&b, &first), LISTSET_OK);
+  expect("a receipt onto a receipt", listset_receipt_of(&b, &first), LISTSET_IS_SEAT);
+  expect("a second receipt", listset_receipt_of(&b, &second), LISTSET_OK);
+  expect("a receipt of another set", listset_after(&other, &first), LISTSET_NO_GATHER);
+  expect("take it", listset_after(&a, &first), LISTSET_OK);
+  expect("take it again", listset_after(&a, &first), LISTSET_NONE_THERE);
+  expect("the set goes on", listset_add(&a, 7).is, LISTSET_TRUE);
+  uint32_t all = 0;
+  expect("seats within", listset_seats_within(&a, &all), 1);
+  expect("of two", all, 2);
+  expect("gather", listset_gather(&a, &b), LISTSET_OK);
+  expect("seats within", listset_seats_within(&a, &all), 2);
+  expect("close while a receipt is left", listset_close(&a), LISTSET_OK);
+  calls_without_a_seat("a closed set", &a);
+  listset_drop(&a), listset_drop(&other), listset_drop_receipt(&second), listset_drop_receipt(&second);
+  expect("steps", listset_most_reads(2, 3, 4), 2 * (2 * 3 + 4) + 2);
+  expect("most steps", listset_most_reads(64, 16384, MOST_KEYS), 4194306);
+  const uint32_t outside[][3] = {{0, 1, 1}, {65, 1, 1}, {1, 16385, 1}, {1, 1, MOST_KEYS + 1}};
+  for (int at = 0; at < 4; at++) expect("no steps", listset_most_reads(outside[at][0], outside[at][1], outside[at][2]), 0);
+}
+
+// Renews a set of three seats in five places.
+static void refused_renewals(uint8_t kind) {
+  listset_seat seats[5] = {LISTSET_NONE, LISTSET_NONE, LISTSET_NONE, LISTSET_NONE, LISTSET_NONE}, out = LISTSET_NONE;
+  uint32_t room[8];
+  expect("renew nothing", listset_renew(seats, 5, kind, 1, 1, 1), LISTSET_NONE_THERE);
+  expect("close nothing", listset_close_all(seats, 5), LISTSET_NONE_THERE);
+  expect("open", listset_open(kind, 3, 1, 1, KEYS, 3, &seats[1]), LISTSET_OK);
+  expect("split", listset_split(&seats[1], &seats[4]), LISTSET_OK);
+  expect("split", listset_split(&seats[1], &out), LISTSET_OK);
+  expect("a seat is missing", listset_renew(seats, 5, kind, 1, 1, 1), LISTSET_SEATS_OUT);
+  expect("a seat is missing", listset_close_all(seats, 5), LISTSET_SEATS_OUT);
+  expect("they are apart", listset_add(&seats[4], 2).is, LISTSET_TRUE);
+  seats[2] = out;
+  expect("no such list", listset_renew(seats, 5, 5, 1, 1, 1), LISTSET_BAD_KIND);
+  expect("no seats", listset_renew(seats, 5, kind, 0, 1, 1), LISTSET_BAD_SEATS);
+  expect("too many seats", listset_renew(seats, 5, kind, 6, 1, 1), LISTSET_BAD_SEATS);
+  expect("too large a quota", listset_renew(seats, 5, kind, 1, 16385, 1), LISTSET_BAD_QUOTA);
+  expect("past the quota", listset_add(&seats[4], 3).is, LISTSET_FULL);
+  expect("renew", listset_renew(seats, 5, (kind + 1) % 5, 4, 2, 2), LISTSET_OK);
+  expect("four of five", seats[3].full && !seats[4].full, true);
+  expect("a new quota", listset_add(&seats[3], 3).is, LISTSET_TRUE);
+  expect("an old key", listset_remove(&seats[0], 63).is, LISTSET_TRUE);
+  expect("close", listset_close_all(seats, 5), LISTSET_OK);
+  expect("close again", listset_close_all(seats, 5), LISTSET_OK);
+  static const uint32_t LEFT[] = {1, 2, 3, 7};
+  expect("keys", listset_keys(&seats[0], room, 8), 4);
+  expect("are those", memcmp(room, LEFT, sizeof LEFT), 0);
+  expect("renew a closed set", listset_renew(seats, 5, kind, 1, 1, 1), LISTSET_OK);
+  expect("it goes on", listset_contains(&seats[0], 3).is, LISTSET_TRUE);
+  listset_drop(&seats[0]);
+}
+
+// Renews a set with each allocation failing: a second call must renew it, with all its keys.
+static void one_renewal(uint8_t kind, size_t refused) {
+  listset_seat seats[3] = {LISTSET_NONE, LISTSET_NONE, LISTSET_NONE};
+  uint32_t room[8];
+  refused_at = 0;
+  expect("open", listset_open(kind, 2, 1, 1, KEYS, 3, &seats[0]), LISTSET_OK);
+  expect("split", listset_split(&seats[0], &seats[1]), LISTSET_OK);
+  expect("add", listset_add(&seats[1], 5).is, LISTSET_TRUE);
+  refused_at = refused, asked = 0;
+  listset_fault fault = listset_renew(seats, 3, kind, 3, 1, 2);
+  if (fault != LISTSET_OK) {
+    expect("renew tells", fault, LISTSET_OUT_OF_MEMORY);
+    fault = listset_renew(seats, 3, kind, 3, 1, 2);
+  }
+  expect("renew", fault, LISTSET_OK);
+  for (uint32_t at = 0; at < 3; at++) expect("add to a new quota", listset_add(&seats[at], 100 + at).is, LISTSET_TRUE);
+  const size_t asked_by_renew = asked;
+  fault = listset_close_all(seats, 3);
+  if (fault != LISTSET_OK) fault = listset_close_all(seats, 3);
+  expect("close", fault, LISTSET_OK);
+  expect("keys", listset_keys(&seats[0], room, 8), 7);
+  listset_drop(&seats[0]);
+  asked = asked_by_renew;
+}
+
+// Takes a receipt with its allocation failing: a second call must return it.
+static void one_receipt(uint8_t kind) {
+  listset_seat seat = LISTSET_NONE;
+  listset_receipt receipt = LISTSET_NONE;
+  refused_at = 0;
+  expect("open", listset_open(kind, 1, 1, 1, KEYS, 3, &seat), LISTSET_OK);
+  refused_at = 1, asked = 0;
+  expect("a receipt tells", listset_receipt_of(&seat, &receipt), LISTSET_OUT_OF_MEMORY);
+  expect("none is given", receipt.full, false);
+  expect("it is given later", listset_receipt_of(&seat, &receipt), LISTSET_OK);
+  expect("and taken", listset_after(&seat, &receipt), LISTSET_OK);
+  listset_drop(&seat);
+}
+
 static size_t asked_before;
 
 static void expect_unasked(const char *what, size_t found, size_t due) {
@@ -111,7 +223,7 @@ static void expect_unasked(const char *what, size_t found, size_t due) {
   asked_before = asked;
 }
 
-// No call of a set asks for memory, but for those that open it, split a seat off and close it.
+// Expects that no function of a set allocates, except those that open, split and close.
 static void calls_without_memory(uint8_t kind) {
   listset_seat a = LISTSET_NONE, b = LISTSET_NONE;
   uint32_t at = 0;
@@ -122,14 +234,15 @@ static void calls_without_memory(uint8_t kind) {
   expect_unasked("add by the other", listset_add(&b, 100).is, LISTSET_FALSE);
   expect_unasked("contains", listset_contains(&b, 100).is, LISTSET_TRUE);
   expect_unasked("ceiling", listset_ceiling(&b, 64, &at).is, LISTSET_AT);
+  expect_unasked("contains_now", listset_contains_now(&b, 100).is, kind < LISTSET_LAZY ? LISTSET_MAY_BLOCK : LISTSET_TRUE);
   expect_unasked("remove", listset_remove(&b, 100).is, LISTSET_TRUE);
   expect_unasked("gather", listset_gather(&a, &b), LISTSET_OK);
   expect_unasked("add once gathered", listset_add(&a, 9).is, LISTSET_TRUE);
   listset_drop(&a);
 }
 
-// A set of ten seats, of which three are split off. The opener, which has the rest within it, is gathered into one that was split off;
-// and a set is closed of which most seats were never split off.
+// Gathers the seat that opened a set of ten, with the seats that it still contains, into one of three that were split off; and closes a
+// set most of whose seats were never split off.
 static void seats_within(uint8_t kind) {
   listset_seat opener = LISTSET_NONE, a = LISTSET_NONE, b = LISTSET_NONE, c = LISTSET_NONE;
   uint32_t room[4];
@@ -158,7 +271,7 @@ static void seats_within(uint8_t kind) {
   listset_drop(&opener);
 }
 
-// As many opening keys as there may be, walked to their end, and the greatest key.
+// Opens a set with the most opening keys, and calls its last key and the largest key of all.
 static void most_keys(uint8_t kind) {
   listset_seat seat = LISTSET_NONE;
   uint32_t at = 0;
@@ -177,7 +290,7 @@ static void most_keys(uint8_t kind) {
   listset_drop(&seat);
 }
 
-// A set is opened, split, used, gathered and closed; each refusal is told, and what was there goes on.
+// Opens, splits, uses, gathers and closes a set, with each allocation failing: a failure is reported, and changes nothing.
 static void one_life(uint8_t kind, size_t refused) {
   listset_seat a = LISTSET_NONE, b = LISTSET_NONE;
   uint32_t room[8];
@@ -206,9 +319,9 @@ static void one_life(uint8_t kind, size_t refused) {
   listset_drop(&a);
 }
 
-// Each fault has a sentence of its own.
+// Expects a different sentence for each fault.
 static void sentences(void) {
-  for (int fault = LISTSET_BAD_SEATS; fault <= LISTSET_NO_GATHER + 1; fault++)
+  for (int fault = LISTSET_BAD_SEATS; fault <= LISTSET_TIMED_OUT + 1; fault++)
     for (int other = LISTSET_OK; other < fault; other += other == LISTSET_OK ? LISTSET_BAD_SEATS : 1)
       expect("sentences alike", strcmp(listset_fault_text((listset_fault)fault), listset_fault_text((listset_fault)other)) == 0, 0);
   expect("the version", listset_version_number(), LISTSET_VERSION_NUMBER);
@@ -226,12 +339,20 @@ int main(void) {
     refused_calls(kind);
     calls_without_memory(kind);
     seats_within(kind);
+    reads_and_receipts(kind);
+    refused_renewals(kind);
     most_keys(kind);
     blocks = 0;
     for (size_t refused = 1; refused == 1 || asked >= refused - 1; refused++) {
       one_life(kind, refused);
       expect("blocks kept", blocks, 0);
     }
+    for (size_t refused = 1; refused == 1 || asked >= refused - 1; refused++) {
+      one_renewal(kind, refused);
+      expect("blocks kept by a renewal", blocks, 0);
+    }
+    one_receipt(kind);
+    expect("blocks kept by a receipt", blocks, 0);
   }
   return wrong != 0;
 }

@@ -1,5 +1,5 @@
-// A set whose `close` is refused memory, by malloc in the library or for the keys that it returns, is there still: `close`, called
-// again, returns the keys. Linked with --wrap for malloc, realloc and free, which are the library's calls alone.
+// Closes a set with a failing allocation, in the library or for the vector of the keys: a second `close` must return the keys. Link with
+// --wrap for malloc, realloc and free, which then wrap only the library's calls.
 #include "listset.hpp"
 
 #include <cstdio>
@@ -44,7 +44,7 @@ static void expect(bool holds, const char *what) {
   if (!holds) std::printf("wrong: %s\n", what), wrong++;
 }
 
-// What `close` throws while this is refused: a fault's code, LISTSET_NO_MEMORY for std::bad_alloc, or LISTSET_OK for nothing.
+// Returns what `close` throws during a failure: the code of a fault, LISTSET_NO_MEMORY for std::bad_alloc, LISTSET_OK for nothing.
 template <typename Set> static uint8_t thrown(Set &set, bool &refuses) {
   refuses = true;
   uint8_t code = LISTSET_OK;
@@ -59,9 +59,9 @@ template <typename Set> static uint8_t thrown(Set &set, bool &refuses) {
   return code;
 }
 
-// The keys of a set whose `close` was refused memory twice.
+// Returns the keys of a set whose `close` failed twice.
 template <typename Set> static std::vector<uint32_t> kept(Set set) {
-  set.add(7);
+  expect(set.add(7) == listset::added::is_true, "add");
   expect(thrown(set, refuses_library) == LISTSET_OUT_OF_MEMORY, "the library's memory is refused");
   expect(thrown(set, refuses_keys) == LISTSET_NO_MEMORY, "the memory for the keys is refused");
   try {
@@ -76,7 +76,7 @@ int main() {
   for (list kind : {list::coarse, list::fine, list::optimistic, list::lazy, list::lock_free}) {
     expect(kept(listset::open(kind, 2, 1, {5, 9})) == due, "the keys of a seat that is closed again");
     expect(kept<listset::shared>({kind, 3, 1, {5, 9}}) == due, "the keys of a shared set that is closed again");
-    listset::shared(kind, 3, 1, {5, 9}).add(7);
+    listset::shared(kind, 3, 1, {5, 9}).remove(5);
     expect(blocks == 0, "blocks kept");
   }
   return wrong != 0;

@@ -1,5 +1,5 @@
-// Threads on one set, of each list: each has keys of its own, on which its replies are those of a model, and shared keys, of which
-// the changes are counted: for each key, adds that answered true less removes that did is whether it is left.
+// Threads call one set, of each list. On keys of its own a thread compares the replies with a model. On shared keys it counts the changes:
+// for each key, true adds minus true removes must be whether the set has the key at the end.
 //
 //     sets CALLS THREADS     at most 64 threads
 #include "listset.h"
@@ -23,7 +23,7 @@ typedef struct {
   bool own[OWN];
 } task;
 
-// How many kinds of calls there are: no ceiling of the lock-free list in several threads, which may wait for a remove that nobody makes.
+// Returns the number of kinds of calls. Several threads make no ceiling of the lock-free list: it can wait for a remove that nobody makes.
 static uint32_t kinds;
 
 static uint64_t draw(uint64_t *drawn) {
@@ -45,7 +45,7 @@ static void call_shared(task *it, uint32_t kind, uint32_t key) {
   wrong += !may || (reply == LISTSET_FULL && it->adds < QUOTA);
 }
 
-// Own keys of thread t are SHARED + t * OWN and so on, so that nobody else changes them.
+// The keys of thread t alone are SHARED + t * OWN and the OWN - 1 keys above.
 static void call_own(task *it, uint32_t kind, uint32_t k) {
   uint32_t base = SHARED + it->number * OWN, at = 0, next = k;
   uint8_t want;
@@ -80,7 +80,7 @@ static void *run(void *given) {
   return NULL;
 }
 
-// Whether the keys are those of the models and of the counts, rising.
+// Returns whether the final keys are increasing, and are those of the models and the counts.
 static bool are_left(listset_seat *closed, const task *tasks) {
   static uint32_t keys[KEYS];
   static bool left[KEYS];

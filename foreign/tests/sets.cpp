@@ -1,4 +1,4 @@
-// The lists from C++: four threads put keys in and take some out; and what is refused leaves the seats as they were.
+// The lists from C++: four threads add keys and remove some; and a refused call leaves the seats unchanged.
 #include "listset.hpp"
 
 #include <algorithm>
@@ -14,6 +14,7 @@ using listset::seat;
 
 seat opened_elsewhere(); // by elsewhere.cpp
 
+static_assert(!std::is_convertible_v<added, bool>, "what an `add` answers is no condition");
 static_assert(!std::is_copy_constructible_v<seat> && !std::is_copy_assignable_v<seat>, "a seat is moved and not copied");
 
 static int wrong = 0;
@@ -22,7 +23,7 @@ static void expect(bool holds, const char *what) {
   if (!holds) std::printf("wrong: %s\n", what), wrong++;
 }
 
-// The code of what a call throws, or 0.
+// Returns the code of the fault that a call throws, or 0.
 template <typename Call> uint8_t thrown(Call call) {
   try {
     call();
@@ -32,15 +33,16 @@ template <typename Call> uint8_t thrown(Call call) {
   }
 }
 
-// Of the keys below 4,000 each thread puts a fourth in, and takes out those that three divides.
+// Each of four threads adds a fourth of the keys below 4,000, and removes the multiples of three among them.
 static bool is_right(list kind) {
   std::vector<seat> seats(4);
   seats[0] = listset::open(kind, 4, 1000);
   for (size_t at = 1; at < 4; at++) seats[at] = seats[0].split();
+  std::atomic<int> full{0};
   std::vector<std::thread> threads;
   for (uint32_t at = 0; at < 4; at++)
-    threads.emplace_back([&seats, at] {
-      for (uint32_t key = at; key < 4000; key += 4) seats[at].add(key);
+    threads.emplace_back([&seats, &full, at] {
+      for (uint32_t key = at; key < 4000; key += 4) full += seats[at].add(key) == added::is_full;
       for (uint32_t key = at; key < 4000; key += 4)
         if (key % 3 == 0) seats[at].remove(key);
     });
@@ -49,17 +51,17 @@ static bool is_right(list kind) {
   std::vector<uint32_t> due;
   for (uint32_t key = 0; key < 4000; key++)
     if (key % 3 != 0) due.push_back(key);
-  return seats[0].close() == due;
+  return full == 0 && seats[0].close() == due;
 }
 
-// The same behind one set, of fewer seats than threads.
+// Makes the same calls of a `shared` set with fewer seats than threads.
 static bool is_right_shared(list kind) {
   listset::shared set(kind, 3, 2000);
   std::atomic<int> found{0};
   std::vector<std::thread> threads;
   for (uint32_t at = 0; at < 4; at++)
     threads.emplace_back([&set, &found, at] {
-      for (uint32_t key = at; key < 4000; key += 4) found += set.add(key) == added::is_new && set.ceiling(key) == key && set.contains(key);
+      for (uint32_t key = at; key < 4000; key += 4) found += set.add(key) == added::is_true && set.ceiling(key) == key && set.contains(key);
       for (uint32_t key = at; key < 4000; key += 4)
         if (key % 3 == 0) set.remove(key);
     });
@@ -70,15 +72,15 @@ static bool is_right_shared(list kind) {
   return found == 4000 && set.contains(1) && set.ceiling(3) == 4u && set.close() == due;
 }
 
-// Threads that add keys of their own, more than the seats have quota for: as many are new as they have, and just those are left.
+// Threads add more keys than the seats have quota for: as many adds as the quota must be true, and exactly these keys remain.
 static bool is_filled(uint32_t seats, uint32_t quota) {
-  listset::shared set(list::lock_free, seats, quota); // (which has no lock that a wrong call would not return)
+  listset::shared set(list::lock_free, seats, quota); // A wrong call could keep no lock of this list.
   std::vector<std::vector<uint32_t>> added_by(4);
   std::vector<std::thread> threads;
   for (uint32_t at = 0; at < 4; at++)
     threads.emplace_back([&, at] {
       for (uint32_t key = at; key < 2000; key += 4)
-        if (set.add(key) == added::is_new) added_by[at].push_back(key);
+        if (set.add(key) == added::is_true) added_by[at].push_back(key);
     });
   for (std::thread &thread : threads) thread.join();
   std::vector<uint32_t> due;
@@ -87,7 +89,7 @@ static bool is_filled(uint32_t seats, uint32_t quota) {
   return due.size() == seats * quota && set.close() == due;
 }
 
-// Four threads add the same keys, as many as the seats have quota for: an add is full only if no seat has quota left, and then its key is there.
+// Four threads add the same keys, as many as the seats have quota for. An add may be full only if no seat has quota left; its key is then present.
 static int full_too_soon() {
   const uint32_t many = 1000;
   listset::shared set(list::lazy, 2, many / 2);
@@ -95,49 +97,49 @@ static int full_too_soon() {
   std::vector<std::thread> threads;
   for (int at = 0; at < 4; at++)
     threads.emplace_back([&] {
-      for (uint32_t key = 0; key < many; key++) full += set.add(key) == added::full;
+      for (uint32_t key = 0; key < many; key++) full += set.add(key) == added::is_full;
     });
   for (std::thread &thread : threads) thread.join();
   return full;
 }
 
-// The places of a shared set, which are its own alone; but an explicit instantiation may name them.
+// Returns the private places of a shared set: an explicit instantiation may name them.
 static auto &places_of(listset::shared &set);
 template <auto Places> struct reach {
   friend auto &places_of(listset::shared &set) { return set.*Places; }
 };
 template struct reach<&listset::shared::places>;
 
-// Whether a thread's calls end while others have all seats but one. (Those that wait for another seat go on when these are let go.)
+// Returns whether a thread's calls end while others have all seats but one. (Waiting calls continue when the seats are released.)
 static bool end_by_one_seat(size_t free, size_t seats) {
   listset::shared set(list::lock_free, static_cast<uint32_t>(seats), 1);
   std::vector<std::unique_lock<std::mutex>> taken;
   for (size_t at = 0; at < seats; at++)
     if (at != free) taken.emplace_back(places_of(set)[at].lock);
-  auto calls = [&] { return set.add(7) == added::is_new && set.contains(7) && set.ceiling(0) == 7u && set.remove(7); };
+  auto calls = [&] { return set.add(7) == added::is_true && set.contains(7) && set.ceiling(0) == 7u && set.remove(7); };
   std::future<bool> made = std::async(std::launch::async, calls);
   bool is_soon = made.wait_for(std::chrono::seconds(20)) == std::future_status::ready;
   taken.clear();
   return made.get() && is_soon;
 }
 
-// Of two threads, one after the other, at most one has the free seat at its own place.
+// Two threads, one after the other. At most one of them has the free seat as its own place.
 static bool take_the_free_seat(size_t seats) {
   for (size_t free = 0; free < seats; free++)
     if (!end_by_one_seat(free, seats) || !end_by_one_seat(free, seats)) return false;
   return true;
 }
 
-// A set that was closed, or moved from, has no seat.
+// Expects that a set that was closed or moved from has no seat.
 static void expect_no_seat() {
   listset::shared closed(list::lazy, 2, 1), moved(list::lazy, 2, 1);
   seat last = listset::open(list::lazy, 1, 1, {7});
   closed.close(), last.close();
   expect(thrown([&] { closed.close(); }) == LISTSET_NONE_THERE && thrown([&] { last.close(); }) == LISTSET_NONE_THERE, "a set that is closed twice");
-  for (int again = 0; again < 2; again++) expect(thrown([&] { closed.add(1); }) == LISTSET_NONE_THERE, "a call of a closed set");
+  for (int again = 0; again < 2; again++) expect(thrown([&] { closed.remove(1); }) == LISTSET_NONE_THERE, "a call of a closed set");
   listset::shared set = std::move(moved);
-  expect(thrown([&] { moved.add(1); }) == LISTSET_NONE_THERE && thrown([&] { moved.close(); }) == LISTSET_NONE_THERE, "a set that was moved from");
-  expect(set.add(1) == added::is_new && set.close() == std::vector<uint32_t>({1}), "the set that it became");
+  expect(thrown([&] { moved.remove(1); }) == LISTSET_NONE_THERE && thrown([&] { moved.close(); }) == LISTSET_NONE_THERE, "a set that was moved from");
+  expect(set.add(1) == added::is_true && set.close() == std::vector<uint32_t>({1}), "the set that it became");
 }
 
 static void expect_shared() {
@@ -145,8 +147,8 @@ static void expect_shared() {
   expect(is_filled(64, 1), "and that of 64");
   for (list kind : {list::coarse, list::fine, list::optimistic, list::lazy, list::lock_free}) expect(is_right_shared(kind), "shared keys");
   listset::shared few(list::lazy, 2, 1, {5});
-  expect(few.add(1) == added::is_new && few.add(2) == added::is_new && few.add(3) == added::full, "each seat's quota is used");
-  expect(few.add(1) == added::not_new && few.close() == std::vector<uint32_t>({1, 2, 5}), "shared, closed");
+  expect(few.add(1) == added::is_true && few.add(2) == added::is_true && few.add(3) == added::is_full, "each seat's quota is used");
+  expect(few.add(1) == added::is_false && few.close() == std::vector<uint32_t>({1, 2, 5}), "shared, closed");
   expect(thrown([] { listset::shared(list::lazy, 65, 1); }) == LISTSET_BAD_SEATS, "too many shared seats");
   int full = 0;
   for (int round = 0; round < 20; round++) full += full_too_soon();
@@ -155,17 +157,17 @@ static void expect_shared() {
   expect_no_seat();
 }
 
-// The least key and the greatest, in and out of each call, from a seat and behind a shared set.
+// Makes each call with the smallest and the largest key, from a seat and of a `shared` set.
 template <typename Set> static void expect_ends(Set set) {
   const uint32_t most = UINT32_MAX;
   expect(set.ceiling(0) == 0u && set.ceiling(1) == most && set.ceiling(most) == most, "ceiling of the least and the greatest key");
   expect(set.contains(0) && set.remove(0) && !set.contains(0) && set.ceiling(0) == most, "the least key");
   expect(set.contains(most) && set.remove(most) && !set.contains(most) && !set.ceiling(0), "the greatest key");
-  expect(set.add(0) == added::is_new && set.add(most) == added::is_new && set.ceiling(0) == 0u, "both again");
+  expect(set.add(0) == added::is_true && set.add(most) == added::is_true && set.ceiling(0) == 0u, "both again");
   expect(set.close() == std::vector<uint32_t>({0, most}), "both are left");
 }
 
-// A seat that is assigned over a full one: the set of that one is let go of too, as the sanitizer for addresses counts.
+// Assigns a seat to a full one, whose set must be freed: the address sanitizer counts it.
 static void expect_assigned(list kind) {
   seat mine = listset::open(kind, 2, 1, {1}), other = listset::open(kind, 1, 1, {2});
   mine = std::move(other);
@@ -175,10 +177,10 @@ static void expect_assigned(list kind) {
   expect(mine.contains(2) && !mine.contains(1) && mine.close() == std::vector<uint32_t>({2}), "the seat that was assigned");
 }
 
-// A seat gathers none of another set: of many, half of them from another source file, opened in another thread.
+// Expects that a seat gathers none of another set. Half of the many sets are opened by another source file, in another thread.
 static void expect_apart() {
   seat mine = listset::open(list::lazy, 1, 0);
-  const int many = 70000; // (more than 16 bits number)
+  const int many = 70000; // More than 16 bits can number.
   int refused = 0;
   std::thread([&] {
     for (int at = 0; at < many; at++) {
@@ -207,7 +209,7 @@ static void expect_apart() {
   expect(apart == rounds, "two sets that two threads open at once");
 }
 
-// The most keys that a set may open with, and the least and the greatest quota.
+// Opens sets with the most keys, and with the smallest and the largest quota.
 static void expect_limits() {
   std::vector<uint32_t> keys(1 << 20);
   for (uint32_t at = 0; at < keys.size(); at++) keys[at] = 4095 * at;
@@ -218,11 +220,11 @@ static void expect_limits() {
   expect(thrown([] { listset::open(list::lazy, 1, 1, {9, 5}); }) == LISTSET_BAD_KEYS, "keys that fall");
   expect(thrown([] { listset::open(list::lazy, 1, 16385); }) == LISTSET_BAD_QUOTA, "too large a quota");
   expect(thrown([] { listset::open(list::lazy, 0, 1); }) == LISTSET_BAD_SEATS, "no seats");
-  expect(listset::open(list::lazy, 1, 0).add(1) == added::full, "a quota of 0");
+  expect(listset::open(list::lazy, 1, 0).add(1) == added::is_full, "a quota of 0");
   seat most = listset::open(list::lazy, 1, 16384);
   uint32_t left = 16384;
-  while (left > 0 && most.add(left) == added::is_new) left--;
-  expect(left == 0 && most.add(0) == added::full, "the greatest quota");
+  while (left > 0 && most.add(left) == added::is_true) left--;
+  expect(left == 0 && most.add(0) == added::is_full, "the greatest quota");
 }
 
 int main() {
@@ -240,9 +242,9 @@ int main() {
   expect(thrown([&] { mine.close(); }) == LISTSET_SEATS_OUT, "a seat is out");
   expect(thrown([&] { mine.gather(std::move(other)); }) == LISTSET_NO_GATHER, "a seat of another set");
   expect(thrown([&] { mine.gather(std::move(mine)); }) == LISTSET_NO_GATHER, "a seat into itself");
-  expect(thrown([&] { none.add(1); }) == LISTSET_NONE_THERE, "no seat");
+  expect(thrown([&] { static_cast<void>(none.add(1)); }) == LISTSET_NONE_THERE, "no seat");
   expect(thrown([] { listset::open(list::lazy, 65, 1); }) == LISTSET_BAD_SEATS, "too many seats");
-  expect(split.add(7) == added::is_new && split.add(8) == added::full && mine.add(7) == added::not_new, "add");
+  expect(split.add(7) == added::is_true && split.add(8) == added::is_full && mine.add(7) == added::is_false, "add");
   expect(mine.contains(5) && mine.remove(5) && !mine.contains(5) && !other.contains(9), "remove, contains");
   expect(mine.ceiling(6) == 7u && !mine.ceiling(10), "ceiling");
   mine.gather(std::move(split));

@@ -1,4 +1,4 @@
-"""The lists from Python, in four threads, whose changes are counted; and what is refused. listset.py's folder is in PYTHONPATH."""
+"""The lists from Python: four threads count their changes; and the errors of refused calls. PYTHONPATH has the folder of listset.py."""
 
 import concurrent.futures
 import random
@@ -6,14 +6,15 @@ import threading
 import unittest.mock
 
 import listset
+from listset import Added
 
 THREADS, CALLS, KEYS, OPENING = 4, 3000, 64, [1, 7, 63]
 ENDS = [0, 2**32 - 1]  # the least key and the greatest
 
 
 def calls_of(seat, number, kinds):
-    """Calls on keys that all threads use: how often each was put in less how often it was taken out. Then calls on keys of its own, with
-    each answer: those that are left. The kinds of calls are 4, or 3 without ceilings."""
+    """Makes calls of keys that all threads use, and of keys that only this thread uses. Returns for each shared key its true adds minus its
+    true removes, and the thread's own keys that remain. There are 4 kinds of calls, or 3 without ceilings."""
     draws, net, own = random.Random(number), [0] * KEYS, set()
     for _ in range(CALLS):
         key, kind = draws.randrange(KEYS), draws.randrange(kinds)
@@ -55,7 +56,7 @@ def trial(kind):
 
 
 def code(call, *values):
-    """The code of the fault that a call raises."""
+    """Returns the code of the fault that a call raises."""
     try:
         call(*values)
     except listset.Fault as fault:
@@ -68,16 +69,24 @@ def refusals():
     split = mine.split()
     assert code(mine.split) == 17 and code(mine.close) == 16 and code(mine.gather, other) == code(mine.gather, mine) == 18
     assert code(listset.Seat().add, 1) == 255 and code(listset.open_set, "lazy", 0, 1) == 10
-    assert (split.add(7), split.add(8), mine.add(7)) == (True, None, False)
+    assert (split.add(7), split.try_add(8), mine.add(7), mine.try_add(7)) == (True, Added.FULL, False, Added.FALSE)
+    assert raised(split.add, 8) == (listset.Full, "8 is not in the set, and the seat has used its quota of adds")
+    assert raised(bool, Added.TRUE)[0] is raised(bool, Added.FULL)[0] is TypeError
     assert (mine.remove(5), mine.contains(5), mine.ceiling(6), mine.ceiling(10)) == (True, False, 7, None)
+    assert (7 in mine, 5 in split, split.discard(5)) == (True, False, None)
     mine.gather(split)
     assert mine.close() == [7, 9] and code(mine.add, 1) == code(mine.close) == code(other.gather, mine) == 255 and other.close() == []
-    assert raised(listset.open_set, "lock_free", 1, 1)[0] is ValueError
+    lists = "the lists are coarse, fine, optimistic, lazy, lock-free"
+    assert raised(listset.open_set, "Lazy", 1, 1) == (ValueError, f"there is no list 'Lazy': {lists}")
+    assert raised(listset.open, 2, 1, 1) == (ValueError, f"there is no list 2: {lists}")
+    assert raised(listset.open, "lazy", "2", 1) == (TypeError, "the number of seats is an integer, and '2' is of type str")
+    assert raised(other.remove, "alice") == (TypeError, "the key is an integer, and 'alice' is of type str")
+    assert raised(listset.judge_text, 5) == (TypeError, "a text is str or bytes, and 5 is of type int")
     assert listset.open_set("lazy", 1, 1, iter([5, 9])).close() == [5, 9]
 
 
 def ends(kind):
-    """The least key and the greatest, in and out of each call."""
+    """Makes each call with the smallest and the largest key."""
     mine = listset.open_set(kind, 1, 2, ENDS)
     assert [mine.ceiling(key) for key in (0, 1, ENDS[1])] == [0, ENDS[1], ENDS[1]], kind
     assert all(mine.contains(key) and mine.remove(key) and not mine.contains(key) for key in ENDS), kind
@@ -86,7 +95,7 @@ def ends(kind):
 
 
 def raised(call, *values):
-    """The type and the text of what a call raises."""
+    """Returns the type and the text of the error that a call raises."""
     try:
         call(*values)
     except Exception as fault:
@@ -95,7 +104,7 @@ def raised(call, *values):
 
 
 def numbers():
-    """What 32 bits do not hold is refused and not cut, and what is no integer; and the set is as it was."""
+    """Expects an error, and an unchanged set, for integers that do not fit 32 bits and for values that are no integer."""
     mine = listset.open_set("lazy", 1, 4, [1, 5])
     calls = [mine.add, mine.remove, mine.contains, mine.ceiling, *(lambda it, at=at: opened(at, it) for at in range(4))]
     for call in calls:
@@ -109,7 +118,7 @@ def numbers():
 
 
 def apart():
-    """A seat gathers none of another set: of more than 16 bits number, opened in another thread."""
+    """Expects that a seat gathers none of another set, among more sets than 16 bits can number."""
     mine, found = listset.open_set("lazy", 1, 0), set()
 
     def run():
@@ -122,24 +131,24 @@ def apart():
 
 
 def limits():
-    """The most seats and keys, and the ends of the quota."""
+    """Opens sets with the most seats and keys, and with the smallest and the largest quota."""
     keys = [4095 * it for it in range(2**20)]
     assert listset.open_set("lazy", 1, 0, keys).close() == keys
     assert code(listset.open_set, "lazy", 1, 1, [7, 7]) == code(listset.open_set, "lazy", 1, 1, [9, 5]) == 12
     assert code(listset.open_set, "lazy", 1, 16385) == 11 and code(listset.open_set, "lazy", 65, 1) == 10
-    assert listset.open_set("lazy", 1, 0).add(1) is None
+    assert listset.open_set("lazy", 1, 0).try_add(1) is Added.FULL
     most = listset.open_set("lazy", 1, 16384)
-    assert all(most.add(key) for key in range(16384, 0, -1)) and most.add(0) is None
+    assert all(most.add(key) for key in range(16384, 0, -1)) and most.try_add(0) is Added.FULL
     first = listset.open_set("lazy", 64, 1)
     seats = [first, *(first.split() for _ in range(63))]
-    assert all(it.add(key) for key, it in enumerate(seats)) and [it.add(64) for it in seats] == [None] * 64
+    assert all(it.add(key) for key, it in enumerate(seats)) and [it.try_add(64) for it in seats] == [Added.FULL] * 64
     for it in seats[1:]:
         first.gather(it)
     assert first.close() == [*range(64)]
 
 
 def closed_again():
-    """Where `close` has no memory for the keys, it gives them when it is called again."""
+    """Expects the keys from a second `close` if an allocation of the first one failed."""
     keys, mine = listset._keys, listset.open_set("lazy", 1, 1, [5, 9])
     for refused in (1, 2):
         with unittest.mock.patch.object(listset, "_keys", side_effect=[*[keys([])] * (refused - 1), MemoryError]):
@@ -147,14 +156,101 @@ def closed_again():
     assert mine.close() == [5, 9]
 
 
+def reads_and_receipts(kind):
+    mine, apart = listset.open(kind, 2, 3, [5, 9]), listset.open(kind, 1, 1)
+    other = mine.split()
+    if kind in ("lazy", "lock-free"):
+        assert [mine.contains_now(key) for key in (4, 5, 9)] == [False, True, True] and mine.remove(5) and not mine.contains_now(5)
+    else:
+        assert code(mine.contains_now, 5) == 19
+    first, second = mine.receipt(), mine.receipt()
+    assert code(apart.after, first) == 18 and other.after(first) is None and code(other.after, first) == 255
+    del second
+    assert listset.most_reads(2, 3, 2) == 18 and listset.most_reads(64, 16384, 2**20) == 2**22 + 2 and listset.most_reads(65, 1) == 0
+
+
+def renewed_by_hand():
+    """Renews a set as one of another list, with its keys. Expects that a refused renewal loses nothing."""
+    first = listset.open("lazy", 3, 1, [5])
+    seats = [first, first.split(), first.split()]
+    assert seats[0].add(7) and seats[1].add(8) and raised(seats[0].add, 9)[0] is listset.Full
+    assert code(listset.renew, seats[:2], "fine", 1, 1) == 16 and code(listset.renew, seats, "fine", 65, 1) == 10
+    assert code(listset.renew, seats, "fine", 1, 16385) == 11 and raised(listset.renew, seats, "none", 1, 1)[0] is ValueError
+    for kind, count in zip(listset.LISTS, (1, 64, 2, 5, 3)):
+        seats = listset.renew(seats, kind, count, 1)
+        assert len(seats) == count and seats[-1].ceiling(0) == 5 and 8 in seats[0], kind
+    assert seats[2].add(9) and seats[0].remove(7)
+    (last,) = listset.renew(seats, "lazy", 1, 0)
+    assert last.close() == [5, 8, 9] and code(seats[0].contains, 5) == 255
+
+
+def by_threads(run):
+    with concurrent.futures.ThreadPoolExecutor(THREADS) as threads:
+        return list(threads.map(run, range(THREADS)))
+
+
+def renewed_by_itself(kind, quota):
+    """Fills a set of small quota in four threads: each call must reply as one of a set without a quota."""
+    of = listset.RenewedSet(kind, THREADS, quota, [KEYS * 9])
+
+    def run(number):
+        own, draws = set(), random.Random(number)
+        with of.split() as mine:
+            for _ in range(600):
+                key = KEYS * (number + 1) + draws.randrange(KEYS)
+                assert mine.add(key) is (key not in own) and key in mine and (kind == "lock-free" or mine.ceiling(key) == key)
+                own.add(key)
+                if draws.random() < 0.5:
+                    assert mine.remove(key) and not mine.contains(key)
+                    own.discard(key)
+        return own
+
+    due = sorted(set().union(*by_threads(run), [KEYS * 9]))
+    assert of.keys() == due and of.close() == due and code(of.close) == code(of.keys) == code(of.split) == 255, kind
+
+
+def seats_of_a_renewed_set():
+    of = listset.RenewedSet("lazy", 2, 2, patience=0.02)
+    mine, rests = of.split(), of.split()
+    assert code(of.split) == 17 and code(of.close) == 16 and all(mine.add(key) for key in range(20))
+    with of._places[1].lock:  # (as a thread has it that stays in a call)
+        for call, key in ((mine.add, 20), (rests.contains, 1)):
+            assert raised(call, key) == (listset.TimedOut, "timed out: another thread was in a call for too long")
+        assert 19 in mine and 20 not in mine
+    assert mine.add(20) and 20 in rests
+    mine.drop()
+    assert code(mine.add, 1) == 255 and code(of.split().try_add, 30) is None
+    rests.drop()
+    assert of.close() == [*range(21), 30]
+    none = listset.RenewedSet("lazy", 1, 0)
+    assert none.split().try_add(1) is Added.FULL
+
+
+def shared(kind):
+    of = listset.Shared(kind, 2, 500, [7])
+    found = by_threads(lambda number: [of.try_add(KEYS + number + THREADS * key) for key in range(300)])
+    assert [it.count(Added.FULL) for it in found].count(0) < THREADS and sum(it.count(Added.TRUE) for it in found) == 1000
+    assert 7 in of and of.remove(7) and of.discard(7) is None and of.ceiling(0) == KEYS and raised(of.add, 7)[0] is listset.Full
+    assert len(of.close()) == 1000 and code(of.add, 1) == code(of.close) == 255
+
+
+def two_users():
+    """Expects an error of a call from a seat while another thread is in a call from it."""
+    mine = listset.open("lazy", 1, 1)
+    with mine._used():
+        text = "no seat is here: it was moved, gathered or closed, or another thread is in a call from it"
+        assert [raised(it, 1) for it in (mine.add, mine.contains)] == [(listset.Fault, text)] * 2 and raised(mine.close)[1] == text
+    assert mine.add(1) and mine.close() == [1]
+
+
 def pages():
-    """How much memory this process takes."""
+    """Returns the number of memory pages of this process."""
     with open("/proc/self/statm") as file:
         return int(file.read().split()[1])
 
 
 def memory():
-    """Sets that nobody holds any more take no memory, each some 3 MB."""
+    """Expects that sets without references are freed; each has about 3 MB."""
     before = pages()
     for _ in range(60):
         listset.open_set("lazy", 8, 16384).split()
@@ -162,7 +258,7 @@ def memory():
 
 
 def side_by_side():
-    """Other threads run while a call of the judge goes on."""
+    """Expects that other threads run during a call of the judge."""
     counted, is_over = [0], threading.Event()
 
     def count():
@@ -183,7 +279,7 @@ def side_by_side():
 
 
 def opened(at, number):
-    """Opens a set with this number as the seats, the quota, the first key or the last."""
+    """Opens a set with `number` as the seats, the quota, the first key or the last key."""
     seats, quota, first, last = [number if at == it else it + 1 for it in range(4)]
     listset.open_set("lazy", seats, quota, [first, last])
 
@@ -191,6 +287,12 @@ def opened(at, number):
 for it in listset.LISTS:
     trial(it)
     ends(it)
+    reads_and_receipts(it)
+    renewed_by_itself(it, 1 if it == "fine" else 50)
+    shared(it)
+renewed_by_hand()
+seats_of_a_renewed_set()
+two_users()
 refusals()
 for place in range(4):
     opened(place, place + 1)

@@ -1,4 +1,4 @@
-// Threads judge the texts of these files at once, and each gets what one got alone.
+// Threads judge the texts of these files at once: each must get what a single thread got.
 //
 //     threads FILE ..
 #include "listset.h"

@@ -1,4 +1,4 @@
-// The words of the program that need no set, by liblistset, for tests/foreign.py.
+// The commands of the program that need no threads, by liblistset, for tests/foreign.py.
 #include "listset.h"
 
 #include <stdbool.h>
@@ -14,18 +14,26 @@ static int value_count;
 static bool is_on;
 static const char *options[3];
 
+// Returns what the program prints for a recording: the verdict, and the diagnosis below a refusal.
+static size_t judge_and_why(const char *text, size_t length, char *to, size_t size, uint8_t *status) {
+  uint8_t of_why;
+  size_t said = listset_judge(text, length, to, size, status);
+  if (said < 16 || memcmp(to, "not linearizable", 16) != 0) return said;
+  return said + listset_why(text, length, to + said, size - said, &of_why);
+}
+
 static const struct {
   const char *word;
   listset_function *plain, *with_flag;
 } OF_A_FILE[] = {
     {"replay", listset_replay, listset_replay},
     {"check", listset_check, listset_check},
-    {"judge", listset_judge, listset_judge},
+    {"judge", judge_and_why, judge_and_why},
     {"draft", listset_draft, listset_draft},
     {"trace", listset_trace, listset_trace_with_chains},
 };
 
-// The words with a zero byte between two, of which those before the text are skipped; gives their length.
+// Joins the words after the text with a zero byte between two. Returns the length.
 static size_t join(const char **words, int count, const char *before) {
   size_t length = 0;
   for (int at = 0; at < count; at++) {
@@ -78,7 +86,7 @@ int main(int count, char **words) {
   uint8_t status = 255;
   read_words(count - 2, words + 2);
   size_t length = asked(words[1], &status);
-  // (the line about a trouble begins as no answer does)
+  // No answer begins as a line with an error does.
   fwrite(room, 1, length, length >= 9 && memcmp(room, "listset: ", 9) == 0 ? stderr : stdout);
   return status;
 }

@@ -1,4 +1,4 @@
-//! The functions of C, as `listset.h` has them, and how each is asked: a second time where its text wants more room.
+//! The judge's functions of C, as `listset.h` declares them, and calls of them that make a larger room if the text does not fit.
 
 use crate::Wrong;
 
@@ -42,17 +42,17 @@ extern "C" {
 }
 
 pub fn of_room(function: OfRoom) -> Result<String, Wrong> {
-    // SAFETY: the pointers are those of `asked`, to a room of that size and to a status, which nobody else has.
+    // SAFETY: `asked` passes pointers to a room of that size and to a status, and nobody else uses either.
     asked(|room, size, status| unsafe { function(room, size, status) })
 }
 
 pub fn of_text(function: OfText, text: &[u8]) -> Result<String, Wrong> {
-    // SAFETY: the same, and those of a slice, which does not change meanwhile.
+    // SAFETY: as in `of_room`; the other pointer is that of a slice, which is borrowed during the call.
     asked(|room, size, status| unsafe { function(text.as_ptr(), text.len(), room, size, status) })
 }
 
 pub fn of_two_texts(function: OfTwoTexts, text: &[u8], options: &[u8]) -> Result<String, Wrong> {
-    // SAFETY: the same, with two slices.
+    // SAFETY: as in `of_text`, with two slices.
     asked(|room, size, status| unsafe {
         function(text.as_ptr(), text.len(), options.as_ptr(), options.len(), room, size, status)
     })

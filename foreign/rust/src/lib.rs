@@ -1,5 +1,6 @@
-//! Sorted-list sets that threads share ([`open`], [`Seat`], [`Shared`]), and their judge in one's own process: a text in, a text out. Both are
-//! the functions of `liblistset.a`, of which it is proved what they do.
+//! Sorted-list sets that threads share ([`open`], [`Seat`], [`Shared`], [`RenewedSet`]), and the judge of their calls.
+//!
+//! Both call the functions of `liblistset.a`. A function of the judge reads a text and returns a text:
 //!
 //! ```
 //! let schedule = listset::generated("lazy", 2, 4, 10, 5, 1)?;
@@ -9,27 +10,29 @@
 //! # Ok::<(), listset::Wrong>(())
 //! ```
 //!
-//! Any number of threads may call at once.
+//! Any number of threads may call the judge at once. The page FOREIGN.md says what is proved of the functions.
 
 use std::error::Error;
 use std::ffi::CStr;
 use std::fmt::{self, Display};
 
 mod calls;
+mod renewed;
 mod sets;
 mod shared;
 
-pub use sets::{open, Added, Fault, List, Seat};
+pub use renewed::{OwnSeat, RenewedSet};
+pub use sets::{most_reads, open, renew, Added, Fault, Left, List, Receipt, Refused, Seat};
 pub use shared::Shared;
 
 use calls::{of_room, of_text, of_two_texts};
 
-/// What the program `listset` would say with an exit status that is not 0.
+/// The error of the program `listset`.
 #[derive(Clone, Debug, PartialEq, Eq)]
 pub struct Wrong {
-    /// What it prints: the first fault of an order, the trace up to an event that is not enabled, or the line about a trouble.
+    /// What the program prints: the line with the error, the first error of an order, or the trace up to an event that is not enabled.
     pub text: String,
-    /// 1 of a wrong text, 2 of a wrong value, 3 of want of memory.
+    /// The exit status: 1 for a wrong text, 2 for a wrong argument, 3 if memory ran out.
     pub status: u8,
 }
 
@@ -41,58 +44,61 @@ impl Display for Wrong {
 
 impl Error for Wrong {}
 
-/// What is drawn of a run, in moments, and in how many columns; all of it, at its own width, where nothing is given.
+/// The part of a run to draw. `None` stands for the run's own beginning, end or width.
 #[derive(Clone, Copy, Debug, Default)]
 pub struct Window {
+    /// The first moment.
     pub from: Option<u32>,
+    /// The last moment.
     pub to: Option<u32>,
+    /// The number of columns.
     pub width: Option<u32>,
 }
 
-/// What the library is, in four lines: `listset` and the version; the kit and the logic; `commit` and that of its sources, or 40
-/// zeros; `proof checked` where it is proved, else `proof missing`.
+/// Returns four lines about the library: `listset` and the version; the kit and the logic; `commit` and the commit of the sources, or 40
+/// zeros; `proof checked` if the library is proved, else `proof missing`.
 pub fn version() -> &'static str {
-    // SAFETY: it gives a text that is constant and ends with a zero byte.
+    // SAFETY: the function returns a constant text that ends with a zero byte.
     let told = unsafe { CStr::from_ptr(calls::listset_version()) };
     told.to_str().expect("the version is of ASCII")
 }
 
-/// The report of a schedule.
+/// Runs a schedule. Returns its report.
 pub fn replay(schedule: impl AsRef<[u8]>) -> Result<String, Wrong> {
     of_text(calls::listset_replay, schedule.as_ref())
 }
 
-/// `ok N calls` if some order explains the calls of a recording; else a few calls that show that none does.
+/// Judges a recording. Returns `ok N calls` if some order explains its calls, otherwise an error with calls that show that none does.
 pub fn judge_text(recording: impl AsRef<[u8]>) -> Result<String, Wrong> {
     of_text(calls::listset_judge, recording.as_ref())
 }
 
-/// Whether the order of a report explains its calls; else the first fault.
+/// Checks a report. Returns its first error if its order does not explain its calls.
 pub fn check(report: impl AsRef<[u8]>) -> Result<(), Wrong> {
     of_text(calls::listset_check, report.as_ref()).map(|_| ())
 }
 
-/// What each step of a schedule did.
+/// Returns the trace of a schedule: what each step did.
 pub fn trace(schedule: impl AsRef<[u8]>) -> Result<String, Wrong> {
     of_text(calls::listset_trace, schedule.as_ref())
 }
 
-/// The same, with the chain after each event that changed it.
+/// Returns the trace of a schedule, with the chain after each event that changed the chain.
 pub fn trace_with_chains(schedule: impl AsRef<[u8]>) -> Result<String, Wrong> {
     of_text(calls::listset_trace_with_chains, schedule.as_ref())
 }
 
-/// The schedule of a draft.
+/// Returns the schedule of a draft.
 pub fn draft(draft: impl AsRef<[u8]>) -> Result<String, Wrong> {
     of_text(calls::listset_draft, draft.as_ref())
 }
 
-/// The picture of a schedule or a report.
+/// Returns the picture of a schedule or a report, as text.
 pub fn show(text: impl AsRef<[u8]>, window: Window) -> Result<String, Wrong> {
     of_two_texts(calls::listset_show, text.as_ref(), options(window).as_bytes())
 }
 
-/// The same as an SVG.
+/// Returns the picture of a schedule or a report, as an SVG.
 pub fn show_svg(text: impl AsRef<[u8]>, window: Window) -> Result<String, Wrong> {
     of_two_texts(calls::listset_show_svg, text.as_ref(), options(window).as_bytes())
 }
@@ -101,28 +107,28 @@ fn options(Window { from, to, width }: Window) -> String {
     [from, to, width].map(|it| it.map_or(String::new(), |number| format!("={number}"))).join("\0")
 }
 
-/// A schedule that is generated; `kind` is coarse, fine, optimistic, lazy or lock-free.
+/// Generates a schedule. `kind` is coarse, fine, optimistic, lazy or lock-free.
 pub fn generated(kind: &str, threads: u32, quota: u32, calls: u32, keys: u32, seed: u64) -> Result<String, Wrong> {
     let values = format!("{kind}\0{threads}\0{quota}\0{calls}\0{keys}\0{seed}");
     of_text(calls::listset_gen, values.as_bytes())
 }
 
-/// The names of the examples, each with its list and the line about it.
+/// Returns the names of the examples, each with its list and a line about it.
 pub fn examples() -> Result<String, Wrong> {
     of_room(calls::listset_examples)
 }
 
-/// The schedule of an example.
+/// Returns the schedule of the example with this name.
 pub fn example(name: &str) -> Result<String, Wrong> {
     of_text(calls::listset_example, name.as_bytes())
 }
 
-/// The report of a list without the check that the example of this name shows.
+/// Returns the report of the example with this name, of a list without the check that the example shows.
 pub fn broken_example(name: &str) -> Result<String, Wrong> {
     of_text(calls::listset_broken_example, name.as_bytes())
 }
 
-/// Each line about a fault, and each cause in a sentence.
+/// Returns a line about each error, and a sentence about each cause.
 pub fn faults() -> Result<String, Wrong> {
     of_room(calls::listset_faults)
 }

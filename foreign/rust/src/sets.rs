@@ -3,15 +3,16 @@
 use std::error::Error;
 use std::ffi::{c_void, CStr};
 use std::fmt::{self, Display};
+use std::mem::replace;
 use std::os::raw::c_char;
 use std::ptr::null_mut;
 use std::sync::atomic::{AtomicU64, Ordering};
 
-/// As `listset.h` has it.
+/// A seat or a receipt of C, as `listset.h` declares them.
 #[derive(Debug)]
 #[repr(C)]
-struct Raw {
-    full: bool,
+pub(crate) struct Raw {
+    pub(crate) full: bool,
     at: *mut c_void,
 }
 
@@ -21,22 +22,30 @@ extern "C" {
     fn listset_add(seat: *mut Raw, key: u32) -> u8;
     fn listset_remove(seat: *mut Raw, key: u32) -> u8;
     fn listset_contains(seat: *mut Raw, key: u32) -> u8;
+    fn listset_contains_now(seat: *mut Raw, key: u32) -> u8;
+    fn listset_most_reads(seats: u32, quota: u32, opening: u32) -> u64;
+    fn listset_receipt_of(seat: *mut Raw, out: *mut Raw) -> u8;
+    fn listset_after(seat: *mut Raw, given: *mut Raw) -> u8;
     fn listset_ceiling(seat: *mut Raw, key: u32, at: *mut u32) -> u8;
     fn listset_gather(into: *mut Raw, from: *mut Raw) -> u8;
     fn listset_close(seat: *mut Raw) -> u8;
+    fn listset_close_all(seats: *mut Raw, places: usize) -> u8;
+    fn listset_renew(seats: *mut Raw, places: usize, kind: u8, count: u32, quota: u32, number: u64) -> u8;
     fn listset_keys(closed: *mut Raw, room: *mut u32, places: usize) -> usize;
     fn listset_drop(seat: *mut Raw);
     fn listset_fault_text(fault: u8) -> *const c_char;
 }
 
-const NONE: Raw = Raw { full: false, at: null_mut() };
+pub(crate) const NONE: Raw = Raw { full: false, at: null_mut() };
 
 const TRUE: u8 = 1;
 const FULL: u8 = 2;
 const AT: u8 = 3;
+const MAY_BLOCK: u8 = 254;
 const NO_SEAT: u8 = 255;
+const MOST_SEATS: usize = 64;
 
-/// The lists.
+/// The five lists.
 #[derive(Clone, Copy, Debug, PartialEq, Eq)]
 #[repr(u8)]
 pub enum List {
@@ -47,47 +56,80 @@ pub enum List {
     LockFree,
 }
 
-/// What an `add` answers.
+/// The reply of an `add`.
 #[derive(Clone, Copy, Debug, PartialEq, Eq)]
+#[must_use = "a key that is `Full` is not in the set"]
 pub enum Added {
+    /// The key was absent, and was added.
     True,
+    /// The key was present.
     False,
-    /// The key is not there, and the seat has used its quota.
+    /// The key is absent, and the seat has used its quota.
     Full,
 }
 
-/// Why something is refused.
+/// Why a call was refused.
 #[derive(Clone, Copy, Debug, PartialEq, Eq)]
 #[repr(u8)]
 pub enum Fault {
-    /// The seats are not 1 to 64.
+    /// The number of seats is not 1 to 64.
     Seats = 10,
     /// The quota is above 16,384.
     Quota,
-    /// The keys do not increase, or are more than 1,048,576.
+    /// The keys are not in strictly increasing order, or are more than 1,048,576.
     Keys,
-    /// Memory was refused.
+    /// An allocation failed.
     Memory,
-    /// Not all seats are gathered.
+    /// Not all seats of the set are gathered.
     SeatsOut = 16,
-    /// No seat is left to be split off.
+    /// No seat can be split off.
     NoMore,
-    /// The seats are of two sets.
+    /// The seats, or a seat and a receipt, are of two sets.
     OtherSet,
+    /// `contains_now` needs a lazy or a lock-free list.
+    ReadsBlock,
+    /// Another thread was in a call for too long.
+    TimedOut,
+    /// The set is closed.
+    Closed = 255,
 }
 
 impl Display for Fault {
     fn fmt(&self, f: &mut fmt::Formatter) -> fmt::Result {
-        // SAFETY: it gives a text that is constant and ends with a zero byte.
+        // SAFETY: the function returns a constant text that ends with a zero byte.
         f.write_str(&unsafe { CStr::from_ptr(listset_fault_text(*self as u8)) }.to_string_lossy())
     }
 }
 
 impl Error for Fault {}
 
-fn told(code: u8) -> Result<(), Fault> {
+/// An error that returns the refused argument. `?` converts it to a boxed error, or to its [`Fault`], which drops the argument.
+#[derive(Debug)]
+pub struct Refused<B> {
+    /// The argument.
+    pub back: B,
+    /// Why it was refused.
+    pub fault: Fault,
+}
+
+impl<B> Display for Refused<B> {
+    fn fmt(&self, f: &mut fmt::Formatter) -> fmt::Result {
+        self.fault.fmt(f)
+    }
+}
+
+impl<B: fmt::Debug> Error for Refused<B> {}
+
+impl<B> From<Refused<B>> for Fault {
+    fn from(refused: Refused<B>) -> Fault {
+        refused.fault
+    }
+}
+
+/// Returns the fault with this number; `Ok` for 0.
+pub(crate) fn told(code: u8) -> Result<(), Fault> {
     use Fault::*;
-    let all = [Seats, Quota, Keys, Memory, SeatsOut, NoMore, OtherSet];
+    let all = [Seats, Quota, Keys, Memory, SeatsOut, NoMore, OtherSet, ReadsBlock, TimedOut, Closed];
     match all.into_iter().find(|it| *it as u8 == code) {
         Some(fault) => Err(fault),
         None if code == 0 => Ok(()),
@@ -95,7 +137,7 @@ fn told(code: u8) -> Result<(), Fault> {
     }
 }
 
-/// A thread's place in a set. It is no copy, one thread uses it at a time, and it may go to another thread.
+/// A thread's seat in a set. It cannot be copied. One thread at a time uses it, and it may go to another thread.
 ///
 /// ```
 /// use listset::{open, Added, List};
@@ -103,43 +145,146 @@ fn told(code: u8) -> Result<(), Fault> {
 /// let mut mine = open(List::Lazy, 2, 1000, &[])?;
 /// let mut other = mine.split()?;
 /// std::thread::scope(|threads| {
-///     threads.spawn(|| other.add(9));
+///     threads.spawn(|| assert_eq!(other.add(9), Added::True));
 ///     assert_eq!(mine.add(7), Added::True);
 /// });
-/// mine.gather(other).map_err(|it| it.1)?;
-/// assert_eq!(mine.close().map_err(|it| it.1)?, [7, 9]);
-/// # Ok::<(), listset::Fault>(())
+/// mine.gather(other)?;
+/// assert_eq!(mine.close()?, [7, 9]);
+/// # Ok::<(), Box<dyn std::error::Error>>(())
 /// ```
 #[derive(Debug)]
-#[repr(align(128))] // a call writes to it, so each has lines of the cache of its own
+#[repr(align(128))] // Seats share no cache line, since a call writes to its seat.
 pub struct Seat {
-    raw: Raw,
+    pub(crate) raw: Raw,
 }
 
 // SAFETY: the crate ffi_sets proves that what a seat holds may go to another thread.
 unsafe impl Send for Seat {}
 
-/// Opens a set with so many seats, each of which may put in as many keys as the quota says, and with keys that rise. The seat has
-/// all others within it.
-pub fn open(list: List, seats: u32, quota: u32, keys: &[u32]) -> Result<Seat, Fault> {
+// SAFETY: no function takes `&Seat`. (`?` converts an error with a seat to `Box<dyn Error + Send + Sync>`, which needs `Sync`.)
+unsafe impl Sync for Seat {}
+
+/// A receipt of all that a seat had seen when it gave the receipt. It may go to any thread.
+#[derive(Debug)]
+pub struct Receipt {
+    raw: Raw,
+}
+
+// SAFETY: as for a seat.
+unsafe impl Send for Receipt {}
+
+// SAFETY: no function takes `&Receipt`.
+unsafe impl Sync for Receipt {}
+
+/// Returns the maximum number of steps of [`Seat::contains_now`] in the runs of a list that was opened with `seats` seats, this quota and
+/// `keys` keys; 0 if no set opens with these.
+pub fn most_reads(seats: u32, quota: u32, keys: u32) -> u64 {
+    // SAFETY: the function takes only numbers.
+    unsafe { listset_most_reads(seats, quota, keys) }
+}
+
+/// Returns a number that no other set of this program has.
+pub(crate) fn next_number() -> u64 {
     static SETS: AtomicU64 = AtomicU64::new(0);
-    let number = SETS.fetch_add(1, Ordering::Relaxed);
+    SETS.fetch_add(1, Ordering::Relaxed)
+}
+
+/// Opens a set with `seats` seats, each of which may add `quota` keys, and with keys in strictly increasing order. Returns a seat that
+/// contains all others.
+pub fn open(list: List, seats: u32, quota: u32, keys: &[u32]) -> Result<Seat, Fault> {
     let mut made = Seat { raw: NONE };
-    // SAFETY: the pointers are those of one slice, and of a seat that is empty. No other set of this program has the number.
-    told(unsafe { listset_open(list as u8, seats, quota, number, keys.as_ptr(), keys.len(), &mut made.raw) })?;
+    // SAFETY: the pointers are those of a slice and of an empty seat. No other set of this program has the number.
+    told(unsafe { listset_open(list as u8, seats, quota, next_number(), keys.as_ptr(), keys.len(), &mut made.raw) })?;
     Ok(made)
 }
 
-// SAFETY of each call here: `&mut self` is one seat, which this thread alone uses.
+/// What a refused renewal returns: the seats of the set, or the keys of the set if it is closed.
+#[derive(Debug)]
+pub enum Left {
+    /// All seats of the set, which is still open.
+    Seats(Vec<Seat>),
+    /// The final keys of the set, which is closed.
+    Keys(Vec<u32>),
+}
+
+/// Closes the set whose seats are all in `seats`, and opens a set of the list `list` with its keys. Returns the `count` seats of that set,
+/// each with this quota.
+///
+/// ```
+/// use listset::{open, renew, Added, List};
+///
+/// let mut seat = open(List::Lazy, 1, 2, &[])?;
+/// assert_eq!([1, 2, 3].map(|key| seat.add(key)), [Added::True, Added::True, Added::Full]);
+/// seat.remove(1);
+/// let mut seats = renew(vec![seat], List::LockFree, 4, 1000)?;
+/// assert!(seats[3].add(3) == Added::True && seats[0].contains(2));
+/// # Ok::<(), Box<dyn std::error::Error>>(())
+/// ```
+pub fn renew(seats: Vec<Seat>, list: List, count: u32, quota: u32) -> Result<Vec<Seat>, Refused<Left>> {
+    let mut places = seats;
+    if count as usize <= MOST_SEATS {
+        places.resize_with(places.len().max(count as usize), || Seat { raw: NONE });
+    }
+    match renew_in(&mut places, list, count, quota) {
+        Ok(()) => {
+            places.truncate(count as usize);
+            Ok(places)
+        }
+        Err(fault) => {
+            places.retain(|it| it.raw.full);
+            let keys = places.first_mut().and_then(|it| keys_of(&mut it.raw));
+            let back = match keys {
+                Some(keys) => Left::Keys(keys),
+                None => Left::Seats(places),
+            };
+            Err(Refused { back, fault })
+        }
+    }
+}
+
+/// Renews the set whose seats are all in these places, or the closed set in the first place. Places may be empty.
+pub(crate) fn renew_in(places: &mut [Seat], list: List, count: u32, quota: u32) -> Result<(), Fault> {
+    // SAFETY: the pointers are those of an array of seats that only the caller has. No other set of this program has the number.
+    by_all(places, |raws, many| unsafe { listset_renew(raws, many, list as u8, count, quota, next_number()) })
+}
+
+/// Closes the set whose seats are all in these places. The first place then has the closed set. Places may be empty.
+pub(crate) fn close_in(places: &mut [Seat]) -> Result<(), Fault> {
+    // SAFETY: the pointer is that of an array of seats that only the caller has.
+    by_all(places, |raws, many| unsafe { listset_close_all(raws, many) })
+}
+
+/// Makes a call of all seats in these places, in an array.
+fn by_all(places: &mut [Seat], call: impl FnOnce(*mut Raw, usize) -> u8) -> Result<(), Fault> {
+    let mut raws: Vec<Raw> = places.iter_mut().map(|it| replace(&mut it.raw, NONE)).collect();
+    let code = call(raws.as_mut_ptr(), raws.len());
+    places.iter_mut().zip(raws).for_each(|(place, raw)| place.raw = raw);
+    told(code)
+}
+
+/// Returns the keys of a closed set; `None` for any other seat.
+pub(crate) fn keys_of(closed: &mut Raw) -> Option<Vec<u32>> {
+    // SAFETY: only the caller has the seat, and the room has no places.
+    let count = unsafe { listset_keys(closed, [].as_mut_ptr(), 0) };
+    if count == usize::MAX {
+        return None;
+    }
+    let mut keys = vec![0; count];
+    // SAFETY: only the caller has the seat, and the room has `count` places.
+    unsafe { listset_keys(closed, keys.as_mut_ptr(), count) };
+    Some(keys)
+}
+
+// SAFETY, of each call below: `&mut self` is a seat that only this thread uses.
 impl Seat {
-    /// Takes a seat out of this one. After a gather there is none left in it.
+    /// Splits a seat off this one. Returns [`Fault::NoMore`] if none can be split off, also after a [`gather`](Seat::gather).
     pub fn split(&mut self) -> Result<Seat, Fault> {
         let mut made = Seat { raw: NONE };
         told(unsafe { listset_split(&mut self.raw, &mut made.raw) })?;
         Ok(made)
     }
 
-    /// Puts the key in, if it was not there.
+    /// Adds a key. Returns [`Added::Full`] if the key is absent and the seat has used its quota: [`renew`] gives seats a new one.
     pub fn add(&mut self, key: u32) -> Added {
         match replied(unsafe { listset_add(&mut self.raw, key) }) {
             TRUE => Added::True,
@@ -148,41 +293,60 @@ impl Seat {
         }
     }
 
-    /// Takes the key out, if it was there.
+    /// Removes a key. Returns whether the key was present.
     pub fn remove(&mut self, key: u32) -> bool {
         replied(unsafe { listset_remove(&mut self.raw, key) }) == TRUE
     }
 
-    /// Whether the key is there.
+    /// Returns whether a key is in the set.
     pub fn contains(&mut self, key: u32) -> bool {
         replied(unsafe { listset_contains(&mut self.raw, key) }) == TRUE
     }
 
-    /// The least key at or above this one, if there is one.
+    /// Makes a `contains` of a lazy or a lock-free list. Such a call waits for no lock, and has at most [`most_reads`] steps in every run of
+    /// the list, whatever the other threads do. Returns [`Fault::ReadsBlock`] on the other lists.
+    pub fn contains_now(&mut self, key: u32) -> Result<bool, Fault> {
+        match replied(unsafe { listset_contains_now(&mut self.raw, key) }) {
+            MAY_BLOCK => Err(Fault::ReadsBlock),
+            reply => Ok(reply == TRUE),
+        }
+    }
+
+    /// Returns a receipt of all that this seat has seen, for [`Seat::after`] in another thread.
+    pub fn receipt(&mut self) -> Result<Receipt, Fault> {
+        let mut made = Receipt { raw: NONE };
+        told(unsafe { listset_receipt_of(&mut self.raw, &mut made.raw) })?;
+        Ok(made)
+    }
+
+    /// Takes a receipt: the next calls of this seat come after all calls that the receipt stands for. Returns [`Fault::OtherSet`] if the
+    /// receipt is of another set.
+    pub fn after(&mut self, mut given: Receipt) -> Result<(), Fault> {
+        told(unsafe { listset_after(&mut self.raw, &mut given.raw) })
+    }
+
+    /// Returns the smallest key of the set that is at least `key`.
     pub fn ceiling(&mut self, key: u32) -> Option<u32> {
         let mut at = 0;
         (replied(unsafe { listset_ceiling(&mut self.raw, key, &mut at) }) == AT).then_some(at)
     }
 
-    /// Takes another seat of this set in; one of another set is given back.
-    pub fn gather(&mut self, mut from: Seat) -> Result<(), (Seat, Fault)> {
+    /// Merges another seat of the set into this one. A seat of another set comes back in the error.
+    pub fn gather(&mut self, mut from: Seat) -> Result<(), Refused<Seat>> {
         let code = unsafe { listset_gather(&mut self.raw, &mut from.raw) };
-        told(code).map_err(|fault| (from, fault))
+        told(code).map_err(|fault| Refused { back: from, fault })
     }
 
-    /// Ends the set, whose seats are all within this one, and gives the keys that are left; else the seat is given back.
-    pub fn close(mut self) -> Result<Vec<u32>, (Seat, Fault)> {
-        if let Err(fault) = told(unsafe { listset_close(&mut self.raw) }) {
-            return Err((self, fault));
+    /// Closes the set, all of whose seats this one must contain, and returns its final keys. Otherwise the seat comes back in the error.
+    pub fn close(mut self) -> Result<Vec<u32>, Refused<Seat>> {
+        match told(unsafe { listset_close(&mut self.raw) }) {
+            Ok(()) => Ok(keys_of(&mut self.raw).expect("the set is closed")),
+            Err(fault) => Err(Refused { back: self, fault }),
         }
-        let count = unsafe { listset_keys(&mut self.raw, [].as_mut_ptr(), 0) };
-        let mut keys = vec![0; count];
-        unsafe { listset_keys(&mut self.raw, keys.as_mut_ptr(), count) };
-        Ok(keys)
     }
 }
 
-/// The reply of a call from a seat that is full, as each is.
+/// Returns the reply of a call. Each `Seat` is full, so a call is refused only if it gave up.
 fn replied(reply: u8) -> u8 {
     assert_ne!(reply, NO_SEAT, "the call made 2^64 - 1 rounds");
     reply

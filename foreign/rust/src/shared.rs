@@ -1,23 +1,24 @@
-//! A set that threads share without a seat for each.
+//! A set with a pool of seats.
 
 use std::sync::atomic::{AtomicUsize, Ordering};
 use std::sync::{Mutex, MutexGuard, PoisonError};
 
-use crate::{open, Added, Fault, List, Seat};
+use crate::{open, Added, Fault, List, Refused, Seat};
 
-/// A set behind `&self`, with a pool of seats: a call takes one that no other call uses, or waits for one.
+/// A set with a pool of seats, which any number of threads may call by `&self`: a call takes a seat that no other call uses, or waits for
+/// one.
 ///
-/// What is proved is of seats: a seat's calls keep their order. Two calls of one thread may go by two seats.
+/// Two calls of one thread can use two seats, so not even a thread's own calls are promised to keep their order.
 ///
 /// ```
 /// use listset::{Added, List, Shared};
 ///
 /// let set = Shared::open(List::LockFree, 4, 1000, &[])?;
 /// std::thread::scope(|threads| {
-///     threads.spawn(|| set.add(9));
+///     threads.spawn(|| assert_eq!(set.add(9), Added::True));
 ///     assert_eq!(set.add(7), Added::True);
 /// });
-/// assert_eq!(set.close().map_err(|it| it.1)?, [7, 9]);
+/// assert_eq!(set.close()?, [7, 9]);
 /// # Ok::<(), listset::Fault>(())
 /// ```
 #[derive(Debug)]
@@ -26,8 +27,8 @@ pub struct Shared {
 }
 
 impl Shared {
-    /// Opens a set with so many seats, each of which may put in as many keys as the quota says, and with keys that rise. As many calls
-    /// go on at once as there are seats.
+    /// Opens a set with `seats` seats, each of which may add `quota` keys, and with keys in strictly increasing order. Up to `seats` calls
+    /// run at once.
     pub fn open(list: List, seats: u32, quota: u32, keys: &[u32]) -> Result<Shared, Fault> {
         let mut first = open(list, seats, quota, keys)?;
         let mut all: Vec<Seat> = (1..seats).map(|_| first.split()).collect::<Result<_, _>>()?;
@@ -35,7 +36,7 @@ impl Shared {
         Ok(Shared { seats: all.into_iter().map(Mutex::new).collect() })
     }
 
-    /// Puts the key in, if it was not there; full if each seat has used its quota.
+    /// Adds a key. Returns [`Added::Full`] if the key is absent and each seat has used its quota.
     pub fn add(&self, key: u32) -> Added {
         match self.by(|seat| seat.add(key)) {
             Added::Full => self.seats.iter().map(|it| taken(it).add(key)).find(|it| *it != Added::Full).unwrap_or(Added::Full),
@@ -43,23 +44,23 @@ impl Shared {
         }
     }
 
-    /// Takes the key out, if it was there.
+    /// Removes a key. Returns whether the key was present.
     pub fn remove(&self, key: u32) -> bool {
         self.by(|seat| seat.remove(key))
     }
 
-    /// Whether the key is there.
+    /// Returns whether a key is in the set.
     pub fn contains(&self, key: u32) -> bool {
         self.by(|seat| seat.contains(key))
     }
 
-    /// The least key at or above this one, if there is one.
+    /// Returns the smallest key of the set that is at least `key`.
     pub fn ceiling(&self, key: u32) -> Option<u32> {
         self.by(|seat| seat.ceiling(key))
     }
 
-    /// Ends the set, and gives the keys that are left; else the seat that has all others within it is given back.
-    pub fn close(self) -> Result<Vec<u32>, (Seat, Fault)> {
+    /// Closes the set and returns its final keys. Otherwise the seat that contains all others comes back in the error.
+    pub fn close(self) -> Result<Vec<u32>, Refused<Seat>> {
         let mut seats = self.seats.into_iter().map(|it| it.into_inner().unwrap_or_else(PoisonError::into_inner));
         let mut all = seats.next().expect("a set has a seat");
         for seat in seats {
@@ -68,7 +69,7 @@ impl Shared {
         all.close()
     }
 
-    /// Makes a call from a seat: a thread begins to look for a free one at its own place.
+    /// Makes a call from a free seat. A thread looks for one from its own place on.
     fn by<T>(&self, call: impl FnOnce(&mut Seat) -> T) -> T {
         static THREADS: AtomicUsize = AtomicUsize::new(0);
         thread_local!(static MINE: usize = THREADS.fetch_add(1, Ordering::Relaxed));
@@ -90,14 +91,14 @@ mod tests {
 
     use super::*;
 
-    /// What a thread's calls answer, one of each kind, if they end while others use seats.
+    /// Makes a call of each kind in a thread. Returns the replies; `None` if they do not come.
     fn calls_in_a_thread(set: &Arc<Shared>) -> Option<(Added, bool, Option<u32>, bool)> {
         let (set, (told, heard)) = (Arc::clone(set), mpsc::channel());
         std::thread::spawn(move || told.send((set.add(7), set.contains(7), set.ceiling(0), set.remove(7))));
         heard.recv_timeout(Duration::from_secs(20)).ok()
     }
 
-    /// Others use all seats but one. Of two threads, one after the other, at most one has the free seat at its own place.
+    /// All seats but one are in use. Of two threads, one after the other, at most one has the free seat as its own place.
     #[test]
     fn a_call_takes_a_seat_that_no_other_uses() {
         for (seats, free) in [2, 3, 8].into_iter().flat_map(|seats| (0..seats).map(move |free| (seats, free))) {

@@ -1,4 +1,4 @@
-//! The examples of the repository, judged by four threads at once.
+//! Judges the examples of the repository in four threads at once.
 
 use std::fs::{read_dir, read_to_string};
 use std::path::PathBuf;
@@ -8,7 +8,7 @@ use listset::*;
 
 const THREADS: usize = 4;
 
-/// The schedules that have a report, but for those that are there to be refused, with both texts.
+/// Returns the texts of each schedule and its report, except schedules that must be refused.
 fn pairs() -> Vec<(String, String)> {
     let folder = std::env::var_os("LISTSET_EXAMPLES").map(PathBuf::from);
     let folder = folder.unwrap_or_else(|| PathBuf::from(env!("CARGO_MANIFEST_DIR")).join("../../examples/schedules"));
@@ -16,7 +16,7 @@ fn pairs() -> Vec<(String, String)> {
     let is_right =
         |name: &str| name.ends_with(".schedule") && !refused.lines().any(|line| line.split(':').next() == Some(name));
     let files = read_dir(folder).unwrap().map(|it| it.unwrap());
-    let right = files.filter(|it| it.file_name().to_str().is_some_and(is_right)).map(|it| it.path());
+    let right = files.filter(|it| it.file_name().to_str().map_or(false, is_right)).map(|it| it.path());
     right.filter_map(|it| Some((read_to_string(&it).ok()?, read_to_string(it.with_extension("report")).ok()?))).collect()
 }
 

@@ -1,10 +1,10 @@
-//! Sets that nobody holds any more, closed or not, take no memory. (Other tests would take some meanwhile, so it has a file of its own.)
+//! Expects that dropped sets, closed or not, are freed. (The file has only this test: others would allocate at the same time.)
 
 use std::fs::read_to_string;
 
 use listset::{open, List};
 
-/// How many pages of memory this process takes.
+/// Returns the number of memory pages of this process.
 fn pages() -> i64 {
     read_to_string("/proc/self/statm").unwrap().split(' ').nth(1).unwrap().parse().unwrap()
 }

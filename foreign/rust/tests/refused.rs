@@ -1,12 +1,12 @@
-//! A set that is refused memory says so, keeps none, and is there still. (It has a file of its own, as the `malloc` here is that of the
-//! whole program, but for Rust's own memory.)
+//! Expects that a set reports a failed allocation, leaks nothing and stays usable. (The file has only this test: its `malloc` is that of the
+//! whole program, except for Rust's own memory.)
 
 use std::alloc::{GlobalAlloc, Layout};
 use std::cell::Cell;
 use std::ffi::c_void;
 use std::ptr::null_mut;
 
-use listset::{Added, Fault, List, Shared};
+use listset::{Added, Fault, List, Refused, Shared};
 
 const LISTS: [List; 5] = [List::Coarse, List::Fine, List::Optimistic, List::Lazy, List::LockFree];
 
@@ -17,10 +17,10 @@ extern "C" {
     fn __libc_free(block: *mut c_void);
 }
 
-/// Rust's memory, which no call for `malloc` gives.
+/// Rust's allocator, which does not use `malloc`.
 struct Own;
 
-// SAFETY: the C library gives blocks of this alignment, and takes them back.
+// SAFETY: the C library allocates blocks of this alignment, and frees them.
 unsafe impl GlobalAlloc for Own {
     unsafe fn alloc(&self, layout: Layout) -> *mut u8 {
         aligned_alloc(layout.align(), layout.size()).cast()
@@ -34,7 +34,7 @@ unsafe impl GlobalAlloc for Own {
 #[global_allocator]
 static OWN: Own = Own;
 
-// Of this thread: its calls for memory, which of them is refused (none is number 0), and the blocks that it has.
+// Of this thread: the number of its allocations, which of them fails (0: none), and the number of its blocks.
 thread_local! {
     static ASKED: Cell<usize> = const { Cell::new(0) };
     static REFUSED: Cell<usize> = const { Cell::new(0) };
@@ -68,7 +68,7 @@ unsafe extern "C" fn free(block: *mut c_void) {
     __libc_free(block)
 }
 
-/// What was refused in the life of a set.
+/// What failed in the life of a set.
 #[derive(PartialEq)]
 enum Told {
     Open,
@@ -76,7 +76,7 @@ enum Told {
     Nothing,
 }
 
-/// A set of three seats is opened, used and closed, with this call for memory refused.
+/// Opens, uses and closes a set of three seats, with this allocation failing.
 fn life(list: List, refused: usize) -> Told {
     ASKED.with(|it| it.set(0));
     BLOCKS.with(|it| it.set(0));
@@ -91,9 +91,9 @@ fn life(list: List, refused: usize) -> Told {
     assert_eq!(set.add(7), Added::True);
     let (keys, told) = match set.close() {
         Ok(keys) => (keys, Told::Nothing),
-        Err((mut seat, fault)) => {
+        Err(Refused { back: mut seat, fault }) => {
             assert_eq!((fault, seat.contains(7), seat.add(7)), (Fault::Memory, true, Added::False));
-            (seat.close().map_err(|it| it.1).unwrap(), Told::Close)
+            (seat.close().unwrap(), Told::Close)
         }
     };
     assert_eq!(keys, [5, 7, 9]);

@@ -1,17 +1,17 @@
-//! The lists in four threads, beside sets of std for each thread's own keys, and at misuse.
+//! The lists in four threads, compared with sets of std; and the errors of refused calls.
 
 use std::collections::BTreeSet;
 use std::sync::Barrier;
 use std::thread::scope;
 
-use listset::{open, Added, Fault, List, Seat, Shared};
+use listset::{most_reads, open, renew, Added, Fault, Left, List, Refused, RenewedSet, Seat, Shared};
 
 const LISTS: [List; 5] = [List::Coarse, List::Fine, List::Optimistic, List::Lazy, List::LockFree];
 const THREADS: u32 = 4;
 const CALLS: u32 = 5000;
 const OWN: u32 = 32;
 
-/// A seat is no copy: with `Clone`, both would have this function.
+/// A `Seat` is not `Clone`: if it were, this call would be ambiguous.
 trait Once<T> {
     fn is_once() {}
 }
@@ -19,7 +19,7 @@ impl<S> Once<()> for S {}
 impl<S: Clone> Once<u8> for S {}
 const _: fn() = <Seat as Once<_>>::is_once;
 
-/// Calls on keys that no other thread uses, and the keys that are left of them. The kinds of calls are 4, or 3 without ceilings.
+/// Makes calls of keys that no other thread uses. Returns the keys that remain. There are 4 kinds of calls, or 3 without ceilings.
 fn calls_of(seat: &mut Seat, thread: u32, kinds: u64) -> BTreeSet<u32> {
     let (mut left, mut drawn) = (BTreeSet::new(), u64::from(thread) + 88172645463325252);
     for _ in 0..CALLS {
@@ -48,7 +48,7 @@ fn each_list_keeps_what_its_threads_put_in() {
             let split = seats[0].split().unwrap();
             seats.push(split);
         }
-        // (several threads at ceilings of that list may wait for a remove that nobody makes)
+        // Several threads in ceilings of this list can wait for a remove that nobody makes.
         let kinds = if list == List::LockFree { 3 } else { 4 };
         let left: BTreeSet<u32> = scope(|threads| {
             let run = |(thread, seat)| threads.spawn(move || calls_of(seat, thread, kinds));
@@ -57,9 +57,9 @@ fn each_list_keeps_what_its_threads_put_in() {
         });
         let mut all = seats.pop().unwrap();
         for seat in seats {
-            all.gather(seat).map_err(|it| it.1).unwrap();
+            all.gather(seat).unwrap();
         }
-        assert_eq!(all.close().map_err(|it| it.1).unwrap(), Vec::from_iter(left), "{list:?}");
+        assert_eq!(all.close().unwrap(), Vec::from_iter(left), "{list:?}");
     }
 }
 
@@ -78,7 +78,7 @@ fn more_threads_than_seats_share_a_set() {
         let run = &run;
         scope(|threads| (0..THREADS).for_each(|thread| _ = threads.spawn(move || run(thread))));
         let due: Vec<u32> = (0..THREADS * OWN).filter(|key| key % 3 == 0).collect();
-        assert_eq!(set.close().map_err(|it| it.1).unwrap(), due, "{list:?}");
+        assert_eq!(set.close().unwrap(), due, "{list:?}");
     }
 }
 
@@ -86,12 +86,12 @@ fn more_threads_than_seats_share_a_set() {
 fn a_shared_set_uses_the_quota_of_each_seat() {
     let set = Shared::open(List::Lazy, 2, 1, &[5]).unwrap();
     assert_eq!([1, 2, 3, 1].map(|key| set.add(key)), [Added::True, Added::True, Added::Full, Added::False]);
-    assert_eq!(set.close().map_err(|it| it.1).unwrap(), [1, 2, 5]);
+    assert_eq!(set.close().unwrap(), [1, 2, 5]);
     assert_eq!(Shared::open(List::Lazy, 65, 1, &[]).err(), Some(Fault::Seats));
     assert_eq!(Shared::open(List::Lazy, 0, 1, &[]).err(), Some(Fault::Seats));
 }
 
-/// As many keys are new as the seats have quota for, whichever threads add them, and just those are left.
+/// Expects as many true adds as the seats have quota for, whichever threads make them, and exactly these keys at the end.
 #[test]
 fn threads_use_the_quota_of_each_seat() {
     for (seats, quota) in [(2, 50), (64, 1)] {
@@ -106,11 +106,11 @@ fn threads_use_the_quota_of_each_seat() {
         });
         due.sort_unstable();
         assert_eq!(due.len() as u32, seats * quota);
-        assert_eq!(set.close().map_err(|it| it.1).unwrap(), due);
+        assert_eq!(set.close().unwrap(), due);
     }
 }
 
-/// Threads add the same keys, as many as the seats have quota for: an add is full only if no seat has quota left, and then its key is there.
+/// Threads add the same keys, as many as the seats have quota for. An add may be full only if no seat has quota left; its key is then present.
 #[test]
 fn no_add_is_full_while_a_seat_has_quota() {
     for _ in 0..20 {
@@ -124,7 +124,7 @@ fn no_add_is_full_while_a_seat_has_quota() {
     }
 }
 
-/// Two sets that two threads open at once have two numbers.
+/// Expects two numbers of two sets that two threads open at once.
 #[test]
 fn sets_that_are_opened_at_once_are_told_apart() {
     for _ in 0..1000 {
@@ -137,16 +137,16 @@ fn sets_that_are_opened_at_once_are_told_apart() {
             let other = threads.spawn(run);
             (run(), other.join().unwrap())
         });
-        assert_eq!(mine.gather(other).err().map(|it| it.1), Some(Fault::OtherSet));
+        assert_eq!(mine.gather(other).err().map(Fault::from), Some(Fault::OtherSet));
     }
 }
 
-/// A seat gathers none of another set: of more than 16 bits number, opened in another thread.
+/// Expects that a seat gathers none of another set, among more sets than 16 bits can number.
 #[test]
 fn sets_are_told_apart() {
     let mut mine = open(List::Lazy, 1, 0, &[]).unwrap();
     let run = || {
-        let mut gathered = || mine.gather(open(List::Lazy, 1, 0, &[]).unwrap()).map_err(|it| it.1);
+        let mut gathered = || mine.gather(open(List::Lazy, 1, 0, &[]).unwrap()).map_err(Fault::from);
         (0..70_000).filter(|_| gathered() == Err(Fault::OtherSet)).count()
     };
     assert_eq!(scope(|threads| threads.spawn(run).join()).unwrap(), 70_000);
@@ -155,7 +155,7 @@ fn sets_are_told_apart() {
 #[test]
 fn the_most_keys_and_the_ends_of_the_quota() {
     let mut keys: Vec<u32> = (0..1 << 20).map(|at| 4095 * at).collect();
-    assert!(open(List::Lazy, 1, 0, &keys).unwrap().close().map_err(|it| it.1).unwrap() == keys, "the most opening keys");
+    assert!(open(List::Lazy, 1, 0, &keys).unwrap().close().unwrap() == keys, "the most opening keys");
     keys.push(u32::MAX);
     assert_eq!([&keys[..], &[7, 7], &[9, 5]].map(|it| open(List::Lazy, 1, 1, it).err()), [Some(Fault::Keys); 3]);
     assert_eq!(open(List::Lazy, 1, 16_385, &[]).err(), Some(Fault::Quota));
@@ -173,11 +173,11 @@ fn the_least_key_and_the_greatest() {
         assert_eq!(ends.map(|key| (mine.contains(key), mine.remove(key), mine.contains(key))), [(true, true, false); 2]);
         assert_eq!((mine.ceiling(0), ends.map(|key| mine.add(key))), (None, [Added::True; 2]));
         assert_eq!((mine.ceiling(0), mine.ceiling(1)), (Some(0), Some(u32::MAX)));
-        assert_eq!(mine.close().map_err(|it| it.1).unwrap(), ends, "{list:?}");
+        assert_eq!(mine.close().unwrap(), ends, "{list:?}");
     }
     let shared = Shared::open(List::Lazy, 2, 1, &ends).unwrap();
     assert_eq!((shared.ceiling(0), shared.ceiling(1), shared.contains(u32::MAX)), (Some(0), Some(u32::MAX), true));
-    assert_eq!(shared.close().map_err(|it| it.1).unwrap(), ends);
+    assert_eq!(shared.close().unwrap(), ends);
 }
 
 #[test]
@@ -188,12 +188,131 @@ fn what_is_refused_is_given_back() {
     let mut mine = open(List::Lazy, 2, 1, &[5]).unwrap();
     let mut split = mine.split().unwrap();
     assert_eq!(mine.split().err(), Some(Fault::NoMore));
-    let (mut mine, fault) = mine.close().unwrap_err();
+    let Refused { back: mut mine, fault } = mine.close().unwrap_err();
     assert_eq!(fault, Fault::SeatsOut);
-    let (mut other, fault) = mine.gather(open(List::Lazy, 1, 1, &[6]).unwrap()).unwrap_err();
+    let Refused { back: mut other, fault } = mine.gather(open(List::Lazy, 1, 1, &[6]).unwrap()).unwrap_err();
     assert_eq!((fault, other.contains(6), mine.contains(6)), (Fault::OtherSet, true, false));
     assert_eq!((split.add(8), split.add(9), mine.add(5)), (Added::True, Added::Full, Added::False));
-    mine.gather(split).map_err(|it| it.1).unwrap();
+    mine.gather(split).unwrap();
     assert_eq!((mine.remove(5), mine.ceiling(5), mine.ceiling(9)), (true, Some(8), None));
-    assert_eq!(mine.close().map_err(|it| it.1).unwrap(), [8]);
+    assert_eq!(mine.close().unwrap(), [8]);
+}
+
+/// Expects that `?` converts a refusal to a boxed error, also one that is `Send`, and to a fault, which drops the seat.
+#[test]
+fn a_refusal_is_an_error() {
+    fn closed() -> Result<Vec<u32>, Box<dyn std::error::Error + Send + Sync>> {
+        let mut mine = open(List::Lazy, 2, 1, &[])?;
+        let _other = mine.split()?;
+        Ok(mine.close()?)
+    }
+    fn gathered() -> Result<(), Fault> {
+        Ok(open(List::Lazy, 1, 1, &[])?.gather(open(List::Lazy, 1, 1, &[])?)?)
+    }
+    assert_eq!(closed().unwrap_err().to_string(), "not all seats are gathered");
+    assert_eq!(gathered(), Err(Fault::OtherSet));
+}
+
+/// Expects the replies of `contains_now`, and an error on lists whose `contains` can block.
+#[test]
+fn reads_that_do_not_block() {
+    for list in LISTS {
+        let mut mine = open(list, 2, 3, &[5, 9]).unwrap();
+        let blocks = !matches!(list, List::Lazy | List::LockFree);
+        let due = |is_there| if blocks { Err(Fault::ReadsBlock) } else { Ok(is_there) };
+        assert_eq!([4, 5, 9, u32::MAX].map(|key| mine.contains_now(key)), [false, true, true, false].map(due));
+        assert!(mine.remove(5) && mine.add(6) == Added::True);
+        assert_eq!([5, 6].map(|key| mine.contains_now(key)), [false, true].map(due), "{list:?}");
+    }
+    assert_eq!((most_reads(2, 3, 2), most_reads(64, 16_384, 1 << 20)), (18, (1 << 22) + 2));
+    assert_eq!([most_reads(0, 1, 1), most_reads(65, 1, 1), most_reads(1, 16_385, 1), most_reads(1, 1, (1 << 20) + 1)], [0; 4]);
+}
+
+/// Sends a receipt to another thread. Expects that only a seat of its set takes it.
+#[test]
+fn receipts() {
+    for list in LISTS {
+        let mut mine = open(list, 2, 1, &[]).unwrap();
+        let (mut other, mut apart) = (mine.split().unwrap(), open(list, 1, 1, &[]).unwrap());
+        assert_eq!(mine.add(7), Added::True);
+        let given = [mine.receipt().unwrap(), mine.receipt().unwrap()];
+        let [first, second] = given;
+        assert_eq!(apart.after(first), Err(Fault::OtherSet));
+        let found = scope(|threads| threads.spawn(|| (other.after(second), other.contains(7))).join().unwrap());
+        assert_eq!(found, (Ok(()), true), "{list:?}");
+        mine.gather(other).unwrap();
+        assert_eq!(mine.close().unwrap(), [7]);
+    }
+}
+
+/// Renews a set as one of another list, with other seats and a new quota. Expects the seats or the keys back from a refused renewal.
+#[test]
+fn a_set_is_renewed() {
+    let mut seats = vec![open(List::Lazy, 3, 1, &[5]).unwrap()];
+    for _ in 1..3 {
+        let split = seats[0].split().unwrap();
+        seats.push(split);
+    }
+    assert_eq!(
+        [(0, 7), (1, 8), (0, 9)].map(|(seat, key): (usize, u32)| seats[seat].add(key)),
+        [Added::True, Added::True, Added::Full]
+    );
+    let out = seats.pop();
+    let mut seats = match renew(seats, List::Fine, 1, 9).unwrap_err() {
+        Refused { back: Left::Seats(seats), fault: Fault::SeatsOut } => seats,
+        other => panic!("{other:?}"),
+    };
+    seats.extend(out);
+    for (count, quota, due) in [(0, 1, Fault::Seats), (65, 1, Fault::Seats), (1, 16_385, Fault::Quota)] {
+        let refused = renew(seats, List::Fine, count, quota).unwrap_err();
+        seats = match refused.back {
+            Left::Seats(seats) => seats,
+            Left::Keys(keys) => panic!("{keys:?}"),
+        };
+        assert_eq!((seats.len(), refused.fault), (3, due));
+    }
+    for (list, count) in LISTS.into_iter().zip([1, 64, 2, 5, 3]) {
+        seats = renew(seats, list, count, 1).unwrap();
+        assert_eq!((seats.len(), seats[0].ceiling(0)), (count as usize, Some(5)), "{list:?}");
+    }
+    assert!(seats[2].add(9) == Added::True && seats[0].remove(7));
+    let mut seats = renew(seats, List::Lazy, 1, 0).unwrap();
+    assert_eq!(seats.remove(0).close().unwrap(), [5, 8, 9]);
+}
+
+/// Threads call a set that renews itself; its quota is small, so it is renewed hundreds of times.
+#[test]
+fn a_renewed_set_keeps_what_its_threads_put_in() {
+    for (list, quota) in LISTS.into_iter().zip([50, 50, 50, 1, 7]) {
+        let set = RenewedSet::open(list, THREADS, quota, &[1 << 20]).unwrap();
+        let run = |thread: u32| {
+            let mut seat = set.split().unwrap();
+            for key in (thread * OWN..(thread + 1) * OWN).cycle().take(2000) {
+                assert_eq!((seat.add(key), seat.contains(key)), (Ok(Added::True), Ok(true)));
+                // A ceiling of the lock-free list can wait for an add of another thread, which may make none any more.
+                assert!(list == List::LockFree || seat.ceiling(key) == Ok(Some(key)));
+                assert_eq!((seat.remove(key), seat.remove(key)), (Ok(true), Ok(false)));
+            }
+            (0..OWN).for_each(|at| assert_eq!(seat.add(thread * OWN + at), Ok(Added::True)));
+        };
+        let run = &run;
+        scope(|threads| (0..THREADS).for_each(|thread| _ = threads.spawn(move || run(thread))));
+        let due: Vec<u32> = (0..THREADS * OWN).chain([1 << 20]).collect();
+        assert_eq!((set.keys(), set.close(), set.keys()), (Ok(due.clone()), Ok(due), Err(Fault::Closed)), "{list:?}");
+    }
+}
+
+/// Expects as many seats as were asked for, a free seat after a drop, and that no thread waits for one between two calls.
+#[test]
+fn the_seats_of_a_renewed_set() {
+    let set = RenewedSet::open(List::LockFree, 2, 1, &[]).unwrap();
+    let (mut mine, rests) = (set.split().unwrap(), set.split().unwrap());
+    assert_eq!((set.split().err(), set.close()), (Some(Fault::NoMore), Err(Fault::SeatsOut)));
+    assert!((0..100).all(|key| mine.add(key) == Ok(Added::True)));
+    drop(rests);
+    assert!(set.split().is_ok());
+    drop(mine);
+    assert_eq!(set.close().map(|it| it.len()), Ok(100));
+    let none = RenewedSet::open(List::Lazy, 1, 0, &[]).unwrap();
+    assert_eq!(none.split().unwrap().add(1), Ok(Added::Full));
 }

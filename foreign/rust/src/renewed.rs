@@ -1,0 +1,335 @@
+//! A set that renews itself.
+
+use std::sync::atomic::{AtomicBool, Ordering};
+use std::sync::{Mutex, MutexGuard, TryLockError};
+use std::thread::sleep;
+use std::time::{Duration, Instant};
+
+use crate::sets::{close_in, keys_of, renew_in, NONE};
+use crate::{open, Added, Fault, List, Seat};
+
+const POLL: Duration = Duration::from_micros(50);
+const LONG: Duration = Duration::from_millis(5);
+const MOST_OPENING: u64 = 1 << 20;
+
+/// A set that renews itself: when a seat has used its quota, the set is closed, and another one opened with its keys.
+///
+/// A thread takes a seat of its own by [`RenewedSet::split`], and returns it by dropping it. During a renewal calls wait, and the renewal
+/// waits for pending calls, but for no thread that is between two calls. A call waits at most
+/// [`patience`](RenewedSet::with_patience) for another one. Then it returns [`Fault::TimedOut`], and was not made. The page FOREIGN.md says
+/// what is promised of the order of calls.
+///
+/// ```
+/// use listset::{List, RenewedSet};
+///
+/// let set = RenewedSet::open(List::Lazy, 4, 100, &[])?;
+/// std::thread::scope(|threads| {
+///     for first in 0..4 {
+///         let mut seat = set.split()?;
+///         threads.spawn(move || (0..1000).for_each(|at| assert!(seat.add(4 * at + first) == Ok(listset::Added::True))));
+///     }
+///     Ok::<(), listset::Fault>(())
+/// })?;
+/// assert_eq!(set.close()?.len(), 4000);
+/// # Ok::<(), listset::Fault>(())
+/// ```
+#[derive(Debug)]
+pub struct RenewedSet {
+    list: List,
+    quota: u32,
+    patience: Duration,
+    renewing: Mutex<()>,   // Is locked before all places are.
+    is_wanted: AtomicBool, // A thread has waited long for the places: the others' next calls wait for it.
+    places: Vec<Place>,
+}
+
+#[derive(Debug)]
+#[repr(align(128))]
+struct Place {
+    is_taken: AtomicBool,
+    part: Mutex<Part>,
+}
+
+/// A place's part of the set.
+#[derive(Debug)]
+struct Part {
+    seat: Seat,
+    stage: Stage,
+    /// How many keys the set had when it was last opened. Only the first place has this number.
+    opened_with: u64,
+    /// How many keys this seat has added since.
+    adds: u64,
+    /// How many keys this seat has removed since.
+    removes: u64,
+}
+
+/// The stage of the set. All places have the same one. It changes only while all places are locked.
+#[derive(Clone, Copy, Debug, PartialEq)]
+enum Stage {
+    Open,
+    ToBeRenewed,
+    Closed,
+}
+
+/// All places, locked, and the index of the caller's. The fields are dropped in this order.
+struct All<'a> {
+    parts: Vec<MutexGuard<'a, Part>>,
+    mine: usize,
+    _wanted: Wanted<'a>,
+}
+
+/// The right to lock all places.
+struct Wanted<'a> {
+    set: &'a RenewedSet,
+    _one: MutexGuard<'a, ()>,
+}
+
+impl Drop for Wanted<'_> {
+    fn drop(&mut self) {
+        self.set.is_wanted.store(false, Ordering::Release);
+    }
+}
+
+impl Part {
+    fn add(&mut self, key: u32) -> Added {
+        let added = self.seat.add(key);
+        self.adds += u64::from(added == Added::True);
+        added
+    }
+}
+
+impl All<'_> {
+    fn mine(&mut self) -> &mut Part {
+        &mut self.parts[self.mine]
+    }
+
+    fn stage(&self) -> Stage {
+        self.parts[0].stage
+    }
+
+    fn set_stage(&mut self, stage: Stage) {
+        self.parts.iter_mut().for_each(|it| it.stage = stage);
+    }
+
+    fn keys_now(&self) -> u64 {
+        self.parts[0].opened_with + self.parts.iter().map(|it| it.adds).sum::<u64>()
+            - self.parts.iter().map(|it| it.removes).sum::<u64>()
+    }
+
+    /// Makes a call of all seats. If it fails, the stage is `ToBeRenewed`.
+    fn by_all(&mut self, call: impl FnOnce(&mut [Seat]) -> Result<(), Fault>) -> Result<(), Fault> {
+        self.set_stage(Stage::ToBeRenewed);
+        let taken = |it: &mut MutexGuard<Part>| std::mem::replace(&mut it.seat, Seat { raw: NONE });
+        let mut seats: Vec<Seat> = self.parts.iter_mut().map(taken).collect();
+        let done = call(&mut seats);
+        self.parts.iter_mut().zip(seats).for_each(|(part, seat)| part.seat = seat);
+        done
+    }
+
+    fn close(&mut self) -> Result<Vec<u32>, Fault> {
+        self.by_all(close_in)?;
+        Ok(keys_of(&mut self.parts[0].seat.raw).expect("the set is closed"))
+    }
+
+    fn renew(&mut self, list: List, quota: u32) -> Result<(), Fault> {
+        let keys = self.keys_now();
+        self.by_all(|seats| renew_in(seats, list, seats.len() as u32, quota))?;
+        self.parts.iter_mut().for_each(|it| (it.adds, it.removes) = (0, 0));
+        self.parts[0].opened_with = keys;
+        self.set_stage(Stage::Open);
+        Ok(())
+    }
+}
+
+impl RenewedSet {
+    /// Opens a set with 1 to 64 seats, each of which adds `quota` keys before it renews the set, and with keys in strictly increasing order.
+    pub fn open(list: List, seats: u32, quota: u32, keys: &[u32]) -> Result<RenewedSet, Fault> {
+        let mut all = vec![open(list, seats, quota, keys)?];
+        while all.len() < seats as usize {
+            let split = all[0].split()?;
+            all.push(split);
+        }
+        let part = |seat| Mutex::new(Part { seat, stage: Stage::Open, opened_with: keys.len() as u64, adds: 0, removes: 0 });
+        let place = |seat| Place { is_taken: AtomicBool::new(false), part: part(seat) };
+        let places = all.into_iter().map(place).collect();
+        let (renewing, is_wanted) = (Mutex::new(()), AtomicBool::new(false));
+        Ok(RenewedSet { list, quota, patience: Duration::MAX, renewing, is_wanted, places })
+    }
+
+    /// Sets how long a call waits for another one. Without this setting a call waits for ever.
+    pub fn with_patience(self, patience: Duration) -> RenewedSet {
+        RenewedSet { patience, ..self }
+    }
+
+    /// Takes a seat, for a thread. Returns [`Fault::NoMore`] if all seats are taken.
+    pub fn split(&self) -> Result<OwnSeat<'_>, Fault> {
+        let is_free = |it: &&Place| !it.is_taken.swap(true, Ordering::AcqRel);
+        let found = self.places.iter().position(|it| is_free(&it));
+        found.map(|place| OwnSeat { set: self, place }).ok_or(Fault::NoMore)
+    }
+
+    /// Renews the set and returns its keys at that moment. Returns [`Fault::Keys`] if they are more than 1,048,576.
+    pub fn keys(&self) -> Result<Vec<u32>, Fault> {
+        let mut all = self.all(0)?;
+        if all.keys_now() > MOST_OPENING {
+            return Err(Fault::Keys);
+        }
+        let keys = all.close()?;
+        all.renew(self.list, self.quota)?;
+        Ok(keys)
+    }
+
+    /// Closes the set and returns its final keys. Returns [`Fault::SeatsOut`] while a thread has a seat; the set is then unchanged.
+    pub fn close(&self) -> Result<Vec<u32>, Fault> {
+        let mut all = self.all(0)?;
+        if self.places.iter().any(|it| it.is_taken.load(Ordering::Acquire)) {
+            return Err(Fault::SeatsOut);
+        }
+        let keys = all.close()?;
+        all.parts[0].seat = Seat { raw: NONE };
+        all.set_stage(Stage::Closed);
+        Ok(keys)
+    }
+
+    /// Locks `lock`. The thread with the lock may be in a `ceiling` of a lock-free list, which can retry until another call unlinks a
+    /// marked node. An `add` from `helper` unlinks it, and changes no key if the seat of `helper` has used its quota.
+    ///
+    /// A thread with a helper locks all places. After 5 ms the others' next calls wait for it, unless a call could be needed as a helper.
+    fn taken<'a, T>(&self, lock: &'a Mutex<T>, mut helper: Option<&mut Part>) -> Result<MutexGuard<'a, T>, Fault> {
+        let begun = Instant::now();
+        loop {
+            match lock.try_lock() {
+                Ok(held) => return Ok(held),
+                Err(TryLockError::Poisoned(held)) => return Ok(held.into_inner()),
+                Err(TryLockError::WouldBlock) if begun.elapsed() > self.patience => return Err(Fault::TimedOut),
+                Err(TryLockError::WouldBlock) => {}
+            }
+            if let Some(it) = &mut helper {
+                let is_full = it.adds == u64::from(self.quota);
+                if self.list == List::LockFree && is_full && it.stage == Stage::Open {
+                    let _full_or_false = it.seat.add(u32::MAX);
+                }
+                if (self.list != List::LockFree || is_full) && begun.elapsed() > LONG {
+                    self.is_wanted.store(true, Ordering::Release);
+                }
+            }
+            sleep(POLL);
+        }
+    }
+
+    /// Locks all places, the caller's first.
+    fn all(&self, mine: usize) -> Result<All<'_>, Fault> {
+        let wanted = Wanted { set: self, _one: self.taken(&self.renewing, None)? };
+        let mut own = self.taken(&self.places[mine].part, None)?;
+        if own.stage == Stage::Closed {
+            return Err(Fault::Closed);
+        }
+        let mut parts = Vec::with_capacity(self.places.len());
+        for (at, place) in self.places.iter().enumerate().filter(|(at, _)| *at != mine) {
+            parts.push((at, self.taken(&place.part, Some(&mut own))?));
+        }
+        let mut parts: Vec<_> = parts.into_iter().map(|(_, part)| part).collect();
+        parts.insert(mine, own);
+        Ok(All { parts, mine, _wanted: wanted })
+    }
+
+    /// Makes a call from a place. If an allocation of the last renewal failed, renews the set first.
+    fn by<T>(&self, place: usize, call: impl FnOnce(&mut Part) -> T) -> Result<T, Fault> {
+        loop {
+            if self.is_wanted.load(Ordering::Acquire) {
+                drop(self.taken(&self.renewing, None)?);
+            }
+            let mut part = self.taken(&self.places[place].part, None)?;
+            if part.stage == Stage::Open {
+                return Ok(call(&mut part));
+            }
+            drop(part);
+            let mut all = self.all(place)?;
+            if all.stage() != Stage::Open {
+                all.renew(self.list, self.quota)?;
+            }
+        }
+    }
+
+    /// Renews the set and adds a key from a place whose seat has used its quota.
+    fn add_renewed(&self, place: usize, key: u32) -> Result<Added, Fault> {
+        let mut all = self.all(place)?;
+        if all.stage() == Stage::Open {
+            let added = all.mine().add(key); // Another thread can have renewed the set in the meantime.
+            if added != Added::Full || all.keys_now() > MOST_OPENING || self.quota == 0 {
+                return Ok(added);
+            }
+        }
+        all.renew(self.list, self.quota)?;
+        Ok(all.mine().add(key))
+    }
+}
+
+/// A thread's seat of a [`RenewedSet`].
+#[derive(Debug)]
+pub struct OwnSeat<'a> {
+    set: &'a RenewedSet,
+    place: usize,
+}
+
+impl OwnSeat<'_> {
+    /// Adds a key, and renews the set if the seat has used its quota. Returns [`Added::Full`] only if the quota is 0, or if the set has
+    /// more than 1,048,576 keys, with which no set opens.
+    pub fn add(&mut self, key: u32) -> Result<Added, Fault> {
+        let mut added = self.set.by(self.place, |it| it.add(key))?;
+        if added == Added::Full {
+            drop(self.set.taken(&self.set.renewing, None)?); // Another thread can be renewing the set.
+            added = self.set.by(self.place, |it| it.add(key))?;
+        }
+        match added {
+            Added::Full => self.set.add_renewed(self.place, key),
+            added => Ok(added),
+        }
+    }
+
+    /// Removes a key. Returns whether the key was present.
+    pub fn remove(&mut self, key: u32) -> Result<bool, Fault> {
+        self.set.by(self.place, |it| {
+            let was_there = it.seat.remove(key);
+            it.removes += u64::from(was_there);
+            was_there
+        })
+    }
+
+    /// Returns whether a key is in the set.
+    pub fn contains(&mut self, key: u32) -> Result<bool, Fault> {
+        self.set.by(self.place, |it| it.seat.contains(key))
+    }
+
+    /// Returns the smallest key of the set that is at least `key`.
+    pub fn ceiling(&mut self, key: u32) -> Result<Option<u32>, Fault> {
+        self.set.by(self.place, |it| it.seat.ceiling(key))
+    }
+}
+
+impl Drop for OwnSeat<'_> {
+    fn drop(&mut self) {
+        self.set.places[self.place].is_taken.store(false, Ordering::Release);
+    }
+}
+
+#[cfg(test)]
+mod tests {
+    use super::*;
+
+    /// While a thread stays in a call, calls of the others time out and are not made. After that call, calls succeed again.
+    #[test]
+    fn a_call_that_does_not_return_makes_others_time_out() {
+        let set = RenewedSet::open(List::Lazy, 2, 1, &[]).unwrap().with_patience(Duration::from_millis(20));
+        let mut seat = set.split().unwrap();
+        assert_eq!(seat.add(1), Ok(Added::True));
+        let stays = set.places[1].part.lock().unwrap();
+        assert_eq!((seat.add(2), seat.contains(1), seat.contains(2)), (Err(Fault::TimedOut), Ok(true), Ok(false)));
+        assert_eq!(set.keys(), Err(Fault::TimedOut));
+        drop(stays);
+        assert_eq!((seat.add(2), set.close()), (Ok(Added::True), Err(Fault::SeatsOut)));
+        drop(seat);
+        assert_eq!(set.close(), Ok(vec![1, 2]));
+        assert_eq!((set.close(), set.keys()), (Err(Fault::Closed), Err(Fault::Closed)));
+    }
+}
