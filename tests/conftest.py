@@ -1,34 +1,39 @@
-"""What all tests are given: the program that is tested, a room for files, what is made once for a run.
+"""Fixtures of all tests: the program under test, a folder for files, results that are made once for a run.
 
-    pytest-3                          all tests; -n 4 runs four side by side
-    pytest-3 tests/serve_clients.py   those of a file, or of a page of tests/transcripts; -k WORD those of a name
-    pytest-3 --program=PROGRAM        of this program; else of the proved or the unproved one, whichever was built of younger sources
-    pytest-3 --few                    with a tenth of what is drawn at random
-    pytest-3 --show PAGE              prints what the commands of a page of tests/transcripts print now, as it has them
+    pytest-3                          runs all tests; -n 4 runs four in parallel
+    pytest-3 tests/serve_clients.py   runs those of a file, or of a page of tests/transcripts; -k WORD those of a name
+    pytest-3 --program=PROGRAM        tests this program; otherwise the proved or the unproved one, whichever was built from younger sources
+    pytest-3 --few                    draws a tenth of the random inputs
+    pytest-3 --show PAGE              prints what the commands of a page of tests/transcripts print now, in the page's form
 
-A test that needs what is not built or installed is skipped and says so; it fails if it is named, by -k or as FILE::NAME."""
+A test that needs a tool or a program that is not here is skipped, with a message. If it is named by -k or
+as FILE::NAME, it fails."""
 
+import collections
 import fcntl
 import os
 import pickle
 import re
+import shutil
 
 import pytest
 from harness.pages import PAGES, Page
 from harness.programs import PROVED, UNPROVED, clear, not_installed
+from toolchain import NEEDS
 
 
 def pytest_addoption(parser):
     group = parser.getgroup("listset")
     group.addoption("--program", type=os.path.realpath, help="the program that is tested")
     group.addoption("--few", action="store_true", help="a tenth of what is drawn at random")
+    group.addoption("--missing", action="store_true", help="with --collect-only: prints the commands that are not installed, and how many tests need each")
     group.addoption("--show", action="store_true", help="prints what the commands of a page print now")
 
 
 @pytest.hookimpl(tryfirst=True)
 def pytest_cmdline_main(config):
     if getattr(config.option, "numprocesses", None) and config.option.dist == "no":
-        config.option.dist = "loadgroup"  # so that tests of one xdist_group take turns
+        config.option.dist = "loadgroup"  # so that tests of one xdist_group run one after another
 
 
 def pytest_configure(config):
@@ -38,11 +43,11 @@ def pytest_configure(config):
 
 @pytest.hookimpl(tryfirst=True)
 def pytest_runtest_logreport(report):
-    report.nodeid = re.sub(r"@\w+$", "", report.nodeid)  # (xdist appends the group, by which --lf would not find it)
+    report.nodeid = re.sub(r"@\w+$", "", report.nodeid)  # (xdist appends the group, which would hide the test from --lf)
 
 
 def built_program(config):
-    """The program of the younger sources, if none is given. (Its time is that at which its build began.)"""
+    """Returns the program with the younger sources, if none is given. Its time is when its build began."""
     built = [it for it in (PROVED, UNPROVED) if it.exists()]
     return config.option.program or str(max(built, key=lambda it: it.stat().st_mtime, default=PROVED))
 
@@ -56,9 +61,27 @@ def pytest_collect_file(file_path, parent):
         return Page.from_parent(parent, path=file_path)
 
 
+def pytest_collection_modifyitems(config, items):
+    for item in items:
+        for mark in item.iter_markers("needs"):
+            if unknown := [it for it in mark.args if it not in NEEDS]:
+                raise pytest.UsageError(f"{item.nodeid} needs {', '.join(unknown)}, which build/needs.txt does not list")
+    if config.option.missing:
+        print_missing(items)
+
+
+def print_missing(items):
+    """Prints each missing command of a mark, how to install it, and how many tests are skipped without it."""
+    wanted = [it for item in items for it in {word for mark in item.iter_markers("needs") for word in mark.args}]
+    for it, many in collections.Counter(wanted).items():
+        if why := not_installed(it):
+            print(f"missing: {why}; {many} tests are skipped")
+
+
 @pytest.fixture(scope="session")
 def lacking(pytestconfig):
-    """A function that ends a test for what is not there: the test fails if it is named, and is skipped otherwise."""
+    """Returns a function that ends a test because something is missing: pytest.fail if the test is named,
+    otherwise pytest.skip."""
     is_named = pytestconfig.option.keyword or any("::" in it for it in pytestconfig.args)
     return pytest.fail if is_named else pytest.skip
 
@@ -72,7 +95,7 @@ def has_what_it_needs(request, lacking):
 
 @pytest.fixture(scope="session")
 def program(pytestconfig, lacking):
-    """The program that is tested."""
+    """Returns the program under test."""
     found = built_program(pytestconfig)
     if not os.access(found, os.X_OK):
         lacking("no program is built: build/unproved builds it, ./listset --prove proves it")
@@ -81,14 +104,16 @@ def program(pytestconfig, lacking):
 
 @pytest.fixture
 def room(tmp_path):
-    """A folder of this test. At its end it is removed, with the processes that are in it or name it."""
+    """Returns a folder of this test. At its end the folder is deleted, and processes that run in it or name
+    it are ended."""
     yield tmp_path
     clear(tmp_path)
 
 
 @pytest.fixture(scope="session")
 def once(tmp_path_factory, worker_id):
-    """A function that gives what a call makes in a folder that it is given, once for all tests of a run, also if they run side by side."""
+    """Returns a function that calls a function with a new folder and returns its result, once for all tests
+    of a run, even in parallel."""
     of_run = tmp_path_factory.getbasetemp()
     of_run = of_run if worker_id == "master" else of_run.parent
 
@@ -97,6 +122,7 @@ def once(tmp_path_factory, worker_id):
         with open(f"{kept}.lock", "w") as lock:
             fcntl.flock(lock, fcntl.LOCK_EX)
             if not kept.exists():
+                shutil.rmtree(folder, ignore_errors=True)  # (left by a failed call, which the next test repeats)
                 folder.mkdir()
                 kept.write_bytes(pickle.dumps(make(folder, *further)))
             return pickle.loads(kept.read_bytes())
@@ -106,5 +132,5 @@ def once(tmp_path_factory, worker_id):
 
 @pytest.fixture(scope="session")
 def few(pytestconfig):
-    """Whether a tenth of what is drawn at random will do."""
+    """Returns whether to draw only a tenth of the random inputs."""
     return pytestconfig.option.few

@@ -1,9 +1,11 @@
-"""The schedules and reports of examples/schedules are what the program makes of them, and docs/CLASSIC.md is what it prints, line by line.
+"""Tests that the program makes the reports in examples/schedules of the schedules there, and that
+docs/CLASSIC.md shows what it prints.
 
-`replay` of each NAME.schedule prints NAME.report, and `check` of each report prints `ok`. Of a file that refused-files.txt names, what
-stands there is seen instead, and no report is printed. `example NAME` prints the schedule of each classic interleaving as its file has it,
-and `example --broken NAME` its broken report, if it has one. How the calls of a broken list show what it lacks is compared by
-page/tests/break_it.js. And README, the pages of docs/ and two others show what the commands print that stand there (harness/pages.py)."""
+`replay` of each NAME.schedule prints NAME.report, and `check` of each report prints `ok`. For a file in
+refused-files.txt it prints the error there, and no report. `example NAME` prints the schedule of each
+classic interleaving, and `example --broken NAME` its broken report, if there is one.
+page/tests/break_it.js tests how a broken list shows its missing check. The other test here: README, the
+pages of docs/ and two other pages show what their commands print (harness/pages.py)."""
 
 import re
 
@@ -32,7 +34,8 @@ def test_commands_print_what_the_page_shows(page, steps, program, room):
 
 
 def lines_of(*words, text="", status=0):
-    """The lines that the program prints for these words, with the text on its input; and those of its standard error."""
+    """Runs the program with these arguments and this input. Returns the lines of its output and of its
+    standard error."""
     done = ran(*words, text=text)
     assert done.returncode == status, done.stderr
     return (done.stdout + done.stderr).splitlines()
@@ -53,34 +56,35 @@ def test_a_file_is_replayed_or_checked(program, name):
 
 
 def test_examples_of_the_program_are_the_files(program):
-    """And there are no broken reports of others."""
+    """No other example has a broken report."""
     broken = {it.name.partition(".")[0]: it for it in EXAMPLES.glob("*.broken.report")}
     assert [line.split()[0] for line in lines_of(program, "example")] == NAMES and broken.keys() <= {*NAMES}
     for name in NAMES:
         assert ran(program, "example", name).stdout == (EXAMPLES / f"{name}.schedule").read_text()
-        due = broken[name].read_text().splitlines() if name in broken else ["listset: bad NAME"]
+        due = broken[name].read_text().splitlines() if name in broken else ["listset: bad NAME: this example has no broken report"]
         assert lines_of(program, "example", "--broken", name, status=0 if name in broken else 2) == due
 
 
 @pytest.mark.parametrize("file", sorted(EXAMPLES.glob("*.broken.report")), ids=lambda it: it.name)
 def test_no_order_explains_a_broken_report(program, file):
-    """Neither the one in it, as `check` says, nor another, as the judge says below its picture."""
+    """`check` refuses the order in the report, and the judge prints below its picture that no other order
+    explains the calls."""
     assert "\n\nnot linearizable\nno order explains the calls of key " in "\n".join(lines_of(program, "show", file, status=1))
 
 
 @pytest.mark.parametrize("name, section", zip(NAMES, SECTIONS), ids=NAMES)
-def test_section_of_an_example(program, name, section):
-    """Its two blocks are the picture, without the order below it, and lines of the trace."""
+def test_the_page_shows_the_picture_and_the_trace_of_an_example(program, name, section):
+    """The two code blocks are the picture, without the order below it, and lines of the trace."""
     drawn, traced = (re.sub("^    ", "", block, flags=re.M).strip("\n").split("\n") for block in re.findall(BLOCK, section, re.M))
     schedule, picture = picture_of(program, name)
     assert [*drawn, ""] == picture[:picture.index("order")]
     trace = iter(lines_of(program, "trace", text=schedule))
-    assert [line for line in traced if line not in trace] == []  # (each is looked for behind the one before)
+    assert [line for line in traced if line not in trace] == []  # (each line is searched after the previous one)
 
 
 @pytest.mark.parametrize("name, kind, told", LACKING.findall(BROKEN))
-def test_line_of_a_broken_list(program, name, kind, told):
-    """Its order is refused, as `check` says, and no order explains its calls, or another one if the page says so."""
+def test_the_page_describes_a_broken_list(program, name, kind, told):
+    """`check` refuses the order, and no order explains the calls, unless the page says that another one does."""
     file = LACKS / f"{name}.schedule"
     assert f"\nlist {kind}\n" in file.read_text()
     report = "\n".join(lines_of(program, "replay", "--lacks", name, file)) + "\n"
@@ -90,7 +94,7 @@ def test_line_of_a_broken_list(program, name, kind, told):
     assert ("another order explains this report" if told.endswith(EXPLAINED) else "not linearizable") in picture
 
 
-def test_headings_and_names(program):
+def test_the_page_lists_all_examples_and_broken_lists(program):
     examples, types = [line.split(None, 2) for line in lines_of(program, "example")], {it.word: it.type for it in lists.lists()}
     assert [section.partition("\n")[0] for section in SECTIONS] == [f"{name} ({types[kind]})" for name, kind, _ in examples]
     legends = {picture_of(program, name)[1][-1] for name in NAMES}

@@ -1,12 +1,14 @@
-"""What programs print if an allocation fails: each in turn, one a run.
+"""Tests programs with one failed allocation: each allocation fails in turn, one in a run.
 
-`tests/harness/fail_allocation.c` refuses the block of memory of one number, and overwrites what is freed, so that a read of it shows.
-The program says that it is out of memory and prints nothing else (but `trace`, which prints its events as they are made);
-or does as ever, where std asks for less room than it guessed at first. An error for whose line there is no memory has its status.
+`tests/harness/fail_allocation.c` refuses the allocation with a given number, and overwrites freed memory,
+so that a read of it shows. The program then prints `out of memory` and nothing else (except `trace`, which
+prints events when they are made). Or it prints what it always does, if std can do with less memory than it
+asked for. If even the line about the error cannot be allocated, the status is that of the error.
 
-CALLS is the program of crates/memory_calls. It makes calls of the libraries one by one, and takes blocks before its first call, as many
-as its input says. It fails where a call answers anything but an allocation failure (or that a thread was refused), or what it answers with
-memory, or, made again, not that.
+CALLS is the program of crates/memory_calls. It makes calls of the libraries one by one; its input is the
+number of allocations to use up before the first call. It fails if a call does anything but report a failed
+allocation (or that a thread was refused) or return the right result; or if a repeated call does not return
+the right result.
 """
 
 import functools
@@ -20,12 +22,13 @@ import pytest
 
 from harness.programs import SECONDS, TOP
 
-REFUSED = 1000  # the block that is refused: more than the calls take
-PROCESSOR_SECONDS = 5  # of one run
+REFUSED = 1000  # the number of the refused allocation: more than the calls make
+PROCESSOR_SECONDS = 5  # for one run
 CALLS = TOP / "crates/memory_calls/out/unproved/memory_calls"
 
-# What the program is asked of files in examples/, of a drawn one (DRAWN) and of one with many opening keys, which goes past the end of its
-# call (OPENING) or not (ENDED); of one with many tries at a lock (TRIES), and of one with long chains (CHAIN).
+# The commands to test: on files in examples/; on a random schedule (DRAWN); on one with many opening keys,
+# which steps past the end of its call (OPENING) or not (ENDED); on one with many attempts to take a lock
+# (TRIES); and on one with long chains (CHAIN).
 ASKED = """
 replay opens-with-keys.schedule | replay ceiling-left-in-chain.schedule | replay DRAWN | replay OPENING | replay refused.schedule |
 judge ../../tests/transcripts/data/recorded/seen.calls | judge ../../tests/transcripts/data/recorded/lost.calls |
@@ -42,7 +45,7 @@ LAST_CALL = "still to be refused"
 
 
 def refuser(folder):
-    """What stands before the C library and refuses the block."""
+    """Builds the library that refuses an allocation. It is loaded before the C library."""
     rt = shutil.which("rt")
     assert rt, "the command rt is missing"
     clang = pathlib.Path(rt).resolve().parent.parent / "toolchain/bin/clang"
@@ -53,7 +56,8 @@ def refuser(folder):
 
 
 def ran_where(refuse, number, *words, **how):
-    """The status, the output and the line of a program where the block with this number is refused."""
+    """Runs a program in which the allocation with this number fails. Returns the status, the output and the
+    line on standard error."""
     room = {**os.environ, "LD_PRELOAD": refuse, "REFUSE": str(number), "MALLOC_PERTURB_": "165"}
     limit = functools.partial(resource.setrlimit, resource.RLIMIT_CPU, (PROCESSOR_SECONDS, PROCESSOR_SECONDS))
     made = subprocess.run(words, env=room, capture_output=True, text=True, timeout=SECONDS, preexec_fn=limit, **how)
@@ -61,7 +65,8 @@ def ran_where(refuse, number, *words, **how):
 
 
 def answers(program, refuse):
-    """The calls that CALLS names, where each block is refused in turn, up to the first that no call asks for."""
+    """Returns the names of the calls that CALLS prints, with each allocation refused in turn, up to the first
+    one that no call makes."""
     told = []
     for number in range(1, REFUSED):
         status, line, fault = ran_where(refuse, REFUSED, program, input=f"{REFUSED - number}\n")
@@ -74,15 +79,21 @@ def answers(program, refuse):
 
 OUT_OF_MEMORY = 3, "", "listset: out of memory\n"
 SPAWN = 1, "", "listset: work: Spawn\n"
-LAST = 10  # so many blocks, one after another, make no difference: then there are no more
+# The line that replaces the diagnosis of a refusal. The verdict does not change
+NOT_TOLD = "\nwhat is wrong is not told: memory ran out, or the file has changed since it was judged\n"
+LAST = 10  # this many runs in a row without an effect mean that there is no further allocation
 
 
 def out_of_memory_at_each(program, words, refuse):
-    """How often a command says that it is out of memory, where each of its blocks is refused in turn."""
+    """Returns how often a command prints that it is out of memory, with each of its allocations refused in
+    turn."""
     how = {"cwd": TOP / "examples/schedules", "stdin": subprocess.DEVNULL}
     due = ran_where(refuse, 0, program, *words, **how)
     goes_along = words[0] == "trace"
     met = {OUT_OF_MEMORY} | ({SPAWN} if words[0] == "run" else set()) | ({(due[0], "", "")} if due[2] else set())
+    if words[0] == "judge" and due[0] == 1:
+        verdict = due[1].partition("\n\n")[0] + "\n"
+        met |= {(1, verdict + NOT_TOLD, ""), (1, verdict, "")}  # (the line itself can lack memory)
     told = passed = 0
     for number in range(1, 10 * REFUSED):
         found = ran_where(refuse, number, program, *words, **how)
@@ -96,7 +107,7 @@ def out_of_memory_at_each(program, words, refuse):
 
 
 def texts(program, room):
-    """Texts in the room, by their names: most of them schedules for one thread."""
+    """Writes the input files, by name. Most are schedules for one thread."""
     files = {name: room / f"{name.lower()}.text" for name in ("OPENING", "ENDED", "TRIES", "CHAIN", "DRAWN")}
     few, many = ("".join(f"opening {key}\n" for key in range(1, most)) for most in (13, 6_001))
     one, two = ("listset-schedule 2\nlist coarse\nthreads {}\nquota 5\n".format(threads) for threads in (1, 2))
@@ -110,13 +121,13 @@ def texts(program, room):
 
 
 @pytest.mark.parametrize("words", [it.strip() for it in ASKED.split("|")])
-def test_each_block_of_a_command(program, room, once, words):
+def test_a_command_reports_each_failed_allocation(program, room, once, words):
     made = texts(program, room)
     assert out_of_memory_at_each(program, [made.get(word, word) for word in words.split()], once(refuser)) > 0
 
 
-def test_each_block_of_the_calls(once, lacking):
-    """Of the calls that are made one by one. `work` gives set and seats back whatever is refused."""
+def test_calls_report_each_failed_allocation(once, lacking):
+    """Tests the calls of CALLS. `work` returns set and seats whichever allocation fails."""
     if not CALLS.exists():
         lacking(f"{CALLS.relative_to(TOP)} is missing: tests/unproved memory_calls builds it")
     calls = answers(CALLS, once(refuser))

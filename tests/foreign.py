@@ -1,6 +1,7 @@
-"""The sets and the judge from C, C++, Rust and Python, as foreign/build has built them into foreign/out, or as they are below the folder
-LISTSET_PREFIX if that is set, and the programs of docs/FOREIGN.md. A sanitizer that does not work here is left out: those for addresses
-and undefined behaviour, and in threads that for races. They see the callers; the libraries are not compiled with them.
+"""Tests of the sets and the judge from C, C++, Rust and Python, and of the programs in docs/FOREIGN.md.
+
+The libraries are those that foreign/build installed in the folder LISTSET_PREFIX, or in foreign/out. Callers run with the sanitizers for
+addresses, undefined behaviour and races, if these work on this machine. The libraries themselves are built without sanitizers.
 """
 
 import os
@@ -16,7 +17,7 @@ from harness.programs import KINDS, LONG, QUICK_CARGO, TOP, ran, well
 from judge_in_a_test import FORMS, go_words
 
 FOREIGN, EXAMPLES = TOP / "foreign", TOP / "examples" / "schedules"
-TESTS, PREFIX = FOREIGN / "tests", pathlib.Path(os.environ.get("LISTSET_PREFIX", FOREIGN / "out"))
+TESTS, FIRST, PREFIX = FOREIGN / "tests", FOREIGN / "first", pathlib.Path(os.environ.get("LISTSET_PREFIX", FOREIGN / "out"))
 needs = pytest.mark.needs
 pytestmark = pytest.mark.xdist_group("foreign")  # (they take turns: each has more threads than there are processors)
 WARN = ["-Wall", "-Wextra", "-Werror", "-O1", "-g"]
@@ -25,18 +26,18 @@ WRAPPED = [f"-Wl,--wrap={it}" for it in ("malloc", "realloc", "free")]
 
 
 class InstalledLibraries:
-    """The libraries as they are installed, and a room for what is made of them."""
+    """The installed libraries, and a folder for the programs that are built over them."""
 
     def __init__(self, room):
         self.room, self.library, self.share = room, PREFIX / "lib", PREFIX / "share" / "listset"
         self.include = f"-I{PREFIX / 'include'}"
 
     def proof(self):
-        """What the library says of its proof."""
+        """Returns the library's line about its proof."""
         return "proof missing" if "without a proof" in (self.library / "pkgconfig" / "listset.pc").read_text() else "proof checked"
 
     def works(self, sanitizer):
-        """Whether the compiler and this machine have a sanitizer."""
+        """Returns whether a sanitizer works with the compiler of this machine."""
         source, made = self.room / "small.c", self.room / "small"
         source.write_text("int main(void) { return 0; }\n")
         found = ran("gcc", sanitizer, source, "-o", made, seconds=LONG).returncode == 0 and ran(made).returncode == 0
@@ -45,29 +46,33 @@ class InstalledLibraries:
         return found
 
     def built(self, name, *flags):
-        """A program of C over the static library, of foreign/tests if no folder is named."""
+        """Builds a C program over the static library. Returns its path. `name` is relative to foreign/tests."""
         made = self.room / pathlib.Path(name).stem
         well("gcc", "-std=c11", *WARN, *flags, self.include, TESTS / name, self.library / "liblistset.a", "-pthread", "-o", made)
         return made
 
     def flags(self):
-        """The flags for the installed library, by pkg-config if that is installed."""
+        """Returns the compiler's flags for the installed library, by pkg-config if that is installed."""
         flags = [self.include, f"-L{self.library}", "-llistset"]
         if shutil.which("pkg-config"):
             how = {**os.environ, "PKG_CONFIG_PATH": str(self.library / "pkgconfig")}
             flags = well("pkg-config", "--cflags", "--libs", "listset", env=how).split()
         return [*flags, f"-Wl,-rpath,{self.library}"]
 
-    def page(self, language, ending, name="listset.{1,3}judge"):
-        """The file of the program of docs/FOREIGN.md that calls the function of this name."""
+    def page(self, language, ending, name, before=""):
+        """Writes the program of docs/FOREIGN.md that contains `name` to a file, after the text `before`. Returns the file."""
         found = re.findall(rf"^```{language}\n(.*?)^```$", (TOP / "docs" / "FOREIGN.md").read_text(), re.M | re.S)
-        program, = (it for it in found if re.search(name, it))
-        made = self.room / f"first.{ending}"
-        made.write_text(program)
+        program, = (it for it in found if name in it)
+        made = self.room / f"first-set.{ending}"
+        made.write_text(before + program)
         return made
 
-    def first_program(self, *words, **how):
-        """What comes of a first program on calls that an order explains, and on some that none does."""
+    def first_set(self, *words, **how):
+        """Runs the page's first program, and expects its line with the number of final keys."""
+        assert well(*words, **how) == "2000 keys are left\n"
+
+    def first_judge(self, *words, **how):
+        """Runs a first judge on a linearizable recording and on one that is not, and expects its answers."""
         refused = (TOP / "examples" / "recorders" / "both-true.calls").read_text()
         right = refused.replace("call 1 add 5 2 3 true", "call 1 add 5 2 3 false")
         for text, status, says in ((right, 0, "ok 3 calls\n"), (refused, 1, "not linearizable\n")):
@@ -105,7 +110,7 @@ OF_TEXTS = {
 
 
 def words_of_program(program):
-    """Words of the program: on texts of each kind, names, and values."""
+    """Yields command lines of the program: for texts of each kind, names, and values."""
     yield from (f"{words} {file}" for pattern, all_words in OF_TEXTS.items() for file in sorted(TOP.glob(pattern)) for words in all_words)
     names = [line.split()[0] for line in ran(program, "example").stdout.splitlines()]
     yield from (f"example{broken} {name}" for name in [*names, "no-such-name"] for broken in ("", " --broken"))
@@ -115,7 +120,7 @@ def words_of_program(program):
 
 @needs("gcc")
 def test_words(installed, program):
-    """A program in C, over each of the libraries, has the bytes and the statuses of the program."""
+    """A C program over each of the libraries prints the same bytes as the program listset, with the same exit status."""
     static, shared, run_path = installed.built("words.c"), installed.room / "shared", f"-Wl,-rpath,{installed.library}"
     well("gcc", "-std=c11", *WARN, installed.include, TESTS / "words.c", f"-L{installed.library}", "-llistset", run_path, "-o", shared)
     text = (EXAMPLES / "snip.schedule").read_bytes()
@@ -127,7 +132,7 @@ def test_words(installed, program):
 
 @needs("gcc")
 def test_threads(installed):
-    """The judge in eight threads."""
+    """Eight threads call the judge at once."""
     for flags in ([], [MEMORY], [RACES]):
         if all(map(installed.works, flags)):
             well(installed.built("threads.c", *flags), *sorted(EXAMPLES.glob("*.schedule")), *sorted(EXAMPLES.glob("*.report")))
@@ -135,7 +140,7 @@ def test_threads(installed):
 
 @needs("gcc")
 def test_memory(installed):
-    """The judge, with each allocation refused in turn."""
+    """The judge reports each failed allocation, and leaks nothing."""
     schedule, report = EXAMPLES / "one-add.schedule", EXAMPLES / "one-add.report"
     draft = min((TOP / "tests" / "transcripts" / "data" / "drafts").glob("*.draft"), key=lambda it: it.stat().st_size)
     flags = [MEMORY] if installed.works(MEMORY) else []
@@ -145,7 +150,7 @@ def test_memory(installed):
 
 @needs("gcc")
 def test_sets(installed):
-    """The lists in threads, beside models and counts, and recorded and judged: with more threads than processors, and a million calls."""
+    """Calls of threads agree with models and counts, and are judged: with more threads than processors, and a million calls."""
     for flags, sizes in (([], [250_000, 4]), ([], [500, 64]), ([MEMORY], [5_000, 4]), ([RACES], [2_000, 4])):
         if all(map(installed.works, flags)):
             well(installed.built("sets.c", *flags), *sizes)
@@ -154,28 +159,30 @@ def test_sets(installed):
 
 @needs("gcc")
 def test_misuse(installed):
-    """What the sets refuse, and their allocations refused in turn."""
+    """The sets refuse wrong arguments, and report each failed allocation."""
     flags = [MEMORY] if installed.works(MEMORY) else []
     well(installed.built("misuse.c", *flags, *WRAPPED))
 
 
 @needs("gcc")
 def test_largest_set(installed):
-    """Of each list the set with the most keys that there may be."""
+    """Each list opens with the most keys that a set can have."""
     well(installed.built(TOP / "tests" / "harness" / "largest_set.c"))
 
 
 @needs("gcc")
 def test_c(installed):
     made = installed.room / "first"
-    well("gcc", "-std=c99", *WARN, installed.page("c", "c"), *installed.flags(), "-o", made)
-    installed.first_program(made)
+    well("gcc", "-std=c99", *WARN, FIRST / "judge.c", *installed.flags(), "-o", made)
+    installed.first_judge(made)
+    well("gcc", "-std=c99", *WARN, installed.page("c", "c", "listset_open"), *installed.flags(), "-pthread", "-o", made)
+    installed.first_set(made)
 
 
 @needs("g++")
 def test_cpp(installed):
     made, first, how = installed.room / "made", installed.room / "first", [MEMORY] if installed.works(MEMORY) else []
-    # (g++ takes three times as long for what it optimizes and a sanitizer looks at; the header is optimized in the programs of the page)
+    # With optimization and a sanitizer g++ takes three times as long. The programs of the page compile the header with optimization.
     elsewhere, flags = installed.room / "elsewhere.o", ["-std=c++17", *WARN, "-O0", *how, "-pthread"]
     well("g++", *flags, "-c", TESTS / "elsewhere.cpp", installed.include, "-o", elsewhere)
     for name in ("judge.cpp", "sets.cpp", "judged.cpp"):
@@ -184,9 +191,19 @@ def test_cpp(installed):
     well("g++", *flags, *WRAPPED, TESTS / "refused.cpp", installed.include, installed.library / "liblistset.a", "-o", made)
     well(made)
     well("g++", "-std=c++17", *WARN, installed.page("cpp", "cpp", "listset::open"), *installed.flags(), "-pthread", "-o", first)
-    well(first)
-    well("g++", "-std=c++17", *WARN, installed.page("cpp", "cpp"), *installed.flags(), "-o", first)
-    installed.first_program(first)
+    installed.first_set(first)
+    well("g++", "-std=c++17", *WARN, FIRST / "judge.cpp", *installed.flags(), "-o", first)
+    installed.first_judge(first)
+
+
+@needs("g++")
+def test_renewal(installed):
+    """Sets of each list renew themselves while eight threads add and remove the same keys; their calls are judged."""
+    made, flags = installed.room / "made", ["-std=c++17", *WARN, "-pthread", TESTS / "renewed.cpp", *installed.flags()]
+    for how, calls in (([], 50_000), (["-O0", MEMORY], 2_000), (["-O0", RACES], 500)):
+        if all(map(installed.works, how[1:])):
+            well("g++", *how, *flags, "-o", made)
+            well(made, installed.room / "calls", calls)
 
 
 @needs("cargo")
@@ -199,11 +216,13 @@ def test_rust(installed):
     manifest, made = installed.room / "Cargo.toml", installed.room / "target" / "debug"
     how = {"env": {**in_room(installed), "LISTSET_LIB": str(installed.library)}}
     parts = f"[dependencies]\nlistset = {{ path = '{crate}' }}\nlistset_judge = {{ path = '{FORMS / 'rust'}' }}\n"
-    for name, source in (("first", installed.page("rust", "rs")), ("judged", TESTS / "judged.rs")):
+    first_set = installed.page("rust", "rs", "use listset::{open")
+    for name, source in (("first_set", first_set), ("first", FIRST / "judge.rs"), ("judged", TESTS / "judged.rs")):
         parts += f"\n[[bin]]\nname = '{name}'\npath = '{source}'\n"
     manifest.write_text(f"[package]\nname = 'first'\nversion = '0.0.0'\nedition = '2021'\n\n{parts}")
     well(*cargo, "build", *target, "--manifest-path", manifest, **how)
-    installed.first_program(made / "first")
+    installed.first_judge(made / "first")
+    installed.first_set(made / "first_set")
     well(made / "judged")
     how["env"] |= {"SET": "right", "HOW": "runs=2"}
     first = ["--test", "sets", "--", "set", "--exact", "--nocapture"]
@@ -219,12 +238,12 @@ def test_go(installed):
 
 
 def in_room(installed):
-    """The environment in which what is refused is recorded in the room."""
+    """Returns an environment in which refused recordings are written to the room."""
     return {**os.environ, "TMPDIR": str(installed.room)}
 
 
 def is_judged(said, proof):
-    """That a set of one's own was judged by the library."""
+    """Expects that the library judged a user's set."""
     assert f"; judge: liblistset, {proof}" in said
 
 
@@ -234,4 +253,9 @@ def test_python(installed):
     how["env"] |= {"SET": "right", "HOW": "runs=2"}
     is_judged(well(sys.executable, "-B", FORMS / "python" / "tests" / "sets.py", **how), installed.proof())
     well(sys.executable, "-B", TESTS / "sets.py", **how)
-    installed.first_program(sys.executable, "-B", installed.page("python", "py"), **how)
+    installed.first_judge(sys.executable, "-B", FIRST / "judge.py", **how)
+    installed.first_set(sys.executable, "-B", installed.page("python", "py", "listset.open"), **how)
+    renewed = installed.page("python", "py", "RenewedSet", before="import listset\n")
+    assert well(sys.executable, "-B", renewed, **how) == "[7]\n"
+    line, = re.findall(r"^    (listset_judge\.judge\(.*\))$", (TOP / "docs" / "FOREIGN.md").read_text(), re.M)
+    is_judged(well(sys.executable, "-B", "-c", f"import listset, listset_judge\nprint({line})", **how), installed.proof())

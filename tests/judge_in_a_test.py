@@ -1,8 +1,10 @@
-"""The judge in a test of one's own, judge/, in each language that is installed: what it does is asked here, once for all. The program
-of a language, judge/LANGUAGE/tests, judges the set that SET names with the options of HOW, and prints how the verdict came out, and it.
+"""Tests the judges in judge/, for each language that is installed, with the same cases. The program of a
+language, judge/LANGUAGE/tests, judges the set that SET names with the options in HOW, and prints the kind
+of the result, and the result.
 
-A right set has to be `ok`, and wrong ones refused, by the default line; what hangs or crashes is judged up to there; a long run is one
-recording, which the program judges again. A judge made of a script says how a refusal is told. Every wait is bounded."""
+Right sets are `ok` and wrong ones are refused with the default options. If a set hangs or crashes, its
+calls so far are judged. A long run is one recording, which the program judges again. Scripts in place of a
+judge show how a refusal is passed on. Every wait is bounded."""
 
 import os
 import pathlib
@@ -14,10 +16,10 @@ import pytest
 from harness.programs import QUICK_CARGO, TOP, ran, well
 
 FORMS = TOP / "judge"
-SECONDS = 300  # for each run of a set's judge, on a machine that does much else
-# What is no judge, and what a form has to say then: `{}` is its path.
-NO_VERDICT = "{} gave no verdict, but said: %s. Take a newer listset"
-NO_JUDGE = "{} cannot be run: build listset, and put it in PATH or name it by LISTSET"
+SECONDS = 300  # for each run of a judge, on a busy machine
+# Files that are no judge, and the message about each. `{}` is the path.
+NO_VERDICT = "{} printed no verdict, but: %s. Use a newer listset"
+NO_JUDGE = "no judge was found: {} cannot be run. Copy the file judge/listset.js"
 NO_JUDGES = {
     "missing": ("", NO_JUDGE),
     "old": ("#!/bin/sh\necho 'error: unrecognized subcommand' >&2\nexit 2\n", NO_VERDICT % "error: unrecognized subcommand"),
@@ -31,7 +33,7 @@ NO_JUDGES = {
 JUDGES_NOT_IN_PATH = [None, "/no/such/listset.js"]
 
 
-# ---- of each language what builds its sets, once for all, and the words that judge one of them
+# ---- building the sets of each language, once for all tests, and the command that judges one of them
 
 
 def built_rust(folder):
@@ -54,7 +56,8 @@ def built_python(_folder):
 
 
 def in_jvm(*words):
-    """A command of Java that starts in half the time, as do those that it starts: they are short."""
+    """Returns a command of Java that starts in half the time, for short programs and the programs that they
+    start."""
     return [shutil.which("env"), "JAVA_TOOL_OPTIONS=-XX:TieredStopAtLevel=1 -XX:+UseSerialGC", *words]
 
 
@@ -64,7 +67,7 @@ def built_java(folder):
 
 
 def go_words(*words):
-    """A command of go that looks for nothing in the network."""
+    """Returns a command of go that does not use the network."""
     return ["env", "GOPROXY=off", "go", *words]
 
 
@@ -78,23 +81,22 @@ def built_go(folder):
 LANGUAGES = {"Rust": built_rust, "C++": built_cpp, "Python": built_python, "Java": built_java, "Go": built_go}
 TOOLS = {"Rust": ["cargo"], "C++": ["g++"], "GoogleTest": ["g++"], "Java": ["javac", "java"], "Go": ["go"]}
 TEST_LIBRARIES = {"GoogleTest": ("Debian's package libgtest-dev", pathlib.Path("/usr/include/gtest/gtest.h").exists)}
-FEW = "threads=4 calls=250 runs=3"
-SLOW = {"Python": "threads=4 calls=250"}  # a default line of 20 runs, in less time
+FEW = "threads=4 calls=250 runs=3 within=2"
 
 
 def each(languages):
-    """A test for each language, which needs what compiles it."""
+    """Returns the parameters for a test of each language, with the compiler that it needs."""
     return pytest.mark.parametrize("language", [pytest.param(it, marks=pytest.mark.needs(*TOOLS.get(it, []))) for it in languages])
 
 
 class Form:
-    """The judge of a language: where it is run, and by which words."""
+    """The judge of a language: the folder and the command of its tests."""
 
     def __init__(self, language, room, words):
         self.language, self.room, self.words = language, room, words
 
     def script(self, name, text):
-        """The path of a script that can be run; if it is empty, of none."""
+        """Writes an executable script and returns its path. Writes nothing if the text is empty."""
         path = self.room / name
         if text:
             path.write_text(text)
@@ -102,8 +104,8 @@ class Form:
         return path
 
     def told(self, judge, of, how="", **also):
-        """How the verdict on a set came out, and all that was printed."""
-        environment = {name: it for name, it in os.environ.items() if name not in ("LISTSET", "RUST_BACKTRACE")}
+        """Judges a set. Returns the kind of the result and all output."""
+        environment = {name: it for name, it in os.environ.items() if name not in ("CI", "RUST_BACKTRACE") and not name.startswith("LISTSET")}
         environment |= {"LISTSET": str(judge)} if judge else {}
         environment |= {"TMPDIR": str(self.room), "SET": of, "HOW": how, **also}
         words = [*self.words[:-1], f"-Djava.io.tmpdir={self.room}", self.words[-1]] if self.language == "Java" else self.words
@@ -113,7 +115,7 @@ class Form:
         return found[1], done.stdout[found.start() :] + done.stderr
 
     def recorded(self, said):
-        return pathlib.Path(re.search("^recorded in (.*); judge: ", said, re.M)[1]).read_text()
+        return pathlib.Path(re.search("; recorded in (.*?)[,;]", said)[1]).read_text()
 
     def left(self):
         return sorted(it.name for it in self.room.glob("listset-*"))
@@ -128,65 +130,88 @@ def form(language, room, once):
 def test_right_sets_are_linearizable(form, program):
     for of, how in (("right", ""), ("right", "own_process=0"), ("opens", "opens_with_keys=1"), ("texts", "keys=64"), ("not known", ""), ("adds only", "removes=0")):
         kind, said = form.told(program, of, f"{FEW} {how}")
-        assert kind == "ok" and re.search("^ok: [0-9]+ calls, of which [0-9]+ overlapped a change of their key", said, re.M), said
+        assert kind == "ok" and re.search("^(ok|few calls overlapped.*): [0-9]+ calls, and [0-9]+ of them overlapped a change of their key", said, re.M), said
     assert form.left() == []
 
 
 @each(LANGUAGES)
-def test_the_default_line(form, program):
+def test_wrong_sets_are_refused_with_the_default_options(form, program):
     kind, said = form.told(program, "right")
-    assert kind == "ok" and int(re.search("^ok: ([0-9]+) calls", said, re.M)[1]) > 20_000, said
+    assert kind == "ok" and int(re.search(": ([0-9]+) calls", said)[1]) > 20_000, said
     for of, preset in (("check then act", ""), ("first use", ""), ("again", ""), ("collides", "multiples of 64")):
-        for seed in (1, 1002, 2003, 3004):  # (on a busy machine a test may see none of its calls meet)
+        for seed in (1, 1002, 2003, 3004):  # (on a busy machine it can happen that no calls of a test overlap)
             kind, said = form.told(program, of, f"seed={seed}" if seed > 1 else "")
             if kind == "refused":
                 break
-        assert kind == "refused" and re.search(rf"^seed [0-9]+ \({preset}.*\): not linearizable$", said, re.M), said
-        assert "key 0 of the recording is" not in said if of == "check then act" else True
+        assert kind == "refused" and re.search(rf"^not linearizable\n(?:.*\n)*\nseed [0-9]+ \({preset}.*\), [0-9]+ threads", said, re.M), said
+        assert "key 0 of the recording is" not in said or of != "check then act"
 
 
 @each(LANGUAGES)
 def test_keys_of_any_kind(form, program):
     assert form.told(program, "collides", f"{FEW} keys=4")[0] == "ok"
     assert form.told(program, "collides", f"{FEW} keys=128")[0] == "refused"
-    assert "the key function gives " in form.told(program, "twice", f"{FEW} keys=4")[1]
-    kind, said = form.told(program, "texts", f"{FEW} keys=4", LISTSET=str(refusing(form, 2)))
-    assert kind == "refused" and re.search("^key 1 of the recording is .?key 1", said, re.M), said
+    assert "the key function returns " in form.told(program, "twice", f"{FEW} keys=4")[1]
+    kind, said = form.told(program, "texts", f"{FEW} keys=4", LISTSET=str(refusing(form)))
+    assert kind == "refused" and re.search("; key 1 of the recording is .?key 1", said), said
 
 
 @each(LANGUAGES)
 def test_a_call_whose_outcome_is_not_known_is_pending(form, program):
     kind, said = form.told(program, "not known", f"{FEW} runs=1 record={form.room / 'kept'}")
-    (recorded,) = (form.room / "kept").iterdir()
-    calls = [it.split() for it in recorded.read_text().splitlines() if it.startswith("call ")]
-    open_calls = [it for it in calls if it[5] == "-"]
-    threads = len({it[1] for it in calls})  # (after a pending call its thread goes on under a new number, if calls are left)
-    assert kind == "ok" and len(calls) == 1000 and open_calls and len(open_calls) <= threads <= 4 + len(open_calls), said
+    recordings = [*(form.room / "kept").iterdir()]  # (also of more runs, if few calls of the first ones overlapped)
+    assert kind == "ok" and recordings, said
+    for recorded in recordings:
+        calls = [it.split() for it in recorded.read_text().splitlines() if it.startswith("call ")]
+        open_calls = [it for it in calls if it[5] == "-"]
+        threads = len({it[1] for it in calls})  # (after a pending call its thread continues with a new number, if calls remain)
+        assert len(calls) == 1000 and open_calls and len(open_calls) <= threads <= 4 + len(open_calls), said
 
 
 @each(LANGUAGES)
-def test_runs_that_do_not_meet(form, program):
-    kind, said = form.told(program, "right", "threads=1 calls=2000 keys=1 pauses=0 runs=2")
-    calls = int(re.search("^ok: ([0-9]+) calls, of which 0 ", said, re.M)[1])
-    assert kind == "ok" and calls in range(4000, 12_001, 2000) and "that is few" in said, said  # (each run is made again, twice if that is soon)
-    kind, said = form.told(program, "right", "threads=1 calls=200 runs=1 at_least=5")
-    assert kind == "too few" and re.search("0 of [246]00 calls overlapped a change of their key, and at_least asks for 5 of 100", said), said
+def test_runs_with_few_overlaps_are_reported(form, program):
+    kind, said = form.told(program, "right", "threads=1 calls=2000 keys=1 pauses=0 runs=2 within=2")
+    calls = int(re.search("^few calls overlapped, so ok means little: ([0-9]+) calls, and 0 of them ", said, re.M)[1])
+    assert kind == "ok" and calls in range(2000, 2_000_000, 2000), said  # (runs are repeated, and more runs follow if that takes little time)
+    kind, said = form.told(program, "right", "threads=1 calls=200 runs=1 at_least=5 within=2")
+    assert kind == "too few" and re.search("^too few calls overlapped: 0 of [0-9]+ calls overlapped a change of their key, and at_least requires 5 of 100", said, re.M), said
+
+
+@each(LANGUAGES)
+def test_times_and_seeds_come_from_the_options_and_the_environment(form, program):
+    made = {}
+    for name, how, also in (("within", "runs=100000 within=3", {}), ("seconds", "runs=1", {"LISTSET_SECONDS": "3"}), ("seed", "runs=1", {"LISTSET_SEED": "7"})):
+        kind, said = form.told(program, "right", f"threads=1 calls=20 keys=1 record={form.room / name} {how}", **also)
+        assert kind == "ok", said
+        made[name] = {int(it.stem.removeprefix("seed-")) for it in (form.room / name).iterdir()}
+    assert 1 in made["within"] and 1 < len(made["within"]) < 100_000
+    assert len(made["seconds"]) > 1 and min(made["seconds"]) > 1_700_000_000  # (new seeds)
+    assert min(made["seed"]) == 7
+
+
+@each(LANGUAGES)
+def test_a_test_is_skipped_if_asked_for_and_never_in_ci(form):
+    kind, said = form.told("skip", "right", FEW)
+    assert kind == "skipped" or kind == "ok" and "skipped: LISTSET is skip" in said, said
+    kind, said = form.told("skip", "right", FEW, CI="true")
+    assert kind == "none" and "in CI no test is skipped" in said, said
 
 
 STOPS = {
-    "hangs": ("seconds=3", "the set hung: no call began or ended for 3 s"), "exits": ("", "the set ended its process with the status 3"),
+    "hangs": ("seconds=3", "the set hung: no call began or ended for 3 s"), "exits": ("", "the set ended its process with status 3"),
     "crashes": ("", "the set "), "throws": ("", "a call of the set failed: .*no memory"), "crashes late": ("threads=4 calls=15000 pauses=0", "the set "),
 }  # fmt: skip
 
 
 @each(LANGUAGES)
 @pytest.mark.parametrize("of", STOPS)
-def test_what_stops_is_judged_up_to_there(form, program, of):
+def test_calls_before_a_crash_or_a_hang_are_judged(form, program, of):
     how, due = STOPS[of]
     kind, said = form.told(program, of, f"threads=4 calls=1000 keys=4 {how}")
-    assert kind == "cut short" and re.search(rf": {due}.*\nunder way:\n(call .* - -\n)*up to there: some order explains the calls\n", said), said
-    recorded, (under_way,) = form.recorded(said), re.findall("under way:\n((?:call .* - -\n)*)", said)
-    assert recorded.endswith("\ncut\n") and recorded.count(" - -\n") == under_way.count("\n")
+    found = re.search(rf"^{due}.*\npending: (no call|(call .* - -)(?:, and ([0-9]+) more calls)?)\nbefore that: some order explains the calls\n", said, re.M)
+    assert kind == "cut short" and found, said
+    recorded = form.recorded(said)
+    assert recorded.endswith("\ncut\n") and recorded.count(" - -\n") == bool(found[2]) + int(found[3] or 0)
     assert recorded.count("\n") > 20_000 or of != "crashes late"
 
 
@@ -205,7 +230,7 @@ def test_a_long_run_is_one_recording(form, program):
 
 
 @each(LANGUAGES)
-def test_a_seed_gives_the_same_calls_again(form, program):
+def test_a_seed_repeats_the_calls(form, program):
     def of(seed):
         form.told(program, "finds all", f"threads=1 calls=50 keys=5 runs=1 seed={seed} record={form.room / 'kept'}")
         return (form.room / "kept" / f"seed-{seed}.calls").read_text()
@@ -215,42 +240,43 @@ def test_a_seed_gives_the_same_calls_again(form, program):
     assert {tuple(it.split()[2:4]) for it in (first + other).splitlines() if it.startswith("call ")} >= {("add", "4"), ("remove", "0"), ("contains", "3")}
 
 
-# ---- how a refusal is told, of a judge that refuses with so many calls
+# ---- passing a refusal on, from a judge that refuses with these words
 
+REFUSED = "not linearizable\nno order explains the calls of key 1 up to moment 9\n\n  contains(1) returned true, expected false   # %s $HOME 'quoted'\n"
 REFUSES = """#!/bin/sh
 case $1 in judge) ;; *) exit 0 ;; esac
-mkdir "$0 was asked" 2> /dev/null && count=%d || count=%d
-echo not linearizable; echo no order explains the calls of key 1 up to moment 9
-for i in $(seq $count); do echo call $i add 1 $i $((i + 20)) true; done
-echo 'thread 1   [add 1-true]'
+if [ "$2" = --only ]; then echo "listset-calls 1"; echo "# $3"; exit 0; fi
+cat <<'END'
+%send
+END
 exit 1
 """
 
 
-def refusing(form, first, then=None):
-    shutil.rmtree(form.room / "refuses was asked", ignore_errors=True)
-    return form.script("refuses", REFUSES % (first, then or first))
+def refusing(form):
+    return form.script("refuses", REFUSES.replace("%send", REFUSED.rstrip("\n")))
 
 
 @each(LANGUAGES)
-def test_a_count_stands_in_place_of_many_calls(form):
-    kind, said = form.told(refusing(form, 12), "right", "threads=1 calls=200 keys=4 runs=1")
-    assert kind == "refused" and said.count("\ncall ") == 12, said  # (the count is right: it proves nothing)
-    said = form.told(refusing(form, 12), "opens", "threads=1 calls=200 keys=4 runs=1")[1]
-    assert re.search("^[0-9]+ adds and [0-9]+ removes of key 1 answered true; it was not there at first, and is ", said, re.M), said
-    assert "\ncall " not in said and "\nthread " not in said
+def test_a_refusal_is_passed_on_unchanged(form):
+    kind, said = form.told(refusing(form), "right", FEW, LISTSET_RECORD=str(form.room / "kept"))
+    assert kind == "refused" and f"verdict: refused\n{REFUSED}\nseed 1 (few keys), 4 threads; recorded in {form.room / 'kept'}/listset-seed-1-" in said, said
+    kept = sorted((form.room / "kept").iterdir())  # (of the run, and of its key)
+    assert len(kept) == 2 and form.left() == [] and f", the calls that show it in {kept[0]}; judge: " in said
+    assert kept[0].read_text() == "listset-calls 1\n# 1\n" and kept[1].read_text().count("\ncall ") == 1000
 
 
 @each(LANGUAGES)
-def test_the_smallest_refusal_of_further_runs_is_told(form):
-    said = form.told(refusing(form, 1, 2), "right", f"{FEW} keys=4")[1]
-    assert said.count("\ncall ") == 2 and "true\nthread 1   [add 1-true]\n" in said and "seed 8 (few keys): not linearizable" in said and len(form.left()) == 1, said
+def test_recordings_of_runs_that_pass_are_not_kept(form, program):
+    assert form.told(program, "right", FEW, LISTSET_RECORD=str(form.room / "kept"))[0] == "ok"
+    assert list((form.room / "kept").iterdir()) == []
 
 
-# ---- the judge underneath
+# ---- finding the judge
 
 
-# The program, but for how many calls of a recording overlap; it speaks on standard error too, as ./listset does of a program without proof
+# The program, except for the number of overlapping calls. It also prints to standard error, as ./listset does
+# with an unproved program
 OVERLAPS_ALL = """#!/bin/sh
 echo 'listset: without a proof' >&2
 '%s' "$@" | sed 's/^[0-9]* of them /900 of them /'
@@ -262,7 +288,8 @@ def test_the_verdict_names_its_judge_and_counts_the_calls_that_overlap(form, pro
     judge = form.script("judge", OVERLAPS_ALL % program)
     kind, said = form.told(judge, "right", FEW)
     proof = well(program, "--version", "--long").splitlines()[3]
-    assert kind == "ok" and f"; judge: {judge}, {proof}" in said and "ok: 3000 calls, of which 2700 overlapped a change of their key" in said, said
+    calls, overlapped = map(int, re.search("^ok: ([0-9]+) calls, and ([0-9]+) of them overlapped a change of their key", said, re.M).groups())
+    assert kind == "ok" and f"; judge: {judge}, {proof}" in said and calls in (1000, 2000, 3000) and overlapped == calls * 9 // 10, said
 
 
 @each(LANGUAGES)
@@ -273,45 +300,72 @@ def test_a_judge_that_is_not_in_path_is_named(form):
 
 
 @each(LANGUAGES)
-def test_what_is_no_judge_is_named(form):
+def test_a_program_that_is_no_judge_is_named(form):
     for name, (script, due) in NO_JUDGES.items():
         judge = form.script(f"judge {name}", script)
         kind, said = form.told(judge, "right", FEW)
         assert kind == "none" and due.format(judge) in said
 
 
-ENGINE = TOP / "page" / "listset.js"
+@each(LANGUAGES)
+def test_a_judge_that_is_a_folder_is_named(form):
+    kind, said = form.told(form.room, "right", FEW)
+    assert kind == "none" and f"{form.room} is a folder: set LISTSET to the program in it" in said
+
+
+ENGINE = FORMS / "listset.js"
 
 
 @pytest.mark.needs("node")
 @each(LANGUAGES)
 def test_the_engine_in_node_judges(form):
     kind, said = form.told(ENGINE, "right", "threads=4 calls=250 runs=1")
-    assert kind == "ok" and f"; judge: {ENGINE}, proof unknown" in said
+    assert kind == "ok" and f"; judge: {ENGINE}, proof unknown" in said and "listset: " not in said, said
+    assert re.fullmatch("listset .*\nRattle kit .*\ncommit 0{40}\nproof unknown\n", well("node", ENGINE, "--version", "--long"))
+
+
+@pytest.mark.needs("node")
+@each(LANGUAGES)
+def test_the_calls_that_show_a_refusal_are_written(form):
+    said = form.told(ENGINE, "finds all", "threads=2 calls=500 runs=1")[1]
+    small = pathlib.Path(re.search(", the calls that show it in (.*); judge: ", said)[1])
+    key = re.search("of key ([0-9]+) ", said)[1]
+    assert len(small.read_text().splitlines()) < 60
+    assert re.match(f"not linearizable\nno order explains the calls of key {key} ", ran("node", ENGINE, "judge", small).stdout)
+
+
+@pytest.mark.needs("node")
+def test_a_missing_part_of_the_engine_is_one_line(room):
+    shutil.copy(TOP / "page" / "listset.js", room)
+    done = ran("node", room / "listset.js", "judge")
+    assert (done.returncode, done.stdout) == (1, "") and re.fullmatch("listset: in_node.js or only.js is not beside listset.js: take judge/listset.js, .*\n", done.stderr)
 
 
 NO_RUNS = {
-    "threads=65": "threads is 65, and has to be 1 to 64", "threads=2 calls=500000001": "threads times calls is 1000000002, and has to be 1 to 1000000000",
-    "keys=1048577": "keys is 1048577, and has to be 1 to 1048576", "pauses=101": "pauses is 101, and has to be 0 to 100",
-    "runs=0": "runs is 0, and has to be 1 to 1000000", "seconds=3601": "seconds is 3601, and has to be 1 to 3600",
-    "at_least=101": "at_least is 101, and has to be 0 to 100", "adds=0 removes=0 finds=0": "the sum of shares is 0, and has to be 1 to 1000000",
-    "record=/dev/null/x": "no file can be written in /dev/null/x: name another folder by record",
+    "threads=65": "threads is 65, but must be 1 to 64", "threads=2 calls=500000001": "threads times calls is 1000000002, but must be 1 to 1000000000",
+    "keys=1048577": "keys is 1048577, but must be 1 to 1048576", "pauses=101": "pauses is 101, but must be 0 to 100",
+    "runs=0": "runs is 0, but must be 1 to 1000000", "seconds=3601": "seconds is 3601, but must be 1 to 3600",
+    "within=604801": "within is 604801, but must be 1 to 604800", "at_least=101": "at_least is 101, but must be 0 to 100", "adds=0 removes=0 finds=0": "the sum of shares is 0, but must be 1 to 1000000",
+    "record=/dev/null/x": "no file can be written in /dev/null/x: set record to another folder",
 }  # fmt: skip
 
 
 @each(LANGUAGES)
-def test_what_gives_no_verdict_is_one_sentence(form, program):
+def test_an_error_without_a_verdict_is_one_sentence(form, program):
     for how, due in NO_RUNS.items():
         kind, said = form.told(program, "right", f"calls=99 runs=1 {how}")
         assert kind == "none" and due in said, said
     kind, said = form.told(program, "not made", FEW)
-    assert kind == "none" and re.search("the set could not be made: .*no room", said), said
+    assert kind == "none" and re.search("the set could not be created: .*no room", said), said
+    for name, text in (("LISTSET_SECONDS", "soon"), ("LISTSET_SECONDS", "0"), ("LISTSET_SEED", "4294967296")):
+        kind, said = form.told(program, "right", FEW, **{name: text})
+        assert kind == "none" and f"the variable {name} is {text}, but must be a number from " in said, said
 
 
-# ---- of one language alone
+# ---- tests for one language
 
 
-def test_the_words_are_those_of_one_file():
+def test_all_languages_have_the_messages_of_one_file():
     well(FORMS / "make_words", "--check")
 
 
@@ -346,15 +400,27 @@ def test_a_tracer_sees_the_set(room, program):
     well(sys.executable, "-B", "-c", text, env={**os.environ, "LISTSET": program, "TMPDIR": str(room)})
 
 
-def test_python_that_answers_nothing(room, once, program):
+def test_a_python_set_that_returns_nothing_is_an_error(room, once, program):
     form = Form("Python", room, once(built_python))
-    assert "each add answered None, and has to answer True or False" in form.told(program, "answers none", FEW)[1]
-    assert "the set could not be made: 'object' object has no attribute" in form.told(program, "object", FEW)[1]
+    assert "every add returned None, but must return True or False" in form.told(program, "answers none", FEW)[1]
+    assert "the set could not be created: 'object' object has no attribute" in form.told(program, "object", FEW)[1]
 
 
 @pytest.mark.needs("java")
-def test_a_jvm_that_cannot_be_given_the_set(room, once, program):
+def test_a_set_that_cannot_be_sent_is_called_in_this_jvm(room, once, program):
     assert Form("Java", room, once(built_java)).told(program, "not passed on", FEW)[0] == "ok"
+
+
+@pytest.mark.needs("java")
+def test_java_sets_that_inherit_their_calls(room, once, program):
+    """Java 17 reads the serialized `Second::contains` back as `First::contains` if both inherit it. The sets
+    are then called in this JVM."""
+    form = Form("Java", room, once(built_java))
+    for of in ("inherits first", "inherits second"):
+        kind, said = form.told(program, of, FEW)
+        assert kind == "ok", said
+    kind, said = form.told(program, "inherits and finds all", FEW)
+    assert kind == "refused" and re.search("^not linearizable\nno order explains .*\n(?:.*\n)*.*contains.* true", said, re.M), said
 
 
 def test_servers(room, program):
@@ -362,7 +428,7 @@ def test_servers(room, program):
     well(*words, cwd=room, env={**os.environ, "LISTSET": program, "TMPDIR": str(room), "PYTHONPATH": str(FORMS / "python")})
 
 
-# ---- as a package, of each language: a project of one's own takes it from where it is installed
+# ---- as a package of each language, used by a project of one's own from where it is installed
 
 CMAKE = """cmake_minimum_required(VERSION 3.18)
 project(own LANGUAGES CXX)
@@ -429,7 +495,7 @@ def test_the_package_of_rust(room):
 
 
 def refused(said):
-    """Of each set whether its one test refused it."""
+    """Returns for each set whether its only test refused it."""
     return {name: int(it) for name, it in re.findall(r"^(.*): refused in ([01]) of 1 tests$", said, re.M)}
 
 
@@ -444,8 +510,12 @@ def test_published_sets_of_cpp(room, program, lacking, name):
         lacking("a library is not installed: Debian's packages libcds-dev, libtbb-dev, liburcu-dev and libck-dev")
     well("g++", "-O1", "-std=c++17", "-pthread", FORMS / "real-sets" / f"{name}.cpp", *libraries, "-o", room / name)
     found = refused(well(room / name, 1, env={**os.environ, "LISTSET": program, "TMPDIR": str(room)}))
-    found.pop("SkipListSet", None)  # (which is seldom right)
-    assert len(found) == 3 and not any(found.values()), found
+    right = [it for kind, it in found.items() if not kind.startswith("SkipList")]  # (which is seldom right)
+    assert len(right) == {"libcds": 7, "others": 3}[name] and not any(right), found
+
+
+def test_packages_that_are_not_installed_are_skipped(program):
+    assert ran(FORMS / "real-sets/run", 1, "none", env={**os.environ, "LISTSET": program}).stdout == ""
 
 
 @pytest.mark.needs("javac", "java")

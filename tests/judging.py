@@ -15,7 +15,6 @@ from harness.set_model import CHANGES, SetModel, reply_of
 TEXTS, SEEDS = 100, range(1, 5)  # of each seed; --few: 10
 THREADS, KEYS = 4, 3
 LAST = 2**63 - 1
-MOST_SHOWN, MOST_DRAWN = 16, 6
 TITLE = "listset-calls 1"
 
 Call = collections.namedtuple("Call", "thread word key begin end reply")
@@ -48,14 +47,14 @@ def drawn(rng, calls):
 
 
 def with_pending(rng, calls):
-    """The calls, of which some last ones of their threads have not ended."""
+    """Returns the calls with the last calls of some threads made pending."""
     last, share = {it.thread: it for it in calls}, rng.choice([0, 0.3, 0.9])
     pending = {it.begin for it in last.values() if rng.random() < share}
     return [it._replace(end=None, reply=None) if it.begin in pending else it for it in calls]
 
 
 def spread(rng, calls, opening, keys):
-    """The calls on other keys, of a set with more of them, some of which are lost or come from nowhere."""
+    """Returns the calls on other keys: those of a set with more keys. Some keys are lost or appear from nowhere."""
     names = rng.sample(range(3 * KEYS), 3 * KEYS)
     others = [it for it in names[KEYS:] if rng.random() < 0.5]
     opened, left = [names[it] for it in opening] + others, {names[it] for it in keys} | {*others}
@@ -73,7 +72,7 @@ def call_line(made):
 
 
 def text_of(calls, opening, keys):
-    """A recording that was cut off, if no keys are given."""
+    """Returns the text of a recording. Without final keys the recording was cut off."""
     ends = ["cut"] if keys is None else [*(f"key {it}" for it in keys), "end"]
     return "".join(f"{it}\n" for it in [TITLE, *(f"opening {it}" for it in opening), *map(call_line, calls), *ends])
 
@@ -82,7 +81,7 @@ def text_of(calls, opening, keys):
 
 
 def changes(it):
-    """Whether a call changes its key; a pending one may."""
+    """Decides whether a call changes its key, or can change it because it is pending."""
     return it.word in CHANGES and it.reply in ("true", None)
 
 
@@ -112,7 +111,7 @@ def known_at(calls, moment):
 
 
 class Judged:
-    """A recording, and what a search of all orders says of it."""
+    """A recording, and the result of a search of all its orders."""
 
     def __init__(self, calls, opening, keys):
         self.calls, self.opening, self.keys = calls, opening, keys
@@ -126,39 +125,89 @@ class Judged:
             self.key = min(wrong, key=lambda it: (it not in opening and not self.may_be_changed(it), it), default=None)
 
     def may_be_changed(self, key):
-        """Whether a call of the key has ended, or may change it."""
+        """Decides whether a call of the key has ended or can change the key."""
         return any(it.end or changes(it) for it in self.of_key[key])
 
     def overlapped(self):
-        """How many calls overlap another one that has changed their key."""
+        """Returns the number of calls that overlap another call that changed their key."""
         def overlap(it, other):
             return it.key == other.key and it.begin < (other.end or LAST) and other.begin < (it.end or LAST)
         return sum(any(it != other and other.reply and changes(other) and overlap(it, other) for other in self.calls) for it in self.calls)
 
     def lines(self):
-        """The first lines that are due."""
+        """Returns the expected first lines."""
         if self.key is None:
             many, met = len(self.calls), self.overlapped()
-            few = ["that is few, and a bug shows only if calls meet: take fewer keys, more threads, or pauses in the set"]
+            few = ["that is few, and a race shows only if calls meet: take fewer keys, more threads, or pauses in the set"]
             cut = ["the recording was cut off: some keys left fit, and those that were left are not known"]
             return [f"ok {many} calls", f"{met} of them overlap a change of their key", *few * (20 * met < many), *cut * (self.keys is None)]
         upto = "and leaves it as it was left" if self.moment is None else f"up to moment {self.moment}"
         return ["not linearizable", f"no order explains the calls of key {self.key} {upto}"]
 
 
-BAR = re.compile(r"(thread \d+ +)\[(\w+ \d+)-+(\w+\]|\.\.)")
+# ---- two calls that contradict each other
+
+STATES = {"present": True, "absent": False}
+STATE, CALL = "(present|absent)", r"thread (\d+) (\w+) (\d+) (true|false), (\d+) to (\d+)"
 
 
-def are_bars(lines, calls):
-    """Whether the lines are the bars of so many calls, whose ends come in their order in time; two to six calls have bars."""
-    if not 2 <= len(calls) <= MOST_DRAWN:
-        return not lines
-    bars, columns = [BAR.fullmatch(it) for it in lines], {}
-    for it, bar in zip(calls, bars):
-        columns[it.begin], columns[it.end or LAST + 1] = bar.end(1), bar.end() - 1
-    places = [columns[it] for it in sorted(columns)]
-    said = [(*bar[1].split(), bar[2], bar[3].strip("].") or None) for bar in bars]
-    return said == [("thread", f"{it.thread}", f"{it.word} {it.key}", it.reply) for it in calls] and places == sorted({*places})
+def leaves(it):
+    """Decides whether a call leaves its key present."""
+    return it.word == "add" or (it.word, it.reply) == ("contains", "true")
+
+
+def needs(it):
+    """Decides whether a call needs its key present."""
+    return leaves(it) != changes(it)
+
+
+def call_in(line, form, of_key):
+    """The call that a line of this form has, which is one of the key; and the states behind it."""
+    found = re.fullmatch(form, line)
+    if not found:
+        return None, []
+    made = [it for it in of_key if [str(field) for field in (it.thread, it.word, it.key, it.reply, it.begin, it.end)] == [*found.groups()[:6]]]
+    assert len(made) == 1, line
+    return made[0], [STATES[it] for it in found.groups()[6:]]
+
+
+def may_be_made(of_key, word, since, until):
+    """Decides whether a call that brings the key into this state, and returned true or is pending, overlaps this time."""
+    return any(it.word == word and changes(it) and it.begin < until and since < (it.end or LAST + 1) for it in of_key)
+
+
+def is_true(lines, key, judged):
+    """Decides whether every word of the lines about a clash is true for the calls of the key."""
+    of_key, word = judged.of_key.get(key, []), {True: "add", False: "remove"}
+    first, states = call_in(lines[0], f"contradiction in both orders: {CALL}, needs key {key} {STATE} and leaves it {STATE},", of_key)
+    if first:
+        second, others = call_in(lines[1], f"  {CALL}, needs key {key} {STATE} and leaves it {STATE},", of_key)
+        assert states == [needs(first), leaves(first)] and others == [needs(second), leaves(second)], lines
+        assert first.begin < second.end and second.begin < first.end and first != second, lines
+        assert leaves(first) != needs(second) and leaves(second) != needs(first), lines
+        need, back = word[needs(second)], word[needs(first)]
+        assert lines[2:] == [f"  and no {need} {key} that returned true or is pending overlaps {first.begin} to {second.end}, "
+                             f"and no such {back} overlaps {second.begin} to {first.end}"], lines
+        return not may_be_made(of_key, need, first.begin, second.end) and not may_be_made(of_key, back, second.begin, first.end)
+    first, states = call_in(lines[0], f"contradiction: {CALL}, leaves key {key} {STATE},", of_key)
+    was = leaves(first) if first else key in judged.opening
+    assert states == [was] if first else lines[0] == f"contradiction: key {key} is {'present' if was else 'absent'} at first,", lines
+    second, states = call_in(lines[1], f"  {CALL}, needs key {key} {STATE},", of_key)
+    need = needs(second) if second else key in judged.keys
+    assert states == [need] if second else lines[1] == f"  key {key} is {'present' if need else 'absent'} at the end,", lines
+    assert was != need and (not first or not second or first.end < second.begin), lines
+    begins = f"  and no {word[need]} {key} "
+    third = {
+        (True, True): lambda: f"that returned true or is pending overlaps {first.begin} to {second.end}",
+        (False, True): lambda: f"that returned true or is pending begins before {second.end}",
+        (True, False): lambda: f"that returned true ends after {first.begin}, and none is pending",
+        (False, False): lambda: "returned true or is pending",
+    }[bool(first), bool(second)]()
+    assert lines[2:] == [begins + third], lines
+    return not may_be_made(of_key, word[need], first.begin if first else 0, second.end if second else LAST + 2)
+
+
+MORE = "listset judge FILE, with a file, also says what is wrong\n"
 
 
 @pytest.mark.parametrize("seed", SEEDS)
@@ -169,33 +218,21 @@ def test_a_verdict_and_what_is_said_of_it(program, few, seed):
         judged = Judged(moved(calls, rng.choice([0, 2**32, LAST - 1000])), opening, None if rng.random() < 0.2 else keys)
         text, due, is_refused = text_of(judged.calls, opening, judged.keys), judged.lines(), judged.key is not None
         done = ran(program, "judge", text=text)
-        said, shown = done.stdout.splitlines()[:len(due)], done.stdout.splitlines()[len(due):]
+        printed, _, more = done.stdout.partition("\n\n")
+        assert more == MORE * is_refused, text
+        said, shown = printed.splitlines()[:len(due)], printed.splitlines()[len(due):]
         assert (done.returncode, said, done.stderr) == (int(is_refused), due, ""), text
-        assert len([it for it in shown if it.startswith("call ")]) <= 1 + MOST_SHOWN * is_refused and (is_refused or not shown), text
-        made_of = {call_line(it): it for it in judged.of_key.get(judged.key, [])}
-        assert {it for it in shown if it.startswith("call ")} <= made_of.keys(), text
-        assert are_bars([it for it in shown if it.startswith("thread ")], [made_of[it] for it in shown if it in made_of]), done.stdout
-        if change := re.search(r"moment (\d+) the key is (not )?there, by this change:\n(call .*)", done.stdout):
-            turns = [it for it in judged.of_key[judged.key] if it.word == ("remove" if change[2] else "add") and it.reply == "true"]
-            assert change[3] == call_line(max((it for it in turns if it.end <= int(change[1])), key=lambda it: it.end)), text
-        of_key, there = judged.of_key.get(judged.key, []), bool(shown) and "the key is not there" not in shown[0]
-        if shown:
-            since, told = int((re.match(r"after .* moment (\d+) ", shown[0]) or "00")[1]), "\n".join(shown).partition("no order")[2]
-            later = [it for it in of_key if since < it.begin <= (judged.moment or LAST)]
-            later = [it if f"{call_line(it)}\n" in f"{told}\n" else it._replace(end=None, reply=None) for it in later if changes(it) or call_line(it) in told]
-            ways = ways_left(later, there)
-            assert ways_left([it for it in of_key if (it.end or LAST) <= since], judged.key in judged.opening) == {there}, text
-            assert "belong to these" in told or (not ways if judged.moment else (judged.key in judged.keys) not in ways), text
-        found["without a window"] += is_refused and bool(of_key) and not shown
+        assert not shown or is_refused and is_true(shown, judged.key, judged), done.stdout
+        found["without a clash"] += is_refused and not shown
         found["right" if not is_refused else "by a moment" if judged.moment else "left wrong"] += 1
     assert few or min(found[it] for it in ("right", "left wrong", "by a moment")) >= TEXTS // 10, found
-    assert found["without a window"] <= 1, found
+    assert found["without a clash"] <= (found["by a moment"] + found["left wrong"]) // 10, found
 
 
 # ---- pieces
 
 def in_pieces(program, text, size):
-    """How `judge` ends on a text that comes in pieces of so many bytes, each written by itself."""
+    """Runs `judge` on a text that is written in pieces of this many bytes."""
     with subprocess.Popen([program, "judge"], stdin=subprocess.PIPE, stdout=subprocess.PIPE, stderr=subprocess.PIPE, bufsize=0) as judge:
         try:
             for at in range(0, len(text), size):
@@ -208,7 +245,7 @@ def in_pieces(program, text, size):
 
 @pytest.mark.parametrize("size", [1, 7, 16, 4096])
 def test_pieces_of_any_size(program, size):
-    """Of a recording, of one without its end, and of one with another title."""
+    """A recording, a recording without its end, and a recording with another title."""
     rng = random.Random(size)
     for many in (3, 30, 400):
         calls, opening, keys = drawn(rng, many)
@@ -219,7 +256,7 @@ def test_pieces_of_any_size(program, size):
 
 
 def test_an_error_is_told_before_the_input_ends(program):
-    """A recorder may go on for hours: a line with an error ends the program while the pipe is open."""
+    """A recorder can run for hours: a line with an error ends the program while the pipe is still open."""
     with subprocess.Popen([program, "judge"], stdin=subprocess.PIPE, stdout=subprocess.PIPE, stderr=subprocess.PIPE, bufsize=0) as judge:
         judge.stdin.write(f"{TITLE}\ncall 0 add 5 1 2 true\ncall 0 add 5 2 3 true\n".encode())
         try:

@@ -1,5 +1,5 @@
-"""What somebody meets who makes a list of his own by docs/NEW-LIST.md: that each list is in each place that names the lists, and that
-build/new_list makes a copy, writes it there, and says what is left. What it makes is proved by ./gate, of examples/lists."""
+"""Tests docs/NEW-LIST.md: each list is in each place that names the lists; build/new_list makes a copy, adds
+it to these places, and prints what is left. ./gate proves what it makes, with the lists of examples/lists."""
 
 import re
 
@@ -14,12 +14,12 @@ PLACES = {**lists.CODE, **lists.TEXTS}
 
 @pytest.fixture
 def copy(room):
-    """A repository with what new_list reads and writes."""
+    """Returns a repository with the files that new_list reads and writes."""
     return copied(["build", "crates.txt", "examples/lists", *PLACES, *(f"crates/{it.crate}" for it in lists.lists())], room / "copy")
 
 
 def code_in(crate):
-    """The text of a crate's files, without comments."""
+    """Returns the code of a crate's files, without comments."""
     files = [it for it in crate.rglob("*") if it.suffix in (".rt", ".antt")]
     return "\n".join(re.sub(r"(^|\s)(--|//).*", "", line) for it in files for line in it.read_text().splitlines())
 
@@ -48,7 +48,7 @@ def test_a_joined_list_lacks_only_what_is_written_by_hand(copy):
 
 
 @pytest.mark.parametrize("words", [[], ["lazy", "lazy"], ["lazy", "../x"], ["no-list", "x"], ["--check", "no-list"], ["--join", "lazy"]])
-def test_wrong_words_write_nothing(copy, words):
+def test_wrong_arguments_write_nothing(copy, words):
     before = sorted(copy.rglob("*"))
     done = ran(copy / "build/new_list", *words)
     assert done.returncode in (1, 2) and done.stderr and "Traceback" not in done.stderr and sorted(copy.rglob("*")) == before

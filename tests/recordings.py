@@ -1,5 +1,5 @@
-"""What examples/recorders and examples/recordings have: the recorder that docs/YOUR-SET.md shows; and a recording that is judged by parts of
-its keys, whose verdict has to be that of `listset judge`, in as many parts as there may be keys and in more."""
+"""Tests examples/recorders and examples/recordings: the recorder that docs/YOUR-SET.md shows, and judging a
+recording by parts of its keys. The verdict is that of `listset judge`, for any number of parts."""
 
 import os
 import random
@@ -23,8 +23,8 @@ RECORDINGS = [recording(1), recording(2), recording(3), recording(1, is_cut=True
 
 @pytest.mark.parametrize("text", RECORDINGS, ids=range(len(RECORDINGS)))
 @pytest.mark.parametrize("parts", [4, 30])
-def test_parts_on_processors_have_the_verdict(program, room, text, parts):
-    """Which refusal is named, or which part has an error, may be another."""
+def test_parts_have_the_verdict_of_the_recording(program, room, text, parts):
+    """The named refusal, or the part with an error, can differ."""
     recorded = room / "run.calls"
     recorded.write_text(text)
     done, due = ran(TOP / "examples/recordings/judge_by_key", recorded, parts, env={**os.environ, "LISTSET": program}), ran(program, "judge", recorded)

@@ -1,5 +1,5 @@
-"""The first error of texts of each kind: of each text in a table, and of each front of a text. The program writes one line about it,
-nothing else, and ends with status 1."""
+"""Tests the first error of texts of each kind: of the texts in a table, and of each prefix of a text. The
+program prints one line about the error and nothing else, and exits with status 1."""
 
 import re
 
@@ -7,7 +7,7 @@ import pytest
 from harness.programs import TOP, ran
 
 DATA = TOP / "tests/transcripts/data"
-# The command that reads a kind of text, and what stands before the lines in the table
+# The command that reads a kind of text, and the lines before those in the table
 READERS = {
     "schedule": ("replay", "listset-schedule 1\nlist coarse\nthreads 1\nquota 1\n"),
     "schedule 2": ("replay", "listset-schedule 2\nlist coarse\nthreads 1\nquota 1\n"),
@@ -17,7 +17,8 @@ READERS = {
     "recording": ("judge", "listset-calls 1\n"),
     "keys": ("serve lazy 1 4 0 0 -", ""),
 }
-# A kind of text, the number of a line and its cause; then texts with that first error: their lines, with an end of line between two (\n)
+# The kind of a text, the number of a line and its cause; then texts with this first error. \n separates their
+# lines
 TABLE = r"""
 schedule: line 5: Event | take 0 5\n | go  0 1\n | begin 0 add\n | opening 5\n
 schedule: line 5: Number | begin 0 add 05\n | begin 0 add 4294967296\n | go 0 0\n | go 0 10001\n
@@ -56,11 +57,11 @@ keys: line 2: Opening | key 5\nkey 5\n | key 5\nkey 4\nkey x\n
 keys: line 4: Opening | sessions 1\ncalls 2\nkey 3\nkey 2\n
 keys: line 5: Opening | listening a\nsessions 1\ncalls 2\nkey 3\nkey 3\n
 """
-HEADER = ["Header", "Kind", "Threads", "Quota"]  # what a text lacks, by the number of its whole lines
+HEADER = ["Header", "Kind", "Threads", "Quota"]  # the cause, by the number of whole lines
 
 
 def rows():
-    """The kind of text, the text, and the line and the cause of its first error."""
+    """Returns kind, text, line and cause of each text in the table."""
     for line in TABLE.strip().splitlines():
         about, *texts = line.split(" | ")
         kind, due = about.split(": ", 1)
@@ -80,7 +81,7 @@ def test_the_first_error_of_a_text(program, kind):
             refused(program, words, head + lines, due)
 
 
-def test_faults_has_a_sentence_on_each_cause(program):
+def test_faults_explains_each_cause(program):
     explained = re.findall(r"^  (\w+) +\S", ran(program, "faults").stdout, re.MULTILINE)
     assert {due.split()[-1] for _, _, due in rows()} <= set(explained)
 
@@ -96,8 +97,9 @@ def test_the_first_error_of_a_header(program, title, words):
         refused(program, words, "".join(f"{it}\n" for it in header), f"line {line}: {HEADER[line - 1]}")
 
 
-def test_each_front_of_a_draft(program):
-    """A front that ends within a line is not ended there. One that ends with a line lacks the next of the header, or is read."""
+def test_the_first_error_of_each_prefix_of_a_draft(program):
+    """The error of a prefix that ends within a line is that the line has no end. A prefix of whole lines
+    lacks the next line of the header, or is read."""
     text = (DATA / "drafts/opens-with-keys.draft").read_text()
     for front in (text[:at] for at in range(len(text))):
         lines = front.count("\n")

@@ -1,5 +1,6 @@
-"""The packages of a release, made as a trial of what stands built, unpacked where no toolchain is, and used as their reader would:
-the archive, the .deb, the wheel, the crate and the page in one file."""
+"""Tests the packages of a release: makes a trial release of what is built here, unpacks each package where no
+toolchain is, and uses it as its reader would: the archive, the .deb, the wheel, the crate, and the page in
+one file."""
 
 import os
 import pathlib
@@ -19,7 +20,7 @@ needs = pytest.mark.needs
 
 SCHEDULES = TOP / "examples" / "schedules"
 REPLAYED_EXAMPLES = ["snip", "opens-with-keys", "read-in-anothers-step", "two-removers"]
-# no folder of the Rattle toolchain
+# without the folders of the Rattle toolchain
 PATH_WITHOUT_RATTLE = os.pathsep.join(it for it in os.environ["PATH"].split(os.pathsep) if not (pathlib.Path(it) / "rt").exists())
 WITHOUT_RATTLE = {"PATH": PATH_WITHOUT_RATTLE, "HOME": os.environ.get("HOME", "/"), "LANG": "C.UTF-8"}
 PROGRAM_WITH_WHEEL = """import listset, sys
@@ -54,18 +55,18 @@ def proof_of(program):
 
 
 def trial_of(program):
-    """The words by which packages are made of the program that is tested, but for their folder."""
+    """Returns the command that makes packages of the program under test, except for their folder."""
     return [TOP / "build" / "release", *(["--unproved"] if proof_of(program) == version_stamp.NOT_PROVED else []), "--trial"]
 
 
 def made_packages(folder, program):
-    """The packages, in a folder, or why this machine or clone has none."""
+    """Returns the folder of the packages, or why none can be made on this machine or in this clone."""
     done = ran(*trial_of(program), folder / "dist", seconds=LONG)
     return folder / "dist" if done.returncode == 0 else done.stderr.strip()
 
 
 class Release:
-    """The packages that all tests take."""
+    """The packages for all tests."""
 
     def __init__(self, folder, room):
         self.folder, self.room = folder, room
@@ -75,7 +76,7 @@ class Release:
         return found
 
     def unpacked(self, pattern):
-        """The folder of a package that is a .tar.gz."""
+        """Unpacks a package that is a .tar.gz, and returns its folder."""
         with tarfile.open(self.file(pattern)) as archive:
             archive.extractall(self.room)
         return self.room / f"listset-{version_stamp.version()}"
@@ -90,19 +91,19 @@ def release(program, room, once, lacking):
 
 
 def replays(program, enter, **how):
-    """That the program of a package gives the bytes of the one that is tested."""
+    """Checks that the program of a package prints the same bytes as the program under test."""
     for name in REPLAYED_EXAMPLES:
         text = (SCHEDULES / f"{name}.schedule").read_text()
         assert well(*enter, "replay", text=text, **how) == well(program, "replay", text=text)
 
 
 def told_of_broken(program):
-    """What a judge says of itself and of a broken report, as the programs here print it."""
+    """Returns the version, the verdict on a broken report and the exit status, in the layout that the test programs print."""
     done = ran(program, "check", SCHEDULES / "snip.broken.report")
     return f"{version_stamp.told(proof_of(program))}{(done.stdout + done.stderr).strip()} {done.returncode}\n"
 
 
-def test_the_same_bytes_come_twice(release, program, room):
+def test_a_release_is_reproducible(release, program, room):
     again, first = made_packages(room, program), release.folder
     assert sorted(it.name for it in again.iterdir()) == sorted(it.name for it in first.iterdir())
     assert [it.name for it in first.iterdir() if it.read_bytes() != (again / it.name).read_bytes()] == []
@@ -111,8 +112,8 @@ def test_the_same_bytes_come_twice(release, program, room):
 
 
 @pytest.mark.skipif(os.geteuid() != 0, reason="only root may chroot")
-def test_the_program_is_alone_in_its_root(release, program):
-    """It replays, runs four threads and serves a session where nothing but its package is."""
+def test_the_program_needs_no_other_file(release, program):
+    """The program replays, runs four threads and serves a session in a root with nothing but its package."""
     enter = [shutil.which("chroot"), release.unpacked("*-linux-x86_64.tar.gz"), "/bin/listset"]
     assert well(*enter, "--version", "--long", env={}) == version_stamp.told(proof_of(program))
     replays(program, enter, env={})
@@ -131,18 +132,22 @@ OF_LANGUAGES = [pytest.param(it, marks=needs(tool)) for it, tool in {"c": "gcc",
 
 
 @pytest.mark.parametrize("language", OF_LANGUAGES)
-def test_a_language_takes_the_unpacked_library(release, program, language):
+def test_a_language_uses_the_unpacked_library(release, program, language):
     how = {"env": {**WITHOUT_RATTLE, "LISTSET_PREFIX": str(release.unpacked("*-linux-x86_64.tar.gz"))}}
     well(sys.executable, "-m", "pytest", "-q", TOP / f"tests/foreign.py::test_{language}", "--program", program, **how)
 
 
-def test_the_man_page_and_the_completions_are_read(release):
+def test_the_man_page_and_the_completions_work(release):
     top = release.unpacked("*-linux-x86_64.tar.gz") / "share"
     if shutil.which("man"):
-        page = well("man", "-l", top / "man/man1/listset.1.gz", env={**WITHOUT_RATTLE, "MANWIDTH": "200"})
-        assert "listset serve" in page and "--width <N>" in page
-    asked = "COMP_WORDS=(listset show --w); COMP_CWORD=2; _listset listset --w; echo ${COMPREPLY[*]}"
-    assert well("bash", "-c", f"source {top}/bash-completion/completions/listset; {asked}", env=WITHOUT_RATTLE) == "--width\n"
+        page = well("man", "-l", top / "man/man1/listset.1.gz", env={**WITHOUT_RATTLE, "MANWIDTH": "80", "LC_ALL": "C"})
+        lines = [re.sub(".\x08", "", it) for it in page.splitlines()]
+        assert {"EXIT STATUS", "EXAMPLES", "listset serve"} <= set(lines) and "--width <N>" in page
+        assert max(map(len, lines)) <= 80
+    for words, completed in {"show --w": "--width", "help ju": "judge", "replay --lacks marks": "marks-in-validation", "ex": "example explain"}.items():
+        last = words.split()[-1]
+        asked = f"COMP_WORDS=(listset {words}); COMP_CWORD={len(words.split())}; _listset listset {last}; echo ${{COMPREPLY[*]}}"
+        assert well("bash", "-c", f"source {top}/bash-completion/completions/listset; {asked}", env=WITHOUT_RATTLE) == f"{completed}\n"
     for shell, file in (("zsh", "zsh/vendor-completions/_listset"), ("fish", "fish/vendor_completions.d/listset.fish")):
         if shutil.which(shell):
             well(shell, "-n", top / file, env=WITHOUT_RATTLE)
@@ -165,10 +170,10 @@ def test_the_wheel_is_installed(release, program, room):
     how = {"env": {**WITHOUT_RATTLE, "PYTHONPATH": str(top)}}
     assert well(sys.executable, "-B", "-c", PROGRAM_WITH_WHEEL, SCHEDULES / "snip.broken.report", **how) == told_of_broken(program)
     serve = [program, "serve", "lazy", "1", "10", "0", "1"]
-    with subprocess.Popen(serve, stdin=subprocess.DEVNULL, stdout=subprocess.PIPE, text=True) as server:  # (which ends with its one session)
+    with subprocess.Popen(serve, stdin=subprocess.DEVNULL, stdout=subprocess.PIPE, text=True) as server:  # (which ends after its only session)
         said = well(sys.executable, "-B", "-c", TEST_WITH_WHEEL, server.stdout.readline().strip().rpartition(":")[2], **how)
     proved = version_stamp.told(proof_of(program)).splitlines()[3]
-    assert said.startswith("ok: ") and said.endswith(f"; judge: liblistset, {proved}\n")
+    assert said.startswith(("ok: ", "few calls overlapped")) and said.endswith(f"; judge: liblistset, {proved}\n")
 
 
 @needs("cargo")

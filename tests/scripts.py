@@ -1,5 +1,5 @@
-"""What a user of `./listset` meets: without a program, with Node alone, after an edit, and when a command is ended in the middle; and
-`build/take`. In small clones, in which the program is one that adds bytes."""
+"""Tests ./listset as a user meets it: without a program, with Node only, after an edit, and with a command
+that is interrupted; and `build/take`. The tests use small clones, in which the program adds up bytes."""
 
 import os
 import pathlib
@@ -13,8 +13,9 @@ import time
 import pytest
 from harness.programs import LONG, SECONDS, TOP, comes, is_running, ran, wants, well
 
-BUILDING, KEPT, BY_NODE = "building the program once WITHOUT A PROOF", "without a proof", "by the page's engine in node"
-# of each word one more than the byte that its length has: of "show" that is past the greatest byte, and "replay" has none
+BUILDING = "building the program once WITHOUT A PROOF"
+NO_NODE = "no program is built here, and Node is missing. Install Debian's package nodejs (18 or later), or put the folder bin of the Rattle toolchain in PATH"
+# The sum of each command's length and one: above the largest byte for "show", and missing for "replay"
 MAIN = """#![tactic(auto)]
 
 use std::io;
@@ -31,12 +32,12 @@ fn main(rt: HostRuntime) -> io::Result<()> {
 TEXTS = {"crates.txt": "ffi_page staticlib:\nlistset:\n", "crates/ffi_page/src/lib.rt": "//! Nothing.\n", "crates/listset/src/main.rt": MAIN}
 
 
-# What the scripts may call of the system without saying that it is missing
+# The commands that the scripts can use without a message if they are missing
 COMMANDS = "awk bash cat chmod cp cut date dirname env find grep mv readlink rm sed sh sha256sum sleep sort touch xargs".split()
 
 
 def bare_path(folder, *further):
-    """A folder to be PATH, with Python, COMMANDS, and of further commands those that are installed."""
+    """Returns a folder for PATH, with Python, COMMANDS, and those of the further commands that are installed."""
     folder.mkdir()
     (folder / "python3").symlink_to(os.path.realpath(sys.executable))
     for it in filter(shutil.which, [*COMMANDS, *further]):
@@ -45,7 +46,7 @@ def bare_path(folder, *further):
 
 
 def copied(parts, to):
-    """A folder with these folders and files of the repository, without what is built."""
+    """Returns a folder with these parts of the repository, without built files."""
     for part in parts:
         (to / part).parent.mkdir(parents=True, exist_ok=True)
         if (TOP / part).is_dir():
@@ -60,7 +61,7 @@ class Clone:
 
     def __init__(self, room, *commands):
         self.tree, self.path = room / "tree", bare_path(room / "path", *commands)
-        copied(["build", "page", "tests/transcripts", "listset", "HANDLES"], self.tree)
+        copied(["build", "page", "listset", "HANDLES"], self.tree)
         for path, text in TEXTS.items():
             (self.tree / path).parent.mkdir(parents=True, exist_ok=True)
             (self.tree / path).write_text(text)
@@ -73,7 +74,7 @@ class Clone:
         return ran(*words, seconds=LONG, **self.how, **how)
 
     def prove(self, at):
-        """Puts a program in the place of the proved one, that is so many seconds younger than now."""
+        """Writes a program in the place of the proved one. It is this many seconds younger than now."""
         self.kept.mkdir(parents=True, exist_ok=True)
         self.proved.write_text('#!/bin/sh\necho "proved: $*"\n')
         self.proved.chmod(0o755)
@@ -81,33 +82,43 @@ class Clone:
 
 
 def shown(command):
-    """What a command prints, as the transcripts have it."""
+    """Returns what a command prints, from the transcripts."""
     text = "".join((TOP / "tests/transcripts" / f"{page}.md").read_text() for page in ("help", "words"))
     block = re.search(rf"^    \$ listset {re.escape(command)}\n((?:    (?!\$ ).*\n|\n)*)", text, re.M)[1]
     return re.sub("^    ", "", block, flags=re.M).rstrip("\n") + "\n"
 
 
-def test_without_a_program_help_and_errors_start_no_build(room):
+def test_without_anything_the_script_says_what_to_install(room):
     clone = Clone(room)
-    for words, told in {"--help": "--help", "help": "--help", "-V": "--version", "faults": "help faults", "judge --help": "help judge"}.items():
-        wants(clone.ran("./listset", *words.split()), output=shown(told), tells=["transcripts"])
-    for words in ("skip", "help skip", "--no-such"):
-        assert wants(clone.ran("./listset", *words.split()), status=2, output="").stderr.startswith("error: un")
-    for words in ("replay a", "run lazy 1 4 0 8 1", "--prove", "--unproved example"):
-        wants(clone.ran("./listset", *words.split()), status=127, output="", tells=["rt is missing", "PATH", "README.md"])
+    for words in ("--help", "faults", "skip", "replay a", "--unproved example"):
+        wants(clone.ran("./listset", *words.split()), status=127, output="", tells=[NO_NODE])
+    wants(clone.ran("./listset", "run", "lazy"), status=127, output="", tells=["run needs a built program, which only the command rt builds", "PATH"])
+    wants(clone.ran("./listset", "--prove"), status=127, output="", tells=["rt, which proves the program, is missing", "PATH", "README.md"])
+    (clone.path / "rt").symlink_to("/bin/true")
+    (clone.path / "python3").unlink()
+    for words in ("example", "--prove", "--prove gen", "--version --long"):
+        wants(clone.ran("./listset", *words.split()), status=127, output="", tells=["python3 is missing: Debian's package python3"])
+    wants(clone.ran(copied(["gate"], clone.tree) / "gate"), status=2, tells=[], output="gate: python3 is missing: Debian's package python3, 3.10 or later, for scripts and tests\n")
 
 
 @pytest.mark.needs("node")
 def test_node_answers_at_once(room):
     clone, example = Clone(room, "node"), TOP / "examples/schedules/snip.schedule"
-    wants(clone.ran("./listset", "replay", text=example.read_text()), output=example.with_suffix(".report").read_text(), tells=[BY_NODE])
-    wants(clone.ran("./listset", "--version", "--long"), output=shown("--version") + "proof unknown\n")
-    wants(clone.ran("./listset", "run", "lazy"), status=127, tells=["rt is missing"], no=[BY_NODE])
+    for words, told in {"--help": "--help", "help": "--help", "-V": "--version", "help judge": "help judge", "judge --help": "help judge"}.items():
+        assert wants(clone.ran("./listset", *words.split()), output=shown(told)).stderr == ""
+    for words, usage in {"skip": "listset [COMMAND]", "help skip": "listset [COMMAND]", "--no-such": "listset [COMMAND]", "judge a b": "listset judge [OPTIONS] [FILE]"}.items():
+        said = wants(clone.ran("./listset", *words.split()), status=2, output="").stderr
+        assert said.startswith("error: un") and f"\n\nUsage: {usage}\n\n" in said, said
+    done = clone.ran("./listset", "replay", text=example.read_text())
+    assert wants(done, output=example.with_suffix(".report").read_text()).stderr == ""
+    wants(clone.ran("./listset", "--version", "--long"), output=shown("--version") + f"commit {40 * '0'}\nproof unknown\n")
+    wants(clone.ran("./listset", "run", "lazy"), status=127, tells=["run needs a built program, which only the command rt builds", "Node alone has all other commands"])
     (clone.tree / "crates/ffi_page/src/lib.rt").write_text("//! Edited.\n")
-    wants(clone.ran("./listset", "replay", example), status=127, tells=["other sources", "rt is missing"], no=[BY_NODE])
+    wants(clone.ran("./listset", "replay", example), status=127, tells=["were edited", "git stash"])
+    wants(clone.ran("./listset", "help", "judge"), output=shown("help judge"))
 
 
-def test_the_proved_program_is_taken_unless_a_source_is_younger(room):
+def test_the_proved_program_is_used_unless_a_source_is_younger(room):
     clone = Clone(room)
     for at, status in ((60, 0), (-60, 127)):
         clone.prove(at)
@@ -118,15 +129,15 @@ def test_the_proved_program_is_taken_unless_a_source_is_younger(room):
 
 
 @pytest.mark.needs("rt")
-def test_the_program_is_built_once_of_the_sources_as_they_are(room):
+def test_the_program_is_built_once_for_the_current_sources(room):
     clone = Clone(room)
     (clone.path / "rt").symlink_to(pathlib.Path(shutil.which("rt")).resolve())
     wants(clone.ran("./listset", "gen", "check"), output="4\n6\n", tells=[BUILDING, "built in"])
     clone.main.touch()
-    wants(clone.ran("./listset", "gen"), output="4\n", tells=[KEPT], no=[BUILDING])
+    assert wants(clone.ran("./listset", "gen"), output="4\n").stderr == ""
     assert [clone.ran("./listset", it).returncode for it in ("show", "replay")] == [-signal.SIGILL] * 2
     clone.prove(60)
-    wants(clone.ran("./listset", "--unproved", "gen"), output="4\n", tells=[KEPT])
+    wants(clone.ran("./listset", "--unproved", "gen"), output="4\n", no=[BUILDING])
     clone.proved.unlink()
     clone.main.write_text("refused")
     wants(clone.ran("./listset", "gen"), status=1, output="", tells=[BUILDING, "src/main.rt:1:"])
@@ -140,18 +151,80 @@ def test_a_missing_rt_is_named(room, words):
     script, *others = words.split()
     done = ran(TOP / script, *others, cwd=TOP, env={**os.environ, "TMPDIR": str(room), "PATH": str(path)})
     said = done.stdout + done.stderr
-    assert done.returncode and "rt is missing: the Rattle toolchain, whose folder bin has to be in PATH" in said and "Traceback" not in said
+    assert done.returncode and "rt is missing: the Rattle toolchain; its folder bin must be in PATH" in said and "Traceback" not in said
 
 
-# What stands in for rt: a proof that does not end
+# Prints what the gate says is not run
+NOT_RUN = """import importlib.machinery, importlib.util, sys
+loader = importlib.machinery.SourceFileLoader("gate", "gate")
+gate = importlib.util.module_from_spec(importlib.util.spec_from_loader("gate", loader))
+loader.exec_module(gate)
+print(*gate.not_run(sys.executable), sep="\\n")
+"""
+
+
+def test_tests_without_their_tool_are_listed_and_do_not_pass(room):
+    how = {"cwd": TOP, "env": {**os.environ, "TMPDIR": str(room), "PATH": str(bare_path(room / "path", "git", "gcc"))}}
+    listed = well(sys.executable, "-c", NOT_RUN, **how)
+    for tool, what in {"go": "tests are skipped", "mvn": "tests are skipped", "node": "not run: the step 'page in node'", "wasm-opt": "not run: whether the page's module"}.items():
+        assert re.search(rf"^{tool} is not installed: Debian's package .*; .*{what}", listed, re.M), listed
+    assert not re.search("^gcc is not", listed, re.M)
+    wants(ran(TOP / "page/test", "--node", **how), status=1, output="", tells=["node is missing, and nothing was tried: Debian's package nodejs"])
+    for word, status in (("--rows", 1), ("--partly", 0)):
+        done = ran(TOP / "page/build", "--rows", "--check", word, **how)
+        assert done.returncode == status and re.search(r"^\d+ passed, 0 failed$", done.stdout, re.M), done
+        assert ("not compared, for want of a tool: what esbuild" in done.stdout) == (status == 1), done
+
+
+def test_a_mark_of_an_unknown_tool_is_refused(room):
+    (room / "marked.py").write_text("import pytest\n\n@pytest.mark.needs('no-such-tool')\ndef test_it():\n    pass\n")
+    words = [sys.executable, "-m", "pytest", "-c", TOP / "pytest.ini", "-p", "conftest", "-p", "no:cacheprovider", "--rootdir", room, room / "marked.py"]
+    done = ran(*words, cwd=room, env={**os.environ, "PYTHONPATH": f"{TOP / 'tests'}:{TOP / 'build'}"})
+    assert done.returncode and "needs no-such-tool, which build/needs.txt does not list" in done.stdout + done.stderr, done
+
+
+# A script whose two threads run four commands, two at a time
+FOUR = """import sys, time
+sys.path.insert(0, {build!r})
+import processes
+from concurrent.futures import ThreadPoolExecutor
+import subprocess
+
+def run(name):
+    with processes.room("four") as room:
+        subprocess.run([*processes.guarded(), "sh", "-c", f"touch {{name}}; sleep 600; touch {{name}}.ended"], cwd=sys.argv[1])
+
+def main():
+    with ThreadPoolExecutor(2) as pool:
+        list(pool.map(run, "abcd"))
+
+processes.script(main)
+"""
+
+
+@pytest.mark.parametrize("number", [signal.SIGTERM, signal.SIGINT, signal.SIGHUP])
+def test_an_interrupted_script_starts_no_further_command(room, number):
+    (room / "temporary").mkdir()
+    words = [sys.executable, "-c", FOUR.format(build=str(TOP / "build")), room]
+    running = subprocess.Popen(words, env={**os.environ, "TMPDIR": str(room / "temporary")}, stderr=subprocess.PIPE)
+    comes(lambda: (room / "a").exists() and (room / "b").exists(), "the first two commands")
+    began = time.monotonic()
+    running.send_signal(number)
+    assert running.wait(SECONDS) == 128 + number
+    assert time.monotonic() - began < 30  # (3 on an idle machine)
+    assert sorted(it.name for it in room.iterdir()) == ["a", "b", "temporary"] and [*(room / "temporary").iterdir()] == []
+
+
+# A substitute for rt: a proof that does not end, with a file in the folder for temporary files
 SLEEPS = """#!/bin/sh
 if [ "$1" = doc ]; then echo {room}/START-HERE.md; exit; fi
+mkdir "$TMPDIR/rattle-logic-built-locked-1"
 echo $$ >{room}/started.new && mv {room}/started.new {room}/started && exec sleep 600
 """
 
 
 @pytest.mark.parametrize("words", ["./listset --prove", "build/prove_all --in ../all"])
-def test_a_proof_that_is_ended_leaves_nothing(room, words):
+def test_an_interrupted_proof_leaves_no_process_and_no_file(room, words):
     clone = Clone(room)
     (room / "temporary").mkdir()
     clone.how["env"]["TMPDIR"] = str(room / "temporary")
@@ -164,11 +237,12 @@ def test_a_proof_that_is_ended_leaves_nothing(room, words):
     running.send_signal(signal.SIGINT)
     said, _ = running.communicate(timeout=SECONDS)
     assert (running.returncode, "Traceback" in said) == (130, False), said
+    assert "listset" not in words or re.search(r"proving \d+ crates by rt ci, about \d+ minutes .* \d+ processors; Ctrl-C ends it and keeps what is proved\n", said), said
     comes(lambda: not is_running(int((room / "started").read_text())), "the end of what was started")
     assert [*(room / "temporary").iterdir()] == []
 
 
-def test_crates_are_taken_and_taken_again(room):
+def test_take_copies_crates_and_replaces_them(room):
     there = room / "there"
     here = copied(["build", "crates.txt", "HANDLES", "crates/lset_history", "crates/lset_words"], room / "here")
     wants(ran(here / "build/take", there, "lset_history"), output="took: lset_words\ntook: lset_history\n2 crates are there as here\n")

@@ -1,6 +1,7 @@
-"""The answers of `listset serve` to clients, at once and one after another.
+"""Tests the answers of `listset serve` to clients, at once and one after another.
 
-On the loopback alone; every wait is bounded, and the server is ended by its own number if it does not end.
+Only the loopback is used. Every wait is bounded, and a server that does not end is killed by its process
+id.
 """
 
 import collections
@@ -17,12 +18,12 @@ from harness.programs import KINDS
 from harness.serve_client import SECONDS, SOON, Server, asks, read_all, resets, serving, speak_at_once, started
 from harness.set_model import SetModel
 
-pytestmark = pytest.mark.xdist_group("serve")  # (they take turns: each has more clients than there are processors)
+pytestmark = pytest.mark.xdist_group("serve")  # (one after another: each test has more clients than there are processors)
 ONE_LIST = "lazy"
 SEATS = 64
 CLIENTS = SEATS - 1
 REQUESTS = 300
-SHARED = 64  # keys; those of a client's own lie above
+SHARED = 64  # keys; the clients' own keys are above
 ROOM = 16_384
 MANNERS = ["pieces", "bytes", "all at once", "middle of a line", "random bytes"]
 BEYOND = 100_000
@@ -33,10 +34,12 @@ LATE = 3
 
 
 class Sharing:
-    """A client with a manner of its own: it sends its requests in pieces of random size, byte by byte, or all before it reads an answer; it
-    ends with QUIT, in the middle of a line, or with bytes at random. `told` has what its calls on shared keys were answered, `own` its own keys.
+    """A client with its own habits: it sends its requests in pieces of random size, byte by byte, or all
+    before it reads an answer. It ends with QUIT, in the middle of a line, or with random bytes. `told` has
+    the answers to its calls on shared keys, `own` its own keys.
 
-    (A LockFreeList has no CEILING here: one that meets a marked node starts again until another call walks there.)"""
+    A LockFreeList gets no CEILING here: a ceiling that meets a marked node starts again until another call
+    walks there."""
 
     def __init__(self, number, kind, all_are_served):
         self.all_are_served = all_are_served
@@ -47,7 +50,8 @@ class Sharing:
         self.calls = sum(call is not None for _, call, _ in self.turns)
 
     def turn(self):
-        """A line; its call, or None; and its right answers, or of a ceiling the least key of the client's own at or above that of the call."""
+        """Returns a line; its call, or None; and its right answers, or for a ceiling the client's smallest
+        own key at or above the key of the call."""
         word, key, is_own = self.draw.choice(self.words), self.draw.randrange(SHARED), self.draw.random() < 0.5
         if self.draw.random() < 0.05:
             return self.draw.choice([f"{word.upper()} 0{key}", f"{word} {key}", f"{word.upper()}  {key}", "", "MOVE 7"]), None, {"BAD"}
@@ -84,14 +88,14 @@ class Sharing:
             size = self.draw.randint(1, most) if most < len(text) else len(text)
             connection.sendall(text[:size])
             text = text[size:]
-        with contextlib.suppress(OSError):  # (the answers may all have come, and the connection be closed)
+        with contextlib.suppress(OSError):  # (possibly all answers have arrived and the connection is closed)
             connection.shutdown(socket.SHUT_WR)
 
 
 @pytest.mark.parametrize("kind", KINDS)
-def test_clients_at_once(program, kind):
-    """Each answer on a client's own keys is the right one; those on shared keys add up to what the server says as it ends. All clients have
-    a seat at once: none goes on before each has its first answer."""
+def test_clients_at_once_receive_right_answers(program, kind):
+    """Each answer on a client's own keys is right. Those on shared keys add up to what the server prints at
+    its end. All clients have a seat at once: none continues before all have their first answer."""
     with serving(program, kind, SEATS, ROOM, CLIENTS + 1) as server, server.connect() as idle:
         all_are_served = threading.Barrier(CLIENTS)
         clients = [Sharing(number, kind, all_are_served) for number in range(CLIENTS)]
@@ -109,9 +113,9 @@ def test_clients_at_once(program, kind):
 # ---- more clients than seats
 
 
-def test_queue(program):
-    """More sessions than seats, threads of a set and waiting places; a session that ends with a fault ends no more. Each tenth client resets
-    its connection, with answers that it has not read."""
+def test_more_clients_than_seats_are_served(program):
+    """More sessions than seats, threads of a set and places in the queue. A session that ends with an error
+    ends only itself. Each tenth client resets its connection, with answers that it has not read."""
     def speak(key, connection):
         if key % 10 == 0:
             connection.sendall(b"CONTAINS %d\n" % key * 3)
@@ -131,8 +135,9 @@ def test_queue(program):
 # ---- one seat
 
 
-def test_one_after_another(program):
-    """As many connections as may be asked for, one after another, where few files may be open at once, however a session ends."""
+def test_many_connections_one_after_another_are_served(program):
+    """The maximum number of connections, one after another, with a low limit of open files, whichever way a
+    session ends."""
     sessions, keys, files = 10_000, 1000, 32
     limited = ["sh", "-c", f'ulimit -n {files} && exec "$@"', "sh"]
     with serving(program, ONE_LIST, 1, ROOM, sessions, before=limited) as server:
@@ -152,14 +157,15 @@ def test_one_after_another(program):
 
 
 def drips(connection, end):
-    """Goes on to send a byte now and then."""
+    """Sends a byte now and then until `end` is set."""
     with contextlib.suppress(OSError):
         while not end.wait(0.3):
             connection.sendall(b"?")
 
 
-def test_one_seat(program):
-    """One client after another, on a seat with 2 slots; none from another address; and one more than are served."""
+def test_clients_of_one_seat_are_served_in_turn(program):
+    """One client after another, on a seat with 2 slots; a client from another address; and one client more
+    than are served."""
     with serving(program, ONE_LIST, 1, 2, 6) as server:
         with pytest.raises(ConnectionRefusedError):
             server.connect("127.0.0.2")
@@ -189,8 +195,8 @@ def test_one_seat(program):
         server.ends(6, 13, 15, [8])
 
 
-def test_a_port_that_is_asked_for(program):
-    """A server listens on the port that its words name, which was free just before."""
+def test_a_server_listens_on_the_port_in_its_arguments(program):
+    """A server listens on the port in its arguments, which was free just before."""
     with socket.create_server(("127.0.0.1", 0)) as free:
         port = free.getsockname()[1]
     with started(program, "serve", ONE_LIST, 1, ROOM, port, 1) as process:
@@ -205,10 +211,10 @@ def test_a_port_that_is_asked_for(program):
 
 
 @pytest.mark.parametrize("group", [1, 1023, 6000])
-def test_lines_in_groups(program, group):
-    """A client sends so many lines, and reads all their answers before it sends the next: answers of each kind, keys of each length. They
-    have to leave although no further line comes, also if they fill the room in which a server holds them back (4,096 bytes); and those of
-    many lines in few pieces."""
+def test_answers_to_a_group_of_lines_arrive_before_the_next_group(program, group):
+    """A client sends a group of lines and reads all answers before it sends the next group: answers of each
+    kind, keys of each length. The answers arrive although no further line is sent, even if they fill the
+    buffer of the server (4,096 bytes). The answers to many lines arrive in few pieces."""
     keys = [10**digits for digits in range(10)]
     turns = [(f"CEILING {key}", f"AT {key}") for key in keys] + [("MOVE 7", "BAD")] * 5
     turns += [("ADD 5", "FULL"), ("ADD 1", "FALSE"), ("CONTAINS 1", "TRUE"), (f"CEILING {keys[-1] + 1}", "NONE")]
@@ -225,12 +231,14 @@ def test_lines_in_groups(program, group):
 
 
 def segments_with_data(connection):
-    """How many segments with data the system has got on a connection: `tcpi_data_segs_in` of linux/tcp.h."""
+    """Returns how many segments with data the system has received on a connection: `tcpi_data_segs_in` of
+    linux/tcp.h."""
     return struct.unpack_from("I", connection.getsockopt(socket.IPPROTO_TCP, socket.TCP_INFO, 160), 152)[0]
 
 
-def test_a_client_that_says_nothing_is_waited_for(program):
-    """A client may say nothing for some seconds, also within a line, and then goes on: no read of a session has a time."""
+def test_a_silent_client_keeps_its_session(program):
+    """A client can be silent for some seconds, even within a line, and then continue: no read of a session
+    has a timeout."""
     with serving(program, ONE_LIST, 1, 1, 1) as server:
         with server.connect() as connection:
             connection.settimeout(SOON)
@@ -247,7 +255,8 @@ def test_a_client_that_says_nothing_is_waited_for(program):
 
 
 def sends_until_stuck(connection):
-    """Sends lines and reads no answer, until the system has taken no more of them for a second. Gives how many it took."""
+    """Sends lines and reads no answer, until the system has accepted none for a second. Returns how many
+    lines were accepted."""
     line, sent = b"CEILING 0\n", 0
     with contextlib.suppress(TimeoutError):
         while True:
@@ -255,8 +264,9 @@ def sends_until_stuck(connection):
     return sent // len(line)
 
 
-def test_no_answer_is_read(program):
-    """A client that reads no answer keeps its seat and no more: the others are served, and when it goes away the server ends."""
+def test_a_client_that_reads_no_answer_holds_only_its_seat(program):
+    """A client that reads no answer holds its seat and nothing else: the others are served, and when it
+    disconnects the server ends."""
     key = 4_294_967_295
     with serving(program, ONE_LIST, 2, ROOM, 5) as server:
         with server.connect() as connection:
@@ -276,9 +286,10 @@ def test_no_answer_is_read(program):
 # ---- bytes past the end of a session
 
 
-def test_bytes_past_the_end(program):
-    """Every answer arrives, whatever the client has sent behind its last line. One client reads so late that the server has let
-    its connection go: an answer that the system has not handed over by then would be lost with bytes left unread."""
+def test_answers_arrive_if_bytes_follow_the_last_line(program):
+    """Every answer arrives, whatever the client sends after its last line. One client reads so late that the
+    server has already closed its connection. An answer that the system had not delivered by then would be
+    lost if bytes of the client were unread."""
     def speak(lines, answers, late, connection):
         connection.sendall(lines + b"?" * BEYOND)
         time.sleep(late)
@@ -292,7 +303,7 @@ def test_bytes_past_the_end(program):
                 (b"REMOVE 1\n" * many + b"?" * 65, b"FALSE\n" * many + b"LONG\n", 0), (b"\n" * 1_000_000, b"BAD\n" * 1_000_000 + b"LIMIT\n", 0)]
     with serving(program, ONE_LIST, 5, ROOM, 10) as server:
         speak_at_once(server, [functools.partial(speak, *it) for it in sessions])
-        with contextlib.ExitStack() as held:  # each seat serves on, whatever the end of its session was
+        with contextlib.ExitStack() as held:  # each seat continues to serve, however its last session ended
             for _ in sessions:
                 connection = held.enter_context(server.connect())
                 connection.settimeout(SOON)

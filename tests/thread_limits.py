@@ -1,7 +1,8 @@
-"""How `run` and `serve` end with room for fewer and fewer threads.
+"""Tests how `run` and `serve` end if fewer and fewer threads can be started.
 
-A thread needs addresses for its stack, so a limit on the program's addresses (`ulimit -v`) refuses threads: some, or all. Under each limit,
-`run` gives its outcome, or says that a thread or memory was refused; `serve` the same, and its client is served whole or not at all.
+A thread needs addresses for its stack, so a limit on the program's address space (`ulimit -v`) refuses
+some threads or all. Under each limit `run` prints its outcome, or that a thread or an allocation was
+refused. `serve` does the same, and its client is served completely or not at all.
 """
 
 import collections
@@ -12,7 +13,7 @@ from harness.programs import KINDS, ran
 from harness.serve_client import Server, read_all, started
 
 THREADS, QUOTA, CALLS = 8, 16_384, 50
-STACK = 8_192  # KiB of a thread
+STACK = 8_192  # KiB of a thread's stack
 REFUSALS = {
     (1, "listset: work: Spawn\n"): "thread refused",
     (1, "listset: serve: Spawn\n"): "thread refused",
@@ -21,12 +22,12 @@ REFUSALS = {
 
 
 def limited(limit, *words, of="-v"):
-    """The words of a command that runs another under a limit: so many KiB of addresses, or so many files."""
+    """Returns a command that runs another one with a limit on its address space in KiB, or on its open files."""
     return ["sh", "-c", f'ulimit -s {STACK} && ulimit {of} "$0" && exec "$@"', str(limit), *map(str, words)]
 
 
 def ended_run(program, limit):
-    """How `run` ends under a limit."""
+    """Runs `run` under a limit, and returns how it ends."""
     made = ran(*limited(limit, program, "run", KINDS[limit % 5], THREADS, QUOTA, CALLS, 8, 1))
     if made.returncode == 0:
         counts = dict(re.findall(r"^(calls|true|false|full|keys) (\d+)$", made.stdout, re.M))
@@ -38,7 +39,8 @@ def ended_run(program, limit):
 
 
 def ended_serve(program, limit):
-    """How `serve` ends under a limit, with one client, which may be turned away. (The threads are started after the first line.)"""
+    """Runs `serve` under a limit with one client, which can be turned away, and returns how it ends. The
+    threads are started after the first line."""
     with started(*limited(limit, program, "serve", KINDS[limit % 5], THREADS, QUOTA, 0, 1)) as process:
         first, told = process.stdout.readline(), b""
         if first:
@@ -59,26 +61,28 @@ def ended_serve(program, limit):
 
 @pytest.fixture
 def limits(program):
-    """Limits in KiB under which the program begins (its loader needs addresses too): half a stack apart, and closer at the end."""
+    """Returns limits in KiB under which the program starts (its loader needs addresses too): half a stack
+    apart, and closer near the first."""
     limits = [*range(2_000, 12_000, 128), *range(12_000, 4 * (THREADS + 2) * STACK, STACK // 2)]
     return [it for it in limits if ran(*limited(it, program, "example", "full")).returncode == 0]
 
 
 @pytest.mark.parametrize("way", [ended_run, ended_serve])
-def test_each_end_is_right(program, way, limits):
-    """Under each limit; under some there is an outcome, and under some a thread is refused."""
+def test_run_and_serve_end_in_a_documented_way_under_each_limit(program, way, limits):
+    """Under some limits there is an outcome, and under some a thread is refused."""
     ends = collections.Counter(way(program, limit) for limit in limits)
     assert ends["outcome"] and ends["thread refused"]
 
 
-def test_serve_without_a_set(program):
-    """The largest set has no room in 40 MB: no line says that the server is ready."""
+def test_serve_without_memory_for_the_set_does_not_listen(program):
+    """The largest set does not fit in 40 MB: no line says that the server is ready."""
     made = ran(*limited(40_000, program, "serve", "lock-free", 64, 16384, 0, 1))
     assert (made.returncode, made.stdout, made.stderr) == (3, "", "listset: out of memory\n")
 
 
-def test_serve_without_files(program):
-    """The streams and the listener are 4 files: the system refuses the first connection before a client comes."""
+def test_serve_without_files_refuses_the_first_connection(program):
+    """The standard streams and the listener are 4 files: the system refuses the first connection before a
+    client comes."""
     made = ran(*limited(4, program, "serve", "lazy", 2, 4, 0, 1, of="-n"))
     assert re.fullmatch(r"listening 127\.0\.0\.1:\d+\n", made.stdout)
     assert (made.returncode, made.stderr) == (1, "listset: serve: Accept\n")

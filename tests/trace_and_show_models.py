@@ -1,8 +1,10 @@
-"""What `trace` and `show` print is what models say, written apart from the crates (tests/harness/traces_model.py, pictures_model.py,
-reports_model.py and lists_model.py): no contract speaks of these bytes. Of an SVG its texts are compared, and how many points and bars it has.
+"""Tests the output of `trace` and `show` with models, which were written independently of the crates
+(tests/harness/traces_model.py, pictures_model.py, reports_model.py and lists_model.py). No contract covers
+this output. For an SVG the tests compare its texts and the numbers of points and bars.
 
-The schedules are those of examples/schedules/, and others drawn at random, of the lists and the broken ones; the reports are of such calls,
-most of them damaged, so that each fault of an order is met. Windows and widths are drawn too, and which of these options are given.
+The schedules are those of examples/schedules/, and random ones of the lists and the broken lists. The
+reports have random calls, and most are damaged, so that each fault of an order occurs. Windows, widths,
+and the presence of these options are random too.
 """
 
 import collections
@@ -21,7 +23,8 @@ GREATEST = 4294967295
 
 
 def drawn_schedule(kind, seed, lacks=None, overruns=False):
-    """A schedule of the list. If it overruns, steps come after a call's end, of which the first is refused."""
+    """Returns a random schedule of a list. If it overruns, there are steps after the end of a call, and the
+    first one is refused."""
     draw = random.Random(f"{kind} {seed}")
     version, threads, quota = draw.choice([1, 2, 2]), draw.choice([64, 9]) if seed % 10 == 9 else draw.choice([1, 2, 3]), draw.randrange(5)
     opening = sorted(draw.sample([*range(12), GREATEST], draw.randrange(11 if seed % 7 == 3 else 4))) if version == 2 else []
@@ -43,7 +46,8 @@ def drawn_schedule(kind, seed, lacks=None, overruns=False):
 
 
 class Compared:
-    """A text, and what the program prints of it where models say what is due; `words` name the list that runs it, if it is a broken one."""
+    """A text and the program's output for it, compared with the models. `words` name a broken list, if one
+    runs the text."""
 
     def __init__(self, program, name, text, *words):
         self.program, self.name, self.text, self.words = program, name, text, words
@@ -64,7 +68,8 @@ class Compared:
             self.compare(words, [*due, status], [*lines, ended])
 
     def picture(self, picture, asked, below=()):
-        """The text of a picture in a window and a width, which are options where they are not None, with the lines below it."""
+        """Compares the text picture in a window and with a width. A value that is not None is given as an
+        option."""
         words, first, last, width = options("show", asked)
         lines, ended = self.said(*words)
         due = [2] if is_past(picture, first) else [*fitted(picture, first, last, width).text(), *below, status_of(picture)]
@@ -81,8 +86,8 @@ class Compared:
         assert texts <= {it.text for it in svg.iter()}, f"{' '.join(words)} of {self.text!r}"
 
     def pictures(self, picture, below=()):
-        """All moments at a width; a window that begins somewhere; one that ends there, or begins with the last moment, or after it. Some
-        options are not given."""
+        """Compares all moments at one width; a window that begins somewhere; one that ends there, or begins
+        at the last moment or after it. Some options are absent."""
         draw = random.Random(self.name)
         moments = Drawn(picture, 1, GREATEST).all or [1]
         first = max(1, draw.choice(moments) - draw.randrange(3))
@@ -95,14 +100,15 @@ class Compared:
 
 
 def options(words, asked):
-    """A command with options, and the window and the width that they ask for; one that is None is not given."""
+    """Returns a command with options, and the window and the width that they mean. Options that are None are
+    absent."""
     given_words = [it for name, value in zip(["--from", "--to", "--width"], asked) if value is not None for it in (name, str(value))]
     first, last, width = (default if it is None else it for it, default in zip(asked, [1, GREATEST, 100]))
     return [*words.split(), *given_words], first, last, width
 
 
 def is_past(picture, first):
-    """Whether all that happens in a picture is before a moment."""
+    """Decides whether everything in a picture happens before a moment."""
     return bool(picture.calls) and first > max(Drawn(picture, 1, GREATEST).all)
 
 
@@ -111,7 +117,7 @@ def status_of(picture):
 
 
 def pytest_generate_tests(metafunc):
-    """The names and the seeds of what is drawn; with --few a tenth."""
+    """Parametrizes tests by the names and seeds of random schedules; with --few by a tenth."""
     is_few = metafunc.config.option.few
     drawn = [f"{kind} {seed}" for kind in KINDS for seed in range(2 if is_few else 20)]
     named = {"schedule": [*EXAMPLES, *drawn], "report": drawn, "broken": [f"{name} {seed}" for name in LACKING for seed in range(1 if is_few else 5)]}
@@ -119,14 +125,14 @@ def pytest_generate_tests(metafunc):
         metafunc.parametrize(it, named[it])
 
 
-def test_trace_and_pictures_are_those_of_the_model(program, schedule):
+def test_trace_and_pictures_match_the_model(program, schedule):
     if schedule in EXAMPLES:
         text, seed = EXAMPLES[schedule].read_text(), 1
     else:
         kind, seed = schedule.split()
         seed = int(seed)
         text = drawn_schedule(kind, seed, overruns=seed % 4 == 0)
-    if ran(program, "trace", text=text.encode()).stdout.startswith(b"listset-trace"):  # (else it is no schedule)
+    if ran(program, "trace", text=text.encode()).stdout.startswith(b"listset-trace"):  # (otherwise it is no schedule)
         plan = read_schedule(text)
         run = run_of(plan)
         looked, picture = Compared(program, schedule, text), picture_of_run(plan, run)
@@ -140,7 +146,7 @@ def test_trace_and_pictures_are_those_of_the_model(program, schedule):
 
 
 def compare_report(looked, report):
-    """Pictures of a report; below one that is refused stands what is known of other orders, in two lines or one."""
+    """Compares pictures of a report. Below a refused one there are one or two lines about other orders."""
     picture, below = picture_of_report(report), []
     if picture.refusal:
         said = looked.said("show")[0]
@@ -149,8 +155,8 @@ def compare_report(looked, report):
     looked.pictures(picture, below)
 
 
-def test_pictures_of_reports_are_those_of_the_model(program, report):
-    """Of the report of a drawn schedule, right or damaged; and what `check` says of it."""
+def test_pictures_of_reports_match_the_model(program, report):
+    """Pictures of a random schedule's report, intact or damaged, and the answer of `check`."""
     kind, seed = report.split()
     replayed, draw = ran(program, "replay", text=drawn_schedule(kind, int(seed))).stdout, random.Random(report)
     made = read_report(replayed)
@@ -166,8 +172,8 @@ def test_pictures_of_reports_are_those_of_the_model(program, report):
     compare_report(Compared(program, report, text), made)
 
 
-def test_traces_and_pictures_of_a_broken_list_are_those_of_the_model(program, broken):
-    """The trace; and the picture of the report that `replay` prints, or its error."""
+def test_traces_and_pictures_of_a_broken_list_match_the_model(program, broken):
+    """Compares the trace, and the picture of the report that `replay` prints, or its error."""
     name, seed = broken.split()
     text = drawn_schedule(LACKING[name][0], int(seed), name, overruns=int(seed) % 4 == 0)
     looked, report = Compared(program, broken, text, "--lacks", name), ran(program, "replay", "--lacks", name, text=text)

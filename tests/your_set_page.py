@@ -1,13 +1,16 @@
-"""What docs/YOUR-SET.md shows for each language, done as its reader would: the form is copied into a folder of one's own, with a set that
-is right, and the lines of the page judge it. The forms' own tests are those of tests/judge_in_a_test.py.
+"""Tests docs/YOUR-SET.md as its reader would use it, for each language: the judge is copied into a folder of
+one's own with a right set, and the lines of the page judge the set. tests/judge_in_a_test.py has the tests
+of the judges themselves.
 """
 
 import os
 import re
 import shutil
 import sys
+from pathlib import Path
 
-from harness.programs import QUICK_CARGO, TOP, well
+import pytest
+from harness.programs import QUICK_CARGO, TOP, ran, well
 from judge_in_a_test import FORMS, TEST_LIBRARIES, each, go_words, in_jvm
 
 PAGE = TOP / "docs" / "YOUR-SET.md"
@@ -104,7 +107,7 @@ func TestOptions(t *testing.T) { %s }
 
 
 def codes_of(language, heads):
-    """The pieces of code in the row of a language, in the page's table that has this heading."""
+    """Returns the code pieces in the row of a language, in the page's table with this heading."""
     table = PAGE.read_text(encoding="utf-8").split(f"| {' | '.join(heads)} |\n")[1].partition("\n\n")[0]
     (row,) = re.findall(rf"^\| {re.escape(language)}[ \d.]*\|(.*)\|$", table, re.M)
     return re.findall(r"`([^`]+)`", row.rpartition(" | ")[2] if len(heads) > 2 else row)
@@ -119,7 +122,7 @@ def options_of(language):
 
 
 def block_of(first):
-    """The lines of the page's block that begins with this one."""
+    """Returns the lines of the page's code block that begins with this line."""
     return re.search(rf"^ {{4}}{re.escape(first)}.*\n(?: {{4}}.*\n)*", PAGE.read_text(encoding="utf-8"), re.M)[0]
 
 
@@ -176,3 +179,110 @@ def test_the_lines_of_the_page_judge(program, room, lacking, language):
     well(*LANGUAGES[language](own), cwd=own, env={**os.environ, "LISTSET": program, "TMPDIR": str(room)})
     if language == "GoogleTest":
         assert well(program, "judge", own / "recorded" / "seed-1.calls").startswith("ok 48000 calls\n")
+
+
+# ---- in continuous integration: a project of one's own, laid out as the page says, tested by the page's
+# command
+
+
+def lay_cpp(room, own):
+    for name in ("listset_judge.hpp", "CMakeLists.txt"):
+        shutil.copy(FORMS / "cpp" / name, room / "judge")
+    shutil.copy(FORMS / "ci" / "CMakeLists.txt", room)
+    test = "TEST(MySet, First) { auto verdict = listset::judge<MySet>(); ASSERT_TRUE(verdict) << verdict; }\n"
+    (room / "own_test.cpp").write_text(own(CPP.partition("TEST")[0], "keys.count(key)") + test)
+
+
+def lay_rust(room, own):
+    shutil.copytree(FORMS / "rust", room / "judge" / "rust", ignore=shutil.ignore_patterns("target"))
+    lines = re.search(r"under `(\[dev-dependencies\])`, `(.*?)`", PAGE.read_text(encoding="utf-8"))
+    (room / "Cargo.toml").write_text(f'[package]\nname = "own"\nversion = "0.0.0"\nedition = "2021"\n\n{lines[1]}\n{lines[2]}\n')
+    for folder in ("src", "tests"):
+        (room / folder).mkdir()
+    (room / "src" / "lib.rs").write_text("")
+    text = RUST.replace("judge, Options", "judge").partition("#[test]\nfn options")[0] % "judge!(MySet).unwrap();"
+    (room / "tests" / "own.rs").write_text(own(text, "self.0.lock().unwrap().contains(&key)"))
+
+
+MAVEN_PLUGINS = Path("/usr/share/maven-repo/org/apache/maven/plugins")
+
+
+def lay_java(room, own):
+    if missing := [it for it in ("resources", "compiler", "surefire") if not (MAVEN_PLUGINS / f"maven-{it}-plugin").exists()]:
+        pytest.skip(f"Maven's plugins are missing ({', '.join(missing)}): Debian's packages libmaven-{{resources,compiler}}-plugin-java, libsurefire-java, junit4")
+    tests = room / "src" / "test" / "java"
+    (tests / "listset").mkdir(parents=True)
+    shutil.copy(FORMS / "java" / "Judge.java", tests / "listset")
+    shutil.copy(FORMS / "ci" / "pom.xml", room)
+    (room / ".mvn").mkdir()
+    (room / ".mvn" / "maven.config").write_text("-o\n-Dmaven.repo.local=/usr/share/maven-repo\n")  # (without the network)
+    (tests / "OwnTest.java").write_text(own(JAVA_TEST, "super.contains(key)"))
+
+
+def lay_python(room, own):
+    (room / "tests").mkdir()
+    shutil.copy(FORMS / "python" / "listset_judge.py", room / "tests")
+    text = PYTHON + "def test_is_linearizable():\n    listset_judge.judge(MySet)\n"
+    (room / "tests" / "test_own.py").write_text(own(text, "key in self.keys"))
+
+
+def lay_go(room, own):
+    shutil.copytree(FORMS / "go", room / "judge", ignore=shutil.ignore_patterns("go.mod", "sets_test.go"), dirs_exist_ok=True)
+    (room / "go.mod").write_text("module own\n\ngo 1.18\n")
+    text = GO.partition("func TestOptions")[0] % "judge.Check(t, NewMySet)"
+    (room / "own_test.go").write_text(own(text, "it.keys[key]"))
+
+
+JAVA_TEST = """import listset.Judge;
+import org.junit.Test;
+public class OwnTest {
+    public static class MySet extends java.util.concurrent.ConcurrentSkipListSet<Integer> {
+        @Override public boolean contains(Object key) { return super.contains(key); }
+    }
+    @Test public void isLinearizable() { Judge.judge(MySet::new); }
+}
+"""
+PROJECTS = {"C++": lay_cpp, "Rust": lay_rust, "Java": lay_java, "Python": lay_python, "Go": lay_go}
+NEEDS = {"C++": ["cmake", "g++", "node"], "Rust": ["cargo", "node"], "Java": ["mvn", "java", "node"], "Python": ["node"], "Go": ["go", "node"]}
+
+
+def finds_all(text, found):
+    """Returns the source of a set whose `contains` always returns true."""
+    for before, after in (("return ", ";"), ("return ", "\n"), ("{ ", " }")):
+        true = "True" if "import listset_judge" in text else "true"
+        text = text.replace(f"{before}{found}{after}", f"{before}{true}{after}", 1)
+    return text
+
+
+def command_of(language):
+    (row,) = re.findall(rf"^\| {re.escape(language)} \| .* \| `(.*?)` \|$", PAGE.read_text(encoding="utf-8"), re.M)
+    return row if language != "Python" else f"{sys.executable} -B -m {row} -p no:cacheprovider"
+
+
+def in_ci(room, command, **also):
+    """Runs the steps of judge/ci/github.yml in a project, with this command in place of the one there."""
+    text = (FORMS / "ci" / "github.yml").read_text()
+    given = dict(re.findall(r"^  (LISTSET\w*): (.*)$", text, re.M))
+    given = {name: it.replace("${{ github.workspace }}", str(room)) for name, it in given.items() if "schedule" not in it}
+    (step,) = re.findall("- run: (.*)$", text, re.M)
+    step = step.replace("cargo test", command)
+    environment = {name: it for name, it in os.environ.items() if not name.startswith("LISTSET")}
+    return ran("bash", "-ec", step, cwd=room, env={**environment, "CI": "true", "GOPROXY": "off", "TMPDIR": str(room.parent), **given, **also}, seconds=600)
+
+
+@pytest.mark.parametrize("language", [pytest.param(it, marks=pytest.mark.needs(*NEEDS[it])) for it in PROJECTS])
+def test_a_project_in_continuous_integration(room, language):
+    for is_right in (True, False):
+        own = room / f"right {is_right}".replace(" ", "-")
+        (own / "judge").mkdir(parents=True)
+        shutil.copy(FORMS / "listset.js", own / "judge")
+        PROJECTS[language](own, (lambda text, _: text) if is_right else finds_all)
+        done = in_ci(own, command_of(language))
+        said = done.stdout + done.stderr
+        assert (done.returncode == 0) == is_right, said
+        kept = list((own / "recordings").glob("*.calls"))
+        assert bool(kept) != is_right and ("not linearizable" in said) != is_right, said
+    done = in_ci(own, command_of(language), LISTSET="skip")
+    assert done.returncode != 0 and "in CI no test is skipped" in done.stdout + done.stderr
+    done = in_ci(own, command_of(language), LISTSET="", PATH=os.environ["PATH"])
+    assert done.returncode != 0 and "judge/listset.js" in done.stdout + done.stderr

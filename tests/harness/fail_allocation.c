@@ -1,5 +1,5 @@
-/* Refuses one block of memory: that with the number REFUSE, of all that the program itself asks for, not the C library in it.
-   It stands before the C library (LD_PRELOAD), so that the program's malloc and realloc come here. */
+/* Refuses one allocation of the program: the one with the number REFUSE. Allocations inside the C library do not count.
+ * Loaded before the C library (LD_PRELOAD), so that the program's malloc and realloc are these. */
 
 extern void *__libc_malloc(unsigned long size);
 extern void *__libc_realloc(void *block, unsigned long size);

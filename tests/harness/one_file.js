@@ -1,18 +1,18 @@
-// node one_file.js PAGE replay: the report of the schedule on the standard input, by the engine that the page, one file of HTML, has in
-// it. Of the page's scripts those are run that need no browser.
+// node one_file.js PAGE replay: prints the report of the schedule on standard input, with the engine in the page, which
+// is one HTML file. Runs the scripts of the page that need no browser.
 "use strict";
 
 const fs = require("fs");
 const vm = require("vm");
 
-const WANTED = ["const ENGINE =", "var listsets ="];
+const WANTED = [/^const ENGINE ?=/m, /^var listsets ?=/m];
 
 async function main([page]) {
   const text = fs.readFileSync(page, "utf8");
   if (/<(script|link|img)\b[^>]*\b(src|href)="(?!data:)/.test(text)) throw new Error("the page asks for other files");
   const scripts = [...text.matchAll(/<script>\n([^]*?)<\/script>/g)].map(([, words]) => words);
-  for (const part of WANTED) vm.runInThisContext(scripts.find((words) => words.includes(`\n${part}`)));
-  const engine = await vm.runInThisContext("listsets.Engine").start();
+  for (const part of WANTED) vm.runInThisContext(scripts.find((words) => part.test(words)));
+  const engine = await vm.runInThisContext("listsets.startEngine()");
   const { text: said, status } = engine.ask("listset_replay", fs.readFileSync(0, "utf8"));
   process.stdout.write(said);
   process.exitCode = status;

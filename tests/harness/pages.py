@@ -1,20 +1,22 @@
-"""The commands of tests/transcripts/*.md print what these pages have, to the byte; and those of README and the other pages what they show.
+"""Tests that the commands of tests/transcripts/*.md print exactly what these pages have, and those of README
+and the other pages what they show.
 
-A heading `## NAME` begins a test. Its lines that are indented by four spaces are commands and what they print:
+A heading `## NAME` begins a test. Its lines with an indent of four spaces are commands and their output:
 
-    $ COMMAND     bash is given it, in a room of its own with the files of tests/transcripts/data; `listset` is the program there
-    > LINE        the command goes on (as of a here-document)
+    $ COMMAND     run by bash, in a folder of its own with the files of tests/transcripts/data; `listset` is the program there
+    > LINE        the next line of the command (as of a here-document)
     ! LINE        a line of standard error; ! alone is an empty one
-    ? N           the status; 0 if no such line is there
-    .             at the end of a command: its output has no newline at its end
-    LINE          any other: a line of the output
+    ? N           the status; 0 if there is no such line
+    .             after a command: its output has no newline at its end
+    LINE          any other line: a line of the output
 
-All other lines are prose. The commands of one test run in turn, in one room. A command that runs for 300 seconds fails. None pipes
-`listset` into `head`, which ends before the program has written all now and then.
+All other lines are prose. The commands of one test run in turn, in one folder. A command that runs for 300
+seconds fails. No command pipes `listset` into `head`, since head can end before the program has written
+everything.
 
-In any other page a test is a block of lines that are indented by four spaces, or stand below ```sh, and of which the first is a command.
-Its room has the files of the repository, and ./listset is the program there. Output and then standard error are compared, without the
-status. A line .. stands for any lines, also none."""
+In any other page a test is a block of lines with an indent of four spaces, or below ```sh, and the first
+line is a command. Its folder has the files of the repository, and ./listset is the program there. Output
+followed by standard error is compared, without the status. A line .. stands for any number of lines."""
 
 import os
 import re
@@ -34,19 +36,19 @@ INDENT = "    "
 
 @dataclass
 class PageCommand:
-    """A command, the number of its line, and the lines that the page has of it."""
+    """A command, its line number, and the lines that the page has below it."""
 
     command: list
     number: int
     lines: list = field(default_factory=list)
 
     def told(self):
-        """What the command prints, as the page has it."""
+        """Returns what the command prints, according to the page."""
         return "\n".join(self.lines).rstrip("\n").split("\n") if any(self.lines) else []
 
 
 def steps_of(lines, first):
-    """The commands in lines, of which the first has this number."""
+    """Returns the commands in lines. The first line has this number."""
     steps = []
     for number, line in enumerate(lines, first):
         if line.startswith("$ "):
@@ -59,7 +61,7 @@ def steps_of(lines, first):
 
 
 def tests_of(page):
-    """The tests of a page: of each its name and its steps."""
+    """Returns the tests of a page: name and steps of each."""
     number = 1
     for section in re.split(r"^(?=## )", page.read_text(encoding="utf-8"), flags=re.MULTILINE):
         lines = section.split("\n")
@@ -71,7 +73,7 @@ def tests_of(page):
 
 
 def tests_shown(page):
-    """The tests of a page that shows commands for a reader: of each its line and its steps."""
+    """Returns the tests of a page that shows commands to a reader: line and steps of each."""
     text = page.read_text(encoding="utf-8")
     for block in SHOWN_BLOCK.finditer(text):
         shown = re.sub("^```(?:sh)?$|^    ", "", block[0], flags=re.MULTILINE).strip("\n").split("\n")
@@ -81,7 +83,7 @@ def tests_shown(page):
 
 
 def lines_of_transcript(run):
-    """What a run printed, as a page has it."""
+    """Returns what a run printed, in the form of a page."""
     output, faults = (text.decode("utf-8", "backslashreplace") for text in (run.stdout, run.stderr))
     lines = output.split("\n")
     lines = lines[:-1] if lines[-1] == "" else [*lines, "."]
@@ -90,12 +92,12 @@ def lines_of_transcript(run):
 
 
 def lines_as_shown(run):
-    """What a run printed, as a reader sees it."""
+    """Returns what a run printed, as a reader sees it."""
     return (run.stdout + run.stderr).decode("utf-8", "backslashreplace").splitlines()
 
 
 def repository_in(work, program):
-    """A folder with the files of the repository, in which ./listset is the program."""
+    """Creates a folder with the files of the repository, in which ./listset is the program."""
     work.mkdir()
     for it in TOP.iterdir():
         (work / it.name).symlink_to(program if it.name == "listset" else it)
@@ -103,7 +105,7 @@ def repository_in(work, program):
 
 
 def printed_by_commands(page, steps, program, room):
-    """What each of the steps prints, in one room."""
+    """Runs the steps in one folder, and returns what each prints."""
     is_shown = page.parent != PAGES
     (room / "bin").mkdir()
     (room / "bin/listset").symlink_to(program)
@@ -115,13 +117,13 @@ def printed_by_commands(page, steps, program, room):
 
 
 def is_as_shown(told, printed):
-    """Whether the page has what is printed. A line .. of the page stands for any lines."""
+    """Decides whether the page has what was printed. A line .. of the page stands for any number of lines."""
     pieces = [re.escape(line) + "\n" if line != LEFT_OUT else "(?:.*\n)*?" for line in told]
     return re.fullmatch("".join(pieces), "".join(f"{line}\n" for line in printed))
 
 
 def print_what_the_page_has(page, steps, program, room):
-    """That the commands of a test print what its page has."""
+    """Checks that the commands of a test print what its page has."""
     for step, printed in zip(steps, printed_by_commands(page, steps, program, room)):
         told, where = step.told(), f"{page.relative_to(TOP)}:{step.number}"
         if not (page.parent != PAGES and is_as_shown(told, printed)):
@@ -129,7 +131,7 @@ def print_what_the_page_has(page, steps, program, room):
 
 
 def show(name, page, steps, program, room):
-    """Prints the test as its page would have it now."""
+    """Prints the test as its page should have it now."""
     print(f"\n## {name}\n")
     for step, lines in zip(steps, printed_by_commands(page, steps, program, room)):
         print(f"{INDENT}$ " + f"\n{INDENT}> ".join(step.command))

@@ -1,21 +1,22 @@
-"""A model of the picture that `show` draws as a text, by docs/TEXTS.md alone: a column for each moment, a lane for each thread with its
-begins, ends and points, the set at each change, and the order below. What is drawn is a Picture: of a run (traces_model), or of a report
-(reports_model)."""
+"""A model of the text picture of `show`, written from docs/TEXTS.md only: a column for each moment, a lane
+for each thread with begins, ends and points, the set at each change, and the order below. A Picture is
+that of a run (traces_model) or of a report (reports_model)."""
 
 import collections
 import functools
 
 GREATEST = 4294967295
-# A list and the events that were made (None of a report); its calls, and by its number the end and the reply of each; the places of
-# the order; the set at each moment; the keys below; why the order is refused, and which event; None if they are not
+# The list; the number of events (None for a report); the calls; end and reply of each call, by number; the
+# places of the order; the set at each moment; the keys below; and why the order is refused and which event is
+# refused, or None
 Picture = collections.namedtuple("Picture", "kind threads quota events calls ends order sets keys refusal refused")
-Place = collections.namedtuple("Place", "number reply at change")  # in a refused order it has no moment
-# Why an order is refused: the words for it, the moment of which the picture begins, and the number that no call has
+Place = collections.namedtuple("Place", "number reply at change")  # in a refused order a place has no moment
+# Why an order is refused: the message, the moment where the picture begins, and the number of an unknown call
 Refusal = collections.namedtuple("Refusal", "said begun unknown")
 
 
 def picture_of_run(plan, run):
-    """The picture of the run of a schedule."""
+    """Returns the picture of a schedule's run."""
     order = sorted(run.points, key=lambda it: (run.points[it][0], not run.points[it][1], it))
     places = [Place(it, "true" if run.points[it][1] else run.ends[it][1], *run.points[it]) for it in order]
     return Picture(plan.kind, plan.threads, plan.quota, run.events, run.calls, run.ends, places, run.sets, sorted(run.sets[-1]), None, run.refused)
@@ -27,7 +28,7 @@ def keys_text(keys, separator=","):
 
 
 class Drawn:
-    """A picture, of the moments from one to another: `columns` of them."""
+    """A picture from one moment to another: its columns."""
 
     def __init__(self, picture, first, last):
         self.picture, self.first, self.has_points = picture, first, picture.refusal is None
@@ -95,8 +96,8 @@ class Drawn:
         return [f"refused {self.picture.refusal.said}"] if self.picture.refusal else []
 
     def side(self, place):
-        """Where a place is: before the picture (-1), in it (0) or after it (1), by its point or else its bar. None of a number that no
-        call has."""
+        """Returns whether a place is before the picture (-1), in it (0) or after it (1), by its point or else
+        its bar. None for an unknown call."""
         first = last = place.at
         if not self.has_points:
             if place.number >= len(self.picture.calls):
@@ -134,7 +135,7 @@ class Drawn:
         return [*told, *self.below(legend)]
 
     def in_svg(self):
-        """The texts that an SVG has, among others; how many points, and how many bars of calls."""
+        """Returns texts that an SVG contains, and its numbers of points and of bars."""
         legend = "filled: changes the set    open: changes nothing, its reply fits there    dashed: still open"
         points = [it for it in self.picture.order if self.has_points and self.first <= it.at <= self.last]
         bars = [it for it in self.picture.calls if it.begun <= self.last and self.picture.ends.get(it.number, [GREATEST])[0] >= self.first]
@@ -142,7 +143,7 @@ class Drawn:
 
 
 def with_rows_of(width, drawn):
-    """A picture with the most columns of which no row is longer than the width, but one at any width. An SVG has no width."""
+    """Removes columns until no row is longer than the width, but keeps one column. An SVG has no width."""
     while width and len(drawn.columns) > 1 and (len(drawn.row_of_moments()) > width or max(map(len, drawn.rows())) > width):
         drawn.columns.pop()
         drawn.last = drawn.columns[-1]
@@ -150,8 +151,8 @@ def with_rows_of(width, drawn):
 
 
 def fitted(picture, first, last, width=None):
-    """What is drawn of a picture in a window. Of a refused order it begins at what is refused, if no moments are asked for and some have no
-    room."""
+    """Returns the picture in a window. For a refused order it begins at the refusal if no window is given and
+    not all moments fit."""
     drawn = with_rows_of(width, Drawn(picture, first, last))
     begun = picture.refusal.begun if picture.refusal else None
     if begun is not None and (first, last) == (1, GREATEST) and drawn.is_cut()[1]:

@@ -1,5 +1,5 @@
-"""How a test runs a program to its end: how that ends (`ran`), and what it prints if it has to end well (`well`). And waiting, and the
-processes that belong to a folder."""
+"""Runs a program to its end and returns how it ends (`ran`), or its output if it must succeed (`well`). Also
+waits for conditions, and ends the processes of a folder."""
 
 import contextlib
 import os
@@ -14,20 +14,20 @@ from toolchain import NEEDS, TOP
 
 PROVED, UNPROVED = TOP / "crates/listset/out/listset", TOP / "crates/listset/out/unproved/listset"
 KINDS = [it.word for it in lists.lists()]
-SECONDS = 300  # for each wait, also on a busy machine
+SECONDS = 300  # for each wait, even on a busy machine
 LONG = 1800  # seconds, for a compiler and for a whole test
-# cargo, for what is built once: in half the time
+# cargo for a single build, in half the time
 QUICK_CARGO = ["env", "CARGO_INCREMENTAL=0", "CARGO_PROFILE_DEV_DEBUG=0", "cargo"]
 
 
 def not_installed(*commands):
-    """Of the first of these commands that is not installed, how to install it."""
+    """Returns how to install the first of these commands that is missing."""
     return next((f"{it} is not installed: {NEEDS[it]}" for it in commands if not shutil.which(it)), None)
 
 
 def ran(*words, text=None, seconds=SECONDS, **how):
-    """How a run of a program ends: its status, its output and its standard error, to the byte. It is given a text; else nothing. If it
-    is given bytes, they are bytes."""
+    """Runs a program and returns its status, output and standard error, unchanged. Its input is the text, or
+    nothing. If the text is bytes, the outputs are bytes too."""
     given = {"stdin": subprocess.DEVNULL} if text is None else {"input": text.encode() if isinstance(text, str) else text}
     done = subprocess.run([*map(str, words)], capture_output=True, timeout=seconds, **given, **how)
     if not isinstance(text, bytes):
@@ -36,14 +36,14 @@ def ran(*words, text=None, seconds=SECONDS, **how):
 
 
 def well(*words, seconds=LONG, **how):
-    """What a program prints that has to end with the status 0, and may warn."""
+    """Runs a program that must end with status 0, and returns its output. Warnings are allowed."""
     done = ran(*words, seconds=seconds, **how)
     assert done.returncode == 0, f"{words[0]} ended so:\n{done.stdout[-3000:]}{done.stderr[-3000:]}".strip()
     return done.stdout
 
 
 def wants(run, status=0, output=None, tells=(), no=()):
-    """That a run ended so, and that its standard error has these texts, and not those."""
+    """Checks how a run ended, and that its standard error contains these texts and not those."""
     found = f"{' '.join(run.args)}: status {run.returncode}, output {run.stdout[:300]!r}, standard error {run.stderr[-600:]!r}"
     assert run.returncode == status and output in (None, run.stdout), found
     for text in tells:
@@ -54,7 +54,7 @@ def wants(run, status=0, output=None, tells=(), no=()):
 
 
 def comes(condition, what):
-    """Waits until something is so."""
+    """Waits until a condition is true."""
     end = time.monotonic() + SECONDS
     while not condition():
         assert time.monotonic() < end, f"{what} does not come"
@@ -62,7 +62,7 @@ def comes(condition, what):
 
 
 def is_running(process):
-    """Whether a process is there, and not only its end untold."""
+    """Decides whether a process exists and is no zombie."""
     try:
         return pathlib.Path(f"/proc/{process}/stat").read_text().rpartition(")")[2].split()[0] != "Z"
     except OSError:
@@ -70,7 +70,8 @@ def is_running(process):
 
 
 def clear(folder):
-    """Ends the processes that are in this folder, or have it among their words or in their environment, and removes it."""
+    """Ends the processes that run in this folder, or name it in their arguments or environment, and deletes
+    it."""
     for process in pathlib.Path("/proc").glob("[0-9]*"):
         with contextlib.suppress(OSError):
             has_it = any(str(folder).encode() in (process / it).read_bytes() for it in ("cmdline", "environ"))

@@ -1,5 +1,5 @@
-"""A model of the pictures that `show` draws of a report, by docs/TEXTS.md alone: the first fault of an order with the words for it, and else
-the first moments at which its calls can take effect. And damage of a report at random."""
+"""A model of the pictures of reports, written from docs/TEXTS.md only: the first fault of an order with its
+message, or else the first moments at which its calls can take effect. Also damages reports at random."""
 
 import collections
 import itertools
@@ -33,9 +33,9 @@ def read_report(text):
 
 
 def faults_of(report):
-    """Why an order is refused, in the order in which that is looked for."""
+    """Yields why an order is refused, in the order of the checks."""
     def about(said, number):
-        """A refusal of a call, with which the picture begins."""
+        """Returns a refusal of a call. The picture begins with this call."""
         return Refusal(said, report.calls[number].begun, None)
 
     numbers = [it for it, _ in report.order]
@@ -54,7 +54,7 @@ def faults_of(report):
 
 
 def wrong_replies(report):
-    """Calls with another reply than in the history, or than the set has there; and what is said of them."""
+    """Yields calls with another reply than in the history, or than the set has there, with the message."""
     held, after = SetModel(report.quota, report.opening), {0: "at first", 1: "after place 1", 2: "after places 1 and 2"}
     for place, (it, says) in enumerate(report.order):
         call, before = report.calls[it], keys_text(sorted(held.keys))
@@ -77,7 +77,7 @@ def wrong_sets(report):
 
 
 def first_fault(report):
-    """Why its order is refused, or None."""
+    """Returns why the order is refused, or None."""
     return next(faults_of(report), None)
 
 
@@ -85,7 +85,7 @@ def first_fault(report):
 
 
 class Sets:
-    """The set at each moment, by the places of an order."""
+    """The set at each moment, from the places of an order."""
 
     def __init__(self, report, places):
         self.opening, self.changes = report.opening, [(it.at, report.calls[it.number]) for it in places if it.change]
@@ -98,7 +98,7 @@ class Sets:
 
 
 def places_of(report):
-    """The places of an order, each at the first moment that its call and the places before it leave."""
+    """Returns the places of an order, each at the first moment that its call and the places before it allow."""
     at = 0
     for it, reply in report.order:
         at = max(at, report.calls[it].begun)
@@ -115,22 +115,22 @@ def picture_of_report(it):
 
 
 def spread(it):
-    """Moves the moments apart, the last one to 400,000,000."""
+    """Spreads the moments, up to 400,000,000."""
     last = max([1, *(one.begun for one in it.calls), *(end for end, _ in it.ends.values())])
     it.calls[:] = [one._replace(begun=one.begun * 400_000_000 // last) for one in it.calls]
     it.ends.update({number: (end * 400_000_000 // last, reply) for number, (end, reply) in it.ends.items()})
 
 
 def report_text(it):
-    """A report as a text."""
+    """Returns a report as text."""
     head = ["listset-report 2", f"list {it.kind}", f"threads {it.threads}", f"quota {it.quota}", *(f"opening {key}" for key in it.opening)]
     calls = (f"call {one.number} {one.thread} {one.word} {one.key} {one.begun} {' '.join(map(str, it.ends.get(one.number, ['open'])))}" for one in it.calls)
     return "\n".join([*head, *calls, *(f"place {number} {reply}" for number, reply in it.order), *(f"key {key}" for key in it.keys), "end", ""])
 
 
 def damage(draw, it):
-    """A place is lost, stands twice, is of no call, goes elsewhere, or says another reply; or a call ended with another one; or keys are
-    lost, new, or no longer in order."""
+    """Damages a report: a place is lost, doubled, of an unknown call, moved, or has another reply; or a call
+    ended with another reply; or keys are lost, new, or out of order."""
     at, other = (draw.randrange(max(1, len(it.order))) for _ in range(2))
     number, reply = it.order[at] if it.order else (0, "true")
     another = draw.choice(["true", "false", "full", "nothing", "at-3", f"at-{GREATEST}"])

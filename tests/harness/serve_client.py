@@ -1,5 +1,5 @@
-"""A client of `listset serve`: what it sends on its connection, the answers that it reads, one to each line, how it goes away; and the
-server that it speaks with, which is ended: for tests/serve_clients.py."""
+"""A client of `listset serve`: sends lines, reads the answers, one for each line, and disconnects in several
+ways. Also starts and ends the server, for tests/serve_clients.py."""
 
 import contextlib
 import socket
@@ -13,7 +13,7 @@ SOON = 60
 
 
 class Server:
-    """The program as a server, and the port that it names."""
+    """The program as a server, with its port."""
 
     def __init__(self, process, first=None):
         self.process, first = process, first or process.stdout.readline()
@@ -24,7 +24,8 @@ class Server:
         return socket.create_connection((address, self.port), timeout=SECONDS)
 
     def ends(self, sessions, least, most, keys):
-        """Compares the last lines with so many sessions, at least and at most so many calls, and these keys."""
+        """Checks the last lines of the server: this number of sessions, a number of calls in this range, and
+        these keys."""
         lines = self.process.stdout.read().splitlines()
         assert self.process.wait(SECONDS) == 0
         calls = int(lines.pop(1).removeprefix("calls "))
@@ -34,7 +35,7 @@ class Server:
 
 @contextlib.contextmanager
 def started(*words):
-    """A process, which is ended if it does not end."""
+    """Starts a process, and kills it if it does not end."""
     process = subprocess.Popen([*map(str, words)], stdout=subprocess.PIPE, stderr=subprocess.PIPE, text=True)
     watch = threading.Timer(2 * SECONDS, process.kill)
     watch.start()
@@ -48,18 +49,18 @@ def started(*words):
 
 @contextlib.contextmanager
 def serving(program, kind, seats, quota, sessions, before=()):
-    """The program as a server, with these words before its own, such as those of a limit."""
+    """Starts the program as a server. `before` are arguments before its own, such as those of a limit."""
     with started(*before, program, "serve", kind, seats, quota, 0, sessions) as process:
         yield Server(process)
 
 
 def read_all(connection):
-    """The answers up to the end, which is no reset."""
+    """Returns the answers up to the end of the connection, which must not be a reset."""
     return b"".join(iter(lambda: connection.recv(65_536), b""))
 
 
 def read_lines(connection, count):
-    """So many answers, of which nothing more has come."""
+    """Returns a number of answers, and checks that nothing else has arrived."""
     text = b""
     while text.count(b"\n") < count:
         piece = connection.recv(4096)
@@ -69,20 +70,20 @@ def read_lines(connection, count):
 
 
 def asks(connection, lines, answers):
-    """Sends lines, which these answers follow, and after a `BYE` the end."""
+    """Sends lines, and checks the answers and, after `BYE`, the end of the connection."""
     connection.sendall(lines)
     assert read_lines(connection, answers.count(b"\n")) == answers, lines
     assert not (answers.endswith(b"BYE\n") and connection.recv(1)), lines
 
 
 def resets(connection):
-    """Goes away so that the system resets the connection."""
+    """Disconnects so that the system resets the connection."""
     connection.setsockopt(socket.SOL_SOCKET, socket.SO_LINGER, struct.pack("ii", 1, 0))
     connection.close()
 
 
 def speak_at_once(server, speakers):
-    """Clients in threads of their own, each of which speaks on a connection."""
+    """Runs clients in threads of their own, each on its own connection."""
     def connected(speak):
         with server.connect() as connection:
             speak(connection)

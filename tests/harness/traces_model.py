@@ -1,5 +1,6 @@
-"""A model of the run of a schedule on a list (lists_model), and of what `trace` prints of it, by docs/TEXTS.md alone: of each event its
-line and what its step saw, the chain where it changes, and of each call its end and its point."""
+"""A model of the run of a schedule (lists_model) and of the output of `trace`, written from docs/TEXTS.md
+only: a line for each event with what its step saw, the chain after a change, and the end and the point of
+each call."""
 
 import collections
 
@@ -7,7 +8,8 @@ from harness.lists_model import REGISTERS, TAIL_KEY, Call, List
 from harness.set_model import fits_without_change
 
 Schedule = collections.namedtuple("Schedule", "version kind threads quota opening lines")
-# of a run: lines of its trace with chains, calls with their ends, the set at each moment, points of each call, and the refused event
+# A run: the lines of its trace with chains, the calls and their ends, the set at each moment, the points of
+# each call, and the refused event
 Run = collections.namedtuple("Run", "trace calls ends sets points refused events")
 
 
@@ -57,7 +59,8 @@ def content(chain):
 
 
 class Tracing:
-    """A run under way, and what a Run has of it so far. Of a broken list the set is what its changes make it, whatever the chain is."""
+    """A run in progress, and the parts of its Run so far. For a broken list the set follows its changes,
+    whatever the chain is."""
 
     def __init__(self, plan, lacks):
         self.plan, self.list = plan, List(plan.kind, plan.threads, plan.quota, plan.opening, lacks)
@@ -66,14 +69,14 @@ class Tracing:
         self.lines, self.calls, self.ends, self.points = [], [], {}, {}
 
     def cause(self, t, is_begin):
-        """Why an event of a thread is refused, or None."""
+        """Returns why an event of a thread is refused, or None."""
         if t >= self.plan.threads:
             return "NoThread"
         is_busy = self.list.threads[t].pc != 0
         return ("Busy" if is_begin else "Idle") if is_busy == is_begin else None
 
     def event(self, number, pieces):
-        """An event of a line: a begin, or a step."""
+        """Makes an event of a line: a begin, or a step."""
         t, moment = int(pieces[1]), len(self.sets)
         told = f"event {moment} line {number} thread {t} "
         if pieces[0] == "begin":
@@ -87,7 +90,8 @@ class Tracing:
         self.tallies.append(tuple(self.counts))
 
     def changes(self, it, later):
-        """What a step put in and took out: by the chains before it and later, or, of a broken list, by its row."""
+        """Returns what a step added and removed: from the chains before and after it or, for a broken list,
+        from its row."""
         if self.list.lacks:
             key = {it.call.key}
             self.keys = self.keys | key if it.change == "put" else self.keys - key if it.change else self.keys
@@ -115,8 +119,9 @@ class Tracing:
             self.chain = later
 
     def end(self, call, reply, moment):
-        """A call ends: one that has changed nothing has its point at the first moment that its reply fits. (One of a broken list ends
-        there if none fits, and is full whatever its thread has used.)"""
+        """Ends a call. A call that changed nothing has its point at the first moment at which its reply is
+        correct. (In a broken list the point is at the end if there is no such moment, and `full` is always
+        correct.)"""
         self.ends[call.number] = (moment, reply)
         if call.number not in self.points:
             states = zip([*self.sets, frozenset(self.keys)], [*self.tallies, tuple(self.counts)])
@@ -126,7 +131,7 @@ class Tracing:
 
 
 def run_of(plan, lacks=None):
-    """The run of a schedule, of a list or of a broken one, up to the first event that is refused."""
+    """Runs a schedule on a list or a broken list, up to the first refused event."""
     run = Tracing(plan, lacks)
     events = ((number, pieces) for number, pieces in plan.lines for _ in range(1 if pieces[0] == "begin" else int(pieces[2])))
     refused = None

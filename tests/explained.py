@@ -1,0 +1,266 @@
+"""What is said of mistakes: in a pipe one fixed line, to the byte; by `explain` the line, what is wrong and what to do; at a terminal a line below
+the fixed one."""
+
+import os
+import pty
+import re
+import shutil
+import subprocess
+
+import pytest
+from harness.programs import SECONDS, TOP, ran, wants, well
+
+SCHEDULE = "listset-schedule 1\nlist lazy\nthreads 2\nquota 4\n"
+DRAFT = "listset-draft 2\nlist coarse\nthreads 2\nquota 4\n"
+CALLS = "listset-calls 1\n"
+REPORT = "listset-report 1\nlist coarse\nthreads 1\nquota 4\n"
+RIGHT = SCHEDULE + "begin 0 add 5\ngo 0 11\n"
+RIGHT_REPORT = REPORT + "call 0 0 add 5 1 8 true\nplace 0 true\nkey 5\nend\n"
+ADD = "call 0 add 5 1 4 true\n"
+RIGHT_CALLS = f"{CALLS}{ADD}key 5\nend\n"
+
+# the command, the text, the fixed line, and what the explanation has
+ROWS = {
+    "no bytes": ("replay", "", "line 1: Header", ["no bytes", "command before a pipe"]),
+    "no bytes of a recording": ("judge", "", "line 1: Header", ["no bytes"]),
+    "CR LF": ("replay", RIGHT.replace("\n", "\r\n"), "line 1: Header", [r"listset-schedule 1\r", "CR LF", r"sed -i 's/\r$//' FILE"]),
+    "CR LF in a report": ("check", RIGHT_REPORT.replace("\n", "\r\n"), "line 1: Header", [r"sed -i 's/\r$//' FILE"]),
+    "CR LF in a recording": ("judge", RIGHT_CALLS.replace("\n", "\r\n"), "line 1: Header", [r"sed -i 's/\r$//' FILE"]),
+    "CR in one line": ("replay", RIGHT[:-1] + "\r\n", "line 6: Number", [r"go 0 11\r", "CR LF"]),
+    "byte order mark": ("replay", "\ufeff" + RIGHT, "line 1: Header", [r"\xef\xbb\xbf", r"sed -i '1s/^\xef\xbb\xbf//' FILE"]),
+    "byte order mark of a recording": ("judge", "\ufeff" + RIGHT_CALLS, "line 1: Header", [r"sed -i '1s/^\xef\xbb\xbf//' FILE"]),
+    "UTF-16": ("replay", RIGHT.encode("utf-16"), "line 1: Header", ["UTF-16", "iconv -f UTF-16 -t UTF-8"]),
+    "a recording for replay": ("replay", RIGHT_CALLS, "line 1: Header", ["recorded calls", "listset judge FILE"]),
+    "a report for replay": ("replay", RIGHT_REPORT, "line 1: Header", ["a report", "listset show FILE"]),
+    "a schedule for judge": ("judge", RIGHT, "line 1: Header", ["a schedule", "listset replay FILE"]),
+    "a schedule for check": ("check", RIGHT, "line 1: Header", ["a schedule", "listset replay FILE"]),
+    "a recording for check": ("check", RIGHT_CALLS, "line 1: Header", ["recorded calls", "listset judge FILE"]),
+    "a recording for show": ("show", RIGHT_CALLS, "line 1: Header", ["recorded calls", "listset judge FILE"]),
+    "a schedule for draft": ("draft", RIGHT, "line 1: Header", ["a schedule", "listset replay FILE"]),
+    "no first line": ("judge", ADD + "key 5\nend\n", "line 1: Header", ["sed -i '1i listset-calls 1' FILE"]),
+    "empty line": ("replay", RIGHT.replace("go", "\ngo"), "line 6: Event", ["is empty", "sed -i '6d' FILE"]),
+    "comment": ("replay", SCHEDULE + "# add\n", "line 5: Event", ["# add", "no comments"]),
+    "space at the end": ("replay", SCHEDULE + "begin 0 add 5 \n", "line 5: Event", ["ends with a space", "sed -i '5s/ *$//' FILE"]),
+    "tab": ("replay", SCHEDULE + "begin\t0 add 5\n", "line 5: Event", [r"begin\t0 add 5", "a tab"]),
+    "two spaces": ("replay", SCHEDULE + "go  0 1\n", "line 5: Event", ["two spaces"]),
+    "insert": ("replay", SCHEDULE + "begin 0 insert 4\n", "line 5: Event", ["'insert' is no call", "add, remove, contains"]),
+    "ceiling in version 1": ("replay", SCHEDULE + "begin 0 ceiling 4\n", "line 5: Event", ["make line 1 'listset-schedule 2'"]),
+    "key below 0": ("replay", SCHEDULE + "begin 0 add -5\n", "line 5: Number", ["'-5'", "from 0 to 4294967295"]),
+    "key too large": ("replay", SCHEDULE + "begin 0 add 4294967296\n", "line 5: Number", ["'4294967296'", "from 0 to 4294967295"]),
+    "out in a schedule": ("replay", SCHEDULE + "begin 0 add 5\ngo 0 out\n", "line 6: Number", ["a line of a draft", "listset draft FILE"]),
+    "no such thread": ("replay", SCHEDULE + "begin 2 add 5\n", "line 5: NoThread", ["no thread 2", "threads 2", "from 0 to 1"]),
+    "second begin": ("replay", SCHEDULE + "begin 0 add 5\nbegin 0 add 6\n", "line 6: Busy", ["Thread 0", "since line 5", "go 0 STEPS"]),
+    "step without a call": ("replay", SCHEDULE + "go 0 1\n", "line 5: Idle", ["Thread 0 has begun no call", "begin 0 add 5"]),
+    "one step too many": ("replay", SCHEDULE + "begin 0 add 5\ngo 0 12\n", "line 6: Idle", ["line 5 ends after 11 steps", "Write 'go 0 11'"]),
+    "step after the end": ("replay", RIGHT + "go 0 1\n", "line 7: Idle", ["no pending call", "line 5 has ended"]),
+    "Lazy": ("replay", SCHEDULE.replace("lazy", "Lazy"), "line 2: Kind", ["list Lazy", "lower case"]),
+    "65 threads": ("replay", SCHEDULE.replace("threads 2", "threads 65"), "line 3: Threads", ["threads 65", "from 1 to 64"]),
+    "large quota": ("replay", SCHEDULE.replace("quota 4", "quota 20000"), "line 4: Quota", ["quota 20000", "from 0 to 16384"]),
+    "no newline": ("replay", SCHEDULE + "begin 0 add 5", "line 5: NotEnded", ["no newline", "echo >> FILE"]),
+    "a lock": ("draft", DRAFT + "begin 0 add 5\ngo 0 2\nbegin 1 add 7\ngo 1 out\n", "line 8: Waits", ["Thread 1 waits for list.lock", "thread 0 holds"]),
+    "no such row": ("draft", DRAFT + "begin 0 add 5\ngo 0 to 9\n", "line 6: Idle", ["line 5 ends after 7 steps", "Write 'go 0 7'"]),
+    "True": ("judge", CALLS + "call 0 add 5 1 4 True\nend\n", "line 2: Line", ["'True' is no reply", "true or false"]),
+    "1 as a reply": ("judge", CALLS + "call 0 add 5 1 4 1\nend\n", "line 2: Line", ["'1' is no reply"]),
+    "insert in a recording": ("judge", CALLS + "call 0 insert 5 1 4 true\nend\n", "line 2: Line", ["'insert' is no call"]),
+    "full": ("judge", CALLS + "call 0 add 5 1 4 full\nend\n", "line 2: Line", ["grep -v -e ceiling -e full FILE"]),
+    "end before begin": ("judge", CALLS + "call 0 add 5 4 1 true\nend\n", "line 2: History", ["ends at moment 1", "begins"]),
+    "one moment twice": ("judge", CALLS + ADD + "call 1 add 7 4 6 true\nend\n", "line 3: History", ["Moment 4", "line 2", "one counter"]),
+    "not sorted": ("judge", CALLS + "call 0 add 5 5 6 true\ncall 1 add 7 1 2 true\nend\n", "line 3: History", ["before the call of line 2", "sort -n -k 5,5"]),
+    "two calls of a thread": ("judge", CALLS + "call 0 add 5 1 4 true\ncall 0 add 7 2 3 true\nend\n", "line 3: History", ["line 2 has not ended", "one call at a time"]),
+    "large moment": ("judge", CALLS + "call 0 add 5 1 9223372036854775808 true\nend\n", "line 2: Number", ["'9223372036854775808'", "from 1 to 9223372036854775807"]),
+    "moment 0": ("judge", CALLS + "call 0 add 5 0 4 true\nend\n", "line 2: Number", ["'0'", "from 1 to"]),
+    "1.5": ("judge", CALLS + "call 0 add 5 1.5 4 true\nend\n", "line 2: Number", ["'1.5'", "point"]),
+    "a key abc": ("judge", CALLS + "call 0 add abc 1 4 true\nend\n", "line 2: Number", ["'abc'", "from 0 to 4294967295"]),
+    "a thread main": ("judge", CALLS + "call main add 5 1 4 true\nend\n", "line 2: Number", ["'main'"]),
+    "no end": ("judge", CALLS + ADD, "line 3: NotEnded", ["stops after line 2", "'end'", "'cut'", "echo cut >> FILE"]),
+    "keys do not increase": ("judge", CALLS + ADD + "key 7\nkey 5\nend\n", "line 4: Opening", ["'key 5' comes after 'key 7'", "increase"]),
+    "a line after the end": ("judge", RIGHT_CALLS + "\n", "line 5: Line", ["is empty"]),
+    "a call after the end": ("judge", RIGHT_CALLS + ADD, "line 5: Line", ["ended with line 4"]),
+    "no key lines": ("judge", CALLS + ADD + "end\n", None, ["No order explains the calls and leaves the keys", "write 'cut'"]),
+    "an order that is refused": ("check", RIGHT_REPORT.replace("key 5\n", ""), None, ["is refused", "listset show FILE"]),
+    "a number that is missing": ("check", RIGHT_REPORT.replace("call 0 0", "call 1 0"), "line 5: History", ["must be 0"]),
+    "a report that is cut off": ("check", RIGHT_REPORT[:-4], "line 8: NotEnded", ["stops after line 7", "'end'"]),
+    "keys": (None, "key 5\nkey 7\nkey 6\n", "line 3: Opening", ["'key 6' comes after 'key 7'", "sort -u -n -k 2,2"]),
+    "a comment above the title": (None, "# a run\n" + RIGHT, None, ["no comments", "sed -i '1d' FILE"]),
+    "numbers for keys": (None, "5\n7\n", None, ["each line must be 'key K'", "sed -i 's/^/key /' FILE"]),
+}
+
+
+@pytest.mark.parametrize("name", ROWS)
+def test_a_mistake_is_explained(program, name):
+    command, text, line, explained = ROWS[name]
+    given = text if isinstance(text, bytes) else text.encode()
+    if command:
+        done = ran(program, command, text=given)
+        assert done.stderr == (f"listset: {line}\n".encode() if line else b""), done
+        assert done.returncode == 1
+    done = ran(program, "explain", text=given)
+    said = done.stdout.decode()
+    assert (done.returncode, done.stderr) == (0, b""), done
+    assert all(it in said for it in explained), said
+    if line and "Header" not in line:
+        assert f"line {line[5:].split(':')[0]} has an error, {line.split(': ')[1]}:\n    " in said, said
+
+
+def test_no_edit_is_advised_of_a_file_of_another_program(program):
+    for text in ("# A project\n", "\n\nText\n", "// code\nint main;\n", "a file\r\n", "  indented\n", "a\tb\n", "call me\n", "list of things\n"):
+        said = ran(program, "explain", text=text.encode()).stdout.decode()
+        assert "is no text of listset" in said and "sed " not in said and said.splitlines()[-1].startswith("Line 1 must be one of"), said
+
+
+def test_a_file_that_is_not_read_is_explained(program, room):
+    wants(ran(program, "explain", "no-such", cwd=room), output="no-such: there is no such file. Look at its name, and at the folder that you are in: ls\n")
+    wants(ran(program, "explain", "."), output=".: this is a folder. Name a file in it.\n")
+    wants(ran(program, "explain", "/dev/null/a"), output="/dev/null/a: a part of this path is a file, and no folder.\n")
+    wants(ran(program, "replay", "."), status=1, output="")
+    long = room / "long"
+    long.write_text(SCHEDULE)
+    os.truncate(long, 67_108_865)
+    assert "has more than 67108864 bytes" in well(program, "explain", long)
+
+
+def test_no_text_stops_explain(program, few):
+    """Texts with a part cut out, repeated, or replaced: `explain` succeeds and names the line that the command names."""
+    import random
+
+    dice = random.Random(7)
+    of_commands = {"replay": RIGHT, "draft": DRAFT + "begin 0 add 5\ngo 0 out\n", "check": RIGHT_REPORT, "judge": RIGHT_CALLS}
+    for _ in range(40 if few else 400):
+        command = dice.choice([*of_commands])
+        text = of_commands[command].encode()
+        at = dice.randrange(len(text))
+        to = at + dice.randrange(1, 9)
+        part = dice.choice([b"", b" ", b"\n", b"-", text[at:to] * 2, b"\xff", b"9999999999", b"call ", b"\r\n", b"end\n", b"key 3\n"])
+        text = text[:at] + part + text[to:]
+        due, explained = ran(program, command, text=text), ran(program, "explain", text=text)
+        assert (explained.returncode, explained.stderr) == (0, b""), (text, explained)
+        assert explained.stdout.endswith(b"\n") and b"\n\n" not in explained.stdout, (text, explained)
+        if (found := re.fullmatch(rb"listset: (line \d+): (\w+)\n", due.stderr)) and found[2] != b"Header":
+            assert b"%s has an error, %s:" % (found[1], found[2]) in explained.stdout, (text, due, explained)
+
+
+def test_faults_of_a_cause(program):
+    whole = well(program, "faults")
+    busy = well(program, "faults", "Busy")
+    assert busy == well(program, "faults", "busy") == well(program, "faults", "listset: line 6: Busy")
+    assert busy.count("\n") == 2 and all(it in whole.splitlines() for it in busy.splitlines())
+    causes = set(re.findall(r"^  ([A-Z]\w+)  ", whole, re.M))
+    for cause in causes:
+        said = well(program, "faults", cause)
+        assert re.findall(r"^  ([A-Z]\w+)  ", said, re.M) in ([cause] * said.count(f"  {cause}  "), [cause] * said.count(f"\n  {cause}  ")), said
+    assert "listset-calls 1" in well(program, "faults", "Header")
+    assert well(program, "faults", "bad SEED") == well(program, "faults", "listset: bad SEED")
+    assert well(program, "faults", "refused TooEarly 1") == well(program, "faults", "TooEarly")
+    for wrong in ("Nothing", "", " ", "I", "Idl", "a", "a file", "Error", "Error messages"):
+        wants(ran(program, "faults", wrong), status=2, output="", tells=["listset: bad CAUSE\n"])
+
+
+# ---- at a terminal
+
+# words, what stands on the terminal below the fixed line
+AT_TERMINAL = {
+    "replay no-such": ["listset: cannot read\n", "no-such: there is no such file"],
+    "judge .": ["listset: cannot read\n", ".: this is a folder"],
+    "replay a.schedule": ["listset: line 6: Idle\n", "Write 'go 0 11'"],
+    "replay --lacks mark a.schedule": ["listset: line 2: Kind\n", "mark is a check of another list"],
+    "judge a.schedule": ["listset: line 1: Header\n", "a.schedule is a schedule. Thread 0"],
+    "judge b.schedule": ["listset: line 1: Header\n", "b.schedule is a schedule. For its report: listset replay b.schedule"],
+    "gen": ["listset: bad KIND\n", "KIND is missing. Usage: listset gen KIND THREADS QUOTA CALLS KEYS SEED"],
+    "gen lazy": ["listset: bad THREADS\n", "THREADS is missing"],
+    "gen Lazy 2 4 9 5 1": ["listset: bad KIND\n", "KIND 'Lazy' is wrong. List: coarse, fine"],
+    "gen lazy 65 4 9 5 1": ["listset: bad THREADS\n", "THREADS '65' is wrong. Number of threads", "1 to 64"],
+    "gen lazy 2 4 9 5 0x10": ["listset: bad SEED\n", "SEED '0x10' is wrong", "0 to 18446744073709551615"],
+    "gen lazy 2 4 9 5 -1": ["unexpected argument '-1' found\n", "SEED '-1' is wrong", "0 to 18446744073709551615"],
+    "show --from 0 b.schedule": ["listset: bad FROM\n", "FROM", "1 to the last one"],
+    "example nosuch": ["listset: bad NAME\n", "listset example lists the names"],
+    "judge --only x b.schedule": ["listset: bad KEY\n", "KEY is a number from 0 to 4294967295"],
+    "show --brief b.schedule": ["unexpected argument '--brief' found\n", "--brief is an option of judge"],
+    "faults nosuch": ["listset: bad CAUSE\n", "lists all causes"],
+    "b.schedule": ["unrecognized subcommand 'b.schedule'\n", "If you mean the file: listset replay b.schedule\n"],
+    "judge -x.calls": ["unexpected argument '-x' found\n", "If you mean the file: listset judge ./-x.calls"],
+    "serve lazy 1 4 0 0 b.schedule": ["listset: line 1: Line\n", "b.schedule is a schedule."],
+    "judge a.schedule b.schedule": ["unexpected argument 'b.schedule' found\n", "judge reads one file"],
+    "show --chain b.schedule": ["unexpected argument '--chain' found\n", "--chain is an option of trace"],
+    "shwo": ["unrecognized subcommand 'shwo'\n", "'show'"],
+}
+
+
+def at_terminal(words, cwd, typed=None):
+    """Returns what a command prints at a terminal, and its status. `typed` is its standard input."""
+    ours, theirs = pty.openpty()
+    stdin = theirs if typed else subprocess.DEVNULL
+    running = subprocess.Popen(words, cwd=cwd, stdin=stdin, stdout=theirs, stderr=theirs)
+    os.close(theirs)
+    os.write(ours, typed or b"")
+    said = b""
+    while True:
+        try:
+            piece = os.read(ours, 65536)
+        except OSError:
+            break
+        if not piece:
+            break
+        said += piece
+    os.close(ours)
+    return running.wait(timeout=SECONDS), said.decode().replace("\r\n", "\n")
+
+
+@pytest.fixture
+def script(program, room):
+    """Makes a folder with the script, the program under test as its proved program, and two schedules, a.schedule and b.schedule."""
+    tree = room / "tree"
+    (tree / "crates/listset/out").mkdir(parents=True)
+    shutil.copytree(TOP / "build", tree / "build")
+    for name in ("listset", "crates.txt"):
+        shutil.copy2(TOP / name, tree)
+    shutil.copy(program, tree / "crates/listset/out/listset")
+    (tree / "a.schedule").write_text(SCHEDULE + "begin 0 add 5\ngo 0 12\n")
+    (tree / "b.schedule").write_text(RIGHT)
+    (tree / "-x.calls").write_text(RIGHT_CALLS)
+    return tree
+
+
+@pytest.mark.parametrize("words", AT_TERMINAL)
+def test_a_terminal_has_a_line_below_an_error(script, words):
+    fixed, *more = AT_TERMINAL[words]
+    status, said = at_terminal(["./listset", *words.split()], script)
+    assert status in (1, 2) and fixed in said, said
+    below = said.split(fixed, 1)[1]
+    assert all(it in below for it in more) and "to pass '-" not in said, said
+    in_pipe = ran("./listset", *words.split(), cwd=script)
+    assert (in_pipe.stdout, in_pipe.stderr, in_pipe.returncode) == ("", ran(script / "crates/listset/out/listset", *words.split(), cwd=script).stderr, status)
+
+
+def test_a_result_at_a_terminal_is_the_result(script):
+    status, said = at_terminal(["./listset", "example", "snip"], script)
+    assert (status, said) == (0, well(script / "crates/listset/out/listset", "example", "snip"))
+
+
+READ = {"judge": "recorded calls", "replay": "a schedule", "replay --lacks mark": "a schedule", "trace --chain -": "a schedule", "check": "a report",
+        "draft": "a draft", "show --svg": "a schedule or a report", "show --lacks=mark": "a schedule or a report", "explain": "a text", "serve lazy 1 4 0 0 -": "the keys of the set"}
+
+
+@pytest.mark.parametrize("words", READ)
+def test_what_is_read_from_a_terminal_is_said(script, words):
+    _, said = at_terminal(["./listset", *words.split()], script, typed=b"\x04")
+    assert f"listset: reading {READ[words]} from the terminal, up to Ctrl-D (see listset help {words.split()[0]})\n" in said, said
+
+
+def test_the_size_of_a_long_recording_is_said(script):
+    long = script / "long.calls"
+    long.write_text(SCHEDULE)
+    os.truncate(long, 60_000_000)
+    note = "listset: judging 60 MB; a recording that is refused is read twice\n"
+    assert at_terminal(["./listset", "judge", "long.calls"], script)[1].startswith(note + "listset: line 1: Header\n")
+    assert ran("./listset", "judge", "long.calls", cwd=script).stderr == "listset: line 1: Header\n"
+
+
+def test_a_note_comes_once_and_after_a_result(script):
+    out = script / "crates/listset/out"
+    (out / "unproved").mkdir()
+    (out / "listset").rename(out / "unproved/listset")
+    note = "listset: this program was built without a proof; ./listset --prove proves and builds the program first\n"
+    assert at_terminal(["./listset", "replay", "no-such"], script)[1].startswith("listset: cannot read\n")
+    first, second = (at_terminal(["./listset", "example", "snip"], script) for _ in range(2))
+    assert first == (0, second[1] + note) and second[1].startswith("listset-schedule 1\n")
+    assert wants(ran("./listset", "example", "snip", cwd=script), output=second[1]).stderr == ""
