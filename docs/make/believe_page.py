@@ -1,8 +1,10 @@
-"""What docs/BELIEVE.md and believed.txt leave out, or name that is not there: files of definitions that public contracts reach, the names
-of these definitions, functions with their clauses.
+"""Checks docs/BELIEVE.md and believed.txt. Finds what they leave out, or name although it does not exist:
+files of definitions that public contracts reach, the names of these definitions, and functions with their
+clauses.
 
-From the names in the signature and the clauses of each public function, and in what public types and traits state, definitions are
-followed name by name. Lemmas are not followed: the prover checks them; nor are invariants of types."""
+The search begins with the names in the signature and the clauses of each public function, and in the
+statements of public types and traits. It follows definitions by name. It does not follow lemmas, which the
+prover checks, nor invariants of types."""
 
 import functools
 import re
@@ -13,18 +15,19 @@ from rattle_sources import Source
 
 TOP = Path(__file__).resolve().parent.parent.parent
 CRATES, BELIEVED, PAGE = TOP / "crates", Path(__file__).resolve().parent / "believed.txt", "docs/BELIEVE.md"
-NAME = r"[^\W\d][\w'\-]*"  # of the logic
+NAME = r"[^\W\d][\w'\-]*"  # a name in the logic
 USE = re.compile(r"^\s*(?:ghost )?(?:pub )?use Rattle\.([^\s{;]+?)(?:\.\{([^}]*)\})?(?: as (" + NAME + r"))?;?[ ]*$", re.M)
 KINDS = {"abbrev", "unfoldable", "opaque", "record", "data"}
 IMPORT = re.compile(r"(?:pub )?(?:use|mod|infixl|infixr|infix|syntax)\b")
 HEAD = re.compile(rf"((?:(?:pub|{'|'.join(KINDS)}) )*)({NAME})((?: [({{].*?[)}}])* :)?")
-# Functions in a cell of a table, and the clauses in the parentheses behind them.
+# Functions in a cell of a table, and the clauses in the parentheses after them.
 SAID_BY = re.compile(r"((?:`[a-z]\w+::[\w:{}, ]+`,? ?)+)(?:\(((?:`\w+`,? ?)+)\))?")
 IN_BRACKETS = re.compile(r"(?<!\w)\[([A-Z][a-z ][^][]*)\](?!\()")
 
 
 class Module(NamedTuple):
-    """A file of definitions: its path, its text, its definitions by name, and what its `use` lines bring in: names, and modules."""
+    """A file of definitions: its path, its text, its definitions by name, and what its `use` lines import:
+    names, and modules."""
 
     file: str
     definitions: dict
@@ -33,7 +36,7 @@ class Module(NamedTuple):
 
 
 def uses(text):
-    """What the `use` lines of a file bring in of the logic: names, and modules under another name."""
+    """Returns what the `use` lines of a file import from the logic: names, and modules under another name."""
     names, modules = {}, {}
     for path, listed, other in USE.findall(text):
         for entry in filter(None, (listed or "").split(",")):
@@ -45,7 +48,7 @@ def uses(text):
 
 
 def definitions_in(text):
-    """The definitions of a file, by name, without comments."""
+    """Returns the definitions of a file, by name, without comments."""
     found, lemmas, into = {}, {}, None
     for line in text.split("\n"):
         if not line.strip() or line.strip().startswith("--"):
@@ -62,7 +65,7 @@ def definitions_in(text):
 
 @functools.cache
 def modules():
-    """The files of definitions of all crates, by their names as modules."""
+    """Returns the files of definitions of all crates, by module name."""
     found = {}
     for path in sorted({*CRATES.glob("*/specs/**/*.antt"), *CRATES.glob("*/proofs/**/*.antt")}):
         text, file = path.read_text(encoding="utf-8"), path.relative_to(CRATES)
@@ -72,7 +75,8 @@ def modules():
 
 
 def named(text, sign, names, others, own=()):
-    """The definitions that a text names without its comments, as pairs of a module and a name; those of its own file have no module."""
+    """Returns the definitions that a text names, comments ignored, as pairs of module and name. Those of its
+    own file have no module."""
     text = " ".join(re.sub(rf"(^|\s){sign}.*", "", text, flags=re.M).split())
     text = re.sub(r"\bpub " + NAME + r" :", ":", re.sub(r"(?<=[{;])\s*" + NAME + r"\s*=(?![=>])", "", text))
     for word in re.findall(NAME + r"(?:\." + NAME + ")*", text):
@@ -89,8 +93,8 @@ def named(text, sign, names, others, own=()):
 
 
 def public_contracts():
-    """What each library states of its public functions, types and traits: its name, the name of what it states, the text, and what the
-    names in it can be."""
+    """Yields what each library states about its public functions, types and traits: the library, the name of
+    the item, the text, and what the names in it can mean."""
     for root in sorted(CRATES.glob("*/src/lib.rt")):
         texts = {it.stem: it.read_text(encoding="utf-8") for it in sorted(root.parent.rglob("*.rt"))}
         above = {"lib", *re.findall(r"pub mod (\w+);", texts["lib"])}
@@ -111,7 +115,7 @@ def public_contracts():
 
 @functools.cache
 def reached():
-    """The definitions that public contracts reach: of each its module and its name."""
+    """Returns the definitions that public contracts reach, as pairs of module and name."""
     found, waiting = set(), [it for _, _, text, can_be in public_contracts() for it in named(text, "//", *can_be)]
     while waiting:
         path, name = waiting.pop()
@@ -126,14 +130,14 @@ def reached():
 
 
 def print_reached():
-    """Prints each file with the names of the definitions in it that are reached."""
+    """Prints each file with the names of its definitions that are reached."""
     for path, module in modules().items():
         if names := [it for it in module.definitions if (path, it) in reached()]:
             print(f"{module.file}: {', '.join(names)}")
 
 
 def entries():
-    """Each line of believed.txt: a file, and the names of what it defines."""
+    """Yields each line of believed.txt: a file, and the names of what it defines."""
     for line in BELIEVED.read_text(encoding="utf-8").splitlines():
         if line and not line.startswith("#"):
             file, _, names = line.partition(": ")
@@ -146,7 +150,7 @@ def problems(top):
 
 
 def file_faults():
-    """Files that public contracts reach and believed.txt does not have, and the other way round."""
+    """Yields the files that public contracts reach and believed.txt does not list, and the reverse."""
     found, listed = {modules()[path].file for path, _ in reached()}, {file for file, _ in entries()}
     yield from (f"needs a line of believed.txt for {it}, which a public contract reaches" for it in sorted(found - listed))
     yield from (f"would have to list {it}: move what is reached there to specs/" for it in sorted(found) if "/proofs/" in it)
@@ -154,7 +158,8 @@ def file_faults():
 
 
 def name_faults(top, rows):
-    """Names in brackets that are no definition, in comments and pages; and definitions that no row names."""
+    """Yields names in brackets that are no definition, in comments and pages; and definitions that no row
+    names."""
     known = {name for _, names in entries() for name in names}
     texts = {it: re.sub(r"^    .*$|`[^`\n]*\[[^`\n]*`", "", it.read_text(encoding="utf-8"), flags=re.M) for it in (top / "docs").glob("*.md")}
     for path in [*CRATES.glob("*/*/**/*.antt"), *CRATES.glob("*/src/**/*.rt")]:
@@ -165,7 +170,7 @@ def name_faults(top, rows):
 
 
 def function_faults(rows):
-    """Functions that rows name, and clauses in the parentheses behind them, that are not there."""
+    """Yields functions that rows name, and clauses in the parentheses after them, that do not exist."""
     stated = {}
     for crate, name, text, _ in public_contracts():
         stated[crate, name] = stated.get((crate, name), "") + text
@@ -179,6 +184,6 @@ def function_faults(rows):
 
 
 def is_declared(crate, name):
-    """Whether a crate declares a function, type or trait of this name."""
+    """Decides whether a crate declares a function, type or trait with this name."""
     declared = re.compile(rf"\b(?:fn|struct|enum|trait|type|mod) {name.rpartition('::')[2]}\b")
     return any(declared.search(it.read_text(encoding="utf-8")) for it in (CRATES / crate / "src").rglob("*.rt"))

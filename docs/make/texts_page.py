@@ -1,9 +1,9 @@
-"""Tables of docs/TEXTS.md, made from the sources: of errors from the comments of the variants and from what `listset faults` prints. And what
-that page and docs/COMMANDS.md say otherwise than the sources."""
+"""Makes the tables of docs/TEXTS.md from the sources: of errors, from the comments of the variants and the
+output of `listset faults`. Also finds where docs/TEXTS.md and docs/COMMANDS.md differ from the sources."""
 
 import re
 
-# The files whose lines may be refused, with the words of `listset faults` for each
+# The files with lines that can be refused, and their names in `listset faults`
 FILES = {"schedule": "a schedule", "draft": "a draft", "report": "a report", "recording": "recorded calls", "keys": "the keys"}
 
 
@@ -12,13 +12,15 @@ def table(head, rows):
 
 
 def faults_below(top, head):
-    """What `listset faults` says below this front of a line: a name and a text for each fault, or the first line of that."""
+    """Returns the entries of `listset faults` below a line that begins with `head`: the name of each fault
+    and the first line of its text."""
     said = (top / "crates/tool_base/src/faults.rt").read_text().split(f"\n{head}")[1].split("\n\n")[0]
     return dict(re.findall(r"^  (\S+) +(.*?)\.?$", said, re.M))
 
 
 def table_of_causes(top):
-    """Why a line is refused: the comment of each variant, and the files in which `listset faults` names it."""
+    """Returns the table of causes for which a line is refused: the comment of each variant, and the files for
+    which `listset faults` names it."""
     text = (top / "crates/lset_text/src/causes.rt").read_text()
     causes = re.findall(r"((?:^    /// .*\n)+)    (\w+),$", text.split("pub enum Cause {")[1].split("\n}")[0], re.M)
     named = {file: faults_below(top, f"listset: line L: CAUSE, in {its}") for file, its in FILES.items()}
@@ -33,13 +35,13 @@ def table_of_causes(top):
 
 
 def table_of_orders(top):
-    """Why an order is refused: what `listset faults` says of it."""
+    """Returns the table of faults for which an order is refused, from `listset faults`."""
     return table(["Fault", "When"], [[f"`{name}`", when] for name, when in faults_below(top, "refused FAULT ID").items()])
 
 
 def problems(top):
-    """Limits that are no constants of the sources, and arguments and options that `listset help` tells otherwise. (A page may leave out the
-    names for `--lacks`.)"""
+    """Yields limits that differ from the constants of the sources, and arguments and options that differ from
+    `listset help`. (A page can leave out the names for `--lacks`.)"""
     sources = "\n".join(it.read_text() for it in top.glob("crates/*/src/**/*.rt"))
     for value, name in re.findall(r"\| ([\d,]+) \| `(\w+)` \|", (top / "docs/TEXTS.md").read_text()):
         if not re.search(rf"^pub const {name}: \w+ = {value.replace(',', '_?')};", sources, re.M):
