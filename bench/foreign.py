@@ -1,4 +1,5 @@
-"""Measures a call of a running set from C, C++, Rust, Java and Python, beside a set of the language's own that threads can share."""
+"""Measures a call of a running set from C, C++, Rust, Java and Python. For comparison, measures a set of each language that threads can
+share."""
 
 import os
 import pathlib
@@ -36,8 +37,8 @@ path = "{source}"
 
 
 def foreign():
-    """Prints the nanoseconds of a call, of all threads together, on sets of several sizes, in one thread and in four: the medians of
-    some runs in turn."""
+    """Prints the nanoseconds of a call on sets of several sizes, with one thread and with four. The time is that of all threads together,
+    the median of several alternating runs."""
     if not (OUT / "lib" / "liblistset.a").exists():
         sys.exit("bench: foreign/out is missing: build it with foreign/build")
     heading(f"Nanoseconds in {THREADS[0]} thread, in {THREADS[1]}", *(f"{size:,}" + " keys" * (size == SIZES[0]) for size in SIZES))
@@ -53,7 +54,7 @@ def foreign():
 
 
 def medians_of(sets, many, size):
-    """Runs all sets in turn, some times. Returns the median of each."""
+    """Runs all sets in turn, several times. Returns the median time of each set."""
     runs = [[nanoseconds(words, many, size) for words in sets.values()] for _ in range(RUNS_OF_TABLE)]
     return [statistics.median(times) for times in zip(*runs)]
 
@@ -80,7 +81,7 @@ def by_c(room):
 
 
 def by_cpp(room):
-    """Rows of C++; with a skip list of libcds if Debian's package libcds-dev is installed."""
+    """Returns the rows of C++. A skip list of libcds has a row if Debian's package libcds-dev is installed."""
     program, libcds = room / "of_cpp", ["-lcds"] * LIBCDS.exists()
     library = [f"-I{OUT}/include", OUT / "lib" / "liblistset.a", "-pthread", *libcds]
     compiled("g++", "-std=c++17", "-O2", BENCH / "foreign_calls.cpp", *library, "-o", program)
@@ -97,7 +98,7 @@ def by_rust(room):
 
 
 def java_home():
-    """The folder of the newest JDK here, or None if none has the Foreign Function API."""
+    """Returns the folder of the newest JDK on this machine, or None if no JDK has the Foreign Function API."""
     found = {}
     for java in {shutil.which("java"), *map(str, pathlib.Path("/usr/lib/jvm").glob("*/bin/java"))} - {None}:
         said = subprocess.run([java, "-version"], stdin=subprocess.DEVNULL, capture_output=True, text=True).stderr
@@ -108,7 +109,7 @@ def java_home():
 
 
 def by_java(room):
-    """Rows of Java; none if there is no JDK with the Foreign Function API."""
+    """Returns the rows of Java; none if no JDK has the Foreign Function API."""
     home = java_home()
     if home is None:
         print(f"bench: no row of Java: its Foreign Function API wants a JDK {OLDEST_JAVA} or later", file=sys.stderr)

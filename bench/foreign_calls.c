@@ -1,5 +1,5 @@
-// Makes calls of a running set from C. Arguments: SET THREADS CALLS KEYS. Prints the nanoseconds of all threads together by the number of calls.
-// A third of the calls is of each kind, on random keys. Half of the keys are in the set.
+// Makes calls of a running set from C. Arguments: SET THREADS CALLS KEYS. Prints the nanoseconds of all threads together, divided by the
+// number of calls. A third of the calls are adds, a third removes, a third contains, on random keys. Half of the keys are in the set.
 #define _POSIX_C_SOURCE 200809L
 #include <listset.h>
 #include <pthread.h>

@@ -1,5 +1,5 @@
 // Makes the calls of foreign_calls.c from C++, and calls of a std::set under a lock and of libcds's skip list, if libcds is installed.
-// (TBB's concurrent_set has no erase that threads may call at once.)
+// (TBB's concurrent_set is not measured: threads must not call its erase at once.)
 #include <listset.hpp>
 
 #include <cstdio>

@@ -1,4 +1,4 @@
-"""Makes the calls of foreign_calls.c from Python, and calls of a set under a lock."""
+"""Makes the calls of foreign_calls.c from Python, on a running set or on a Python set under a lock."""
 
 import random
 import sys
@@ -7,7 +7,7 @@ import time
 
 
 class Locked:
-    """A set of Python under a lock."""
+    """A Python set under a lock."""
 
     def __init__(self, keys):
         self.keys, self.lock = keys, threading.Lock()

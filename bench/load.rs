@@ -1,8 +1,8 @@
 //! Loads a set server on the loopback, and measures how fast it answers.
 //!   rustc -O load.rs;  load PROTOCOL PORT CLIENTS AT_ONCE REQUESTS KEYS
 //! PROTOCOL is `listset`, or `redis` with a set named `s`. Each client has a thread, a connection and REQUESTS requests, which are made
-//! before the first one is sent: a third each of add, remove and contains, on KEYS keys. A client sends AT_ONCE requests in one write, and
-//! the next ones when it has their answers. The output is the requests per second, from the first write to the last answer of all clients,
+//! before the first one is sent: a third each of add, remove and contains, on KEYS keys. A client sends AT_ONCE requests in one write, waits
+//! for their answers, and then sends the next AT_ONCE requests. The output is the requests per second, from the first write to the last answer of all clients,
 //! and the median and the 99th percentile of the microseconds from a write to the last of its answers. Each read ends within ten
 //! seconds.
 
@@ -36,7 +36,7 @@ impl Protocol {
         }
     }
 
-    /// Decides whether an answer can begin with this byte: TRUE or FALSE of listset, a number of redis.
+    /// Decides whether an answer can begin with this byte. listset answers TRUE or FALSE, redis answers a number.
     fn begins(self, byte: u8) -> bool {
         match self {
             Protocol::Listset => b"TF".contains(&byte),

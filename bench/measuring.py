@@ -1,4 +1,4 @@
-"""The common parts of bench/run: programs, processor seconds and peak memory of runs, and rows of tables."""
+"""Common functions of bench/run: they find programs, measure processor seconds and peak memory of runs, and print rows of tables."""
 
 import datetime
 import os

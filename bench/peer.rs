@@ -16,7 +16,7 @@ use std::sync::Mutex;
 use std::time::{Duration, Instant};
 
 const LONGEST: u64 = 200_000;
-/// More rounds are made until they have taken this long.
+/// The minimum time of all rounds together: rounds are repeated until they have taken this long.
 const ENOUGH: Duration = Duration::from_millis(100);
 const OPS: [(Op, &str); 3] = [(Op::Add, "add"), (Op::Remove, "remove"), (Op::Contains, "contains")];
 
@@ -51,7 +51,7 @@ impl Pcg {
     }
 }
 
-/// The arguments, as of `listset run`.
+/// The arguments, in the order of `listset run`.
 struct Wanted {
     threads: u64,
     quota: u64,

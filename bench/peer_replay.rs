@@ -1,5 +1,5 @@
-// A replayer of schedules, written by hand for speed: the baseline for `listset replay`. It reads lines of opening keys too, but no
-// ceiling.
+// A replayer of schedules, written by hand for speed: the baseline for `listset replay`. It reads lines of opening keys, but not the
+// call `ceiling`.
 //   rustc -O peer_replay.rs;  peer_replay replay < schedule > report;  peer_replay check < report
 use std::collections::{BTreeMap, BTreeSet, HashMap, HashSet};
 use std::fmt::Write as _;

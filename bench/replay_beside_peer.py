@@ -1,4 +1,4 @@
-"""Measures replay and check of texts, beside a replayer written by hand (peer_replay.rs)."""
+"""Measures replay and check of texts, and compares them with a replayer written by hand (peer_replay.rs)."""
 
 import os
 import tempfile

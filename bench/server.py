@@ -1,5 +1,4 @@
-"""Measures the requests per second of the set server, beside redis. Starts both servers and reads their
-ports."""
+"""Measures the requests per second of the set server, and compares them with redis. Starts both servers and reads their ports."""
 
 import contextlib
 import shutil

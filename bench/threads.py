@@ -1,5 +1,4 @@
-"""Measures running sets, beside lists written by hand: calls by kind, and rounds of calls on sets of several
-sizes."""
+"""Measures running sets, and compares them with lists written by hand: calls by kind, and rounds of calls on sets of several sizes."""
 
 import statistics
 import subprocess

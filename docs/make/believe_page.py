@@ -1,4 +1,4 @@
-"""Checks docs/BELIEVE.md and believed.txt. Finds what they leave out, or name although it does not exist:
+"""Checks docs/BELIEVE.md and believed.txt. Finds names that are missing in them, and names in them that do not exist:
 files of definitions that public contracts reach, the names of these definitions, and functions with their
 clauses.
 
