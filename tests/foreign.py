@@ -119,7 +119,7 @@ def words_of_program(program):
 
 
 @needs("gcc")
-def test_words(installed, program):
+def test_a_c_program_prints_what_the_program_prints(installed, program):
     """A C program over each of the libraries prints the same bytes as the program listset, with the same exit status."""
     static, shared, run_path = installed.built("words.c"), installed.room / "shared", f"-Wl,-rpath,{installed.library}"
     well("gcc", "-std=c11", *WARN, installed.include, TESTS / "words.c", f"-L{installed.library}", "-llistset", run_path, "-o", shared)
@@ -131,7 +131,7 @@ def test_words(installed, program):
 
 
 @needs("gcc")
-def test_threads(installed):
+def test_eight_threads_judge_at_once(installed):
     """Eight threads call the judge at once."""
     for flags in ([], [MEMORY], [RACES]):
         if all(map(installed.works, flags)):
@@ -139,7 +139,7 @@ def test_threads(installed):
 
 
 @needs("gcc")
-def test_memory(installed):
+def test_the_judge_reports_each_failed_allocation_and_leaks_nothing(installed):
     """The judge reports each failed allocation, and leaks nothing."""
     schedule, report = EXAMPLES / "one-add.schedule", EXAMPLES / "one-add.report"
     draft = min((TOP / "tests" / "transcripts" / "data" / "drafts").glob("*.draft"), key=lambda it: it.stat().st_size)
@@ -149,7 +149,7 @@ def test_memory(installed):
 
 
 @needs("gcc")
-def test_sets(installed):
+def test_calls_of_threads_agree_with_counts_and_are_judged(installed):
     """Calls of threads agree with models and counts, and are judged: with more threads than processors, and a million calls."""
     for flags, sizes in (([], [250_000, 4]), ([], [500, 64]), ([MEMORY], [5_000, 4]), ([RACES], [2_000, 4])):
         if all(map(installed.works, flags)):
@@ -158,20 +158,20 @@ def test_sets(installed):
 
 
 @needs("gcc")
-def test_misuse(installed):
+def test_wrong_arguments_and_failed_allocations_are_reported(installed):
     """The sets refuse wrong arguments, and report each failed allocation."""
     flags = [MEMORY] if installed.works(MEMORY) else []
     well(installed.built("misuse.c", *flags, *WRAPPED))
 
 
 @needs("gcc")
-def test_largest_set(installed):
+def test_each_list_opens_with_the_most_keys(installed):
     """Each list opens with the most keys that a set can have."""
     well(installed.built(TOP / "tests" / "harness" / "largest_set.c"))
 
 
 @needs("gcc")
-def test_c(installed):
+def test_programs_in_c_use_sets_and_judge(installed):
     made = installed.room / "first"
     well("gcc", "-std=c99", *WARN, FIRST / "judge.c", *installed.flags(), "-o", made)
     installed.first_judge(made)
@@ -180,7 +180,7 @@ def test_c(installed):
 
 
 @needs("g++")
-def test_cpp(installed):
+def test_programs_in_cpp_use_sets_and_judge(installed):
     made, first, how = installed.room / "made", installed.room / "first", [MEMORY] if installed.works(MEMORY) else []
     # With optimization and a sanitizer g++ takes three times as long. The programs of the page compile the header with optimization.
     elsewhere, flags = installed.room / "elsewhere.o", ["-std=c++17", *WARN, "-O0", *how, "-pthread"]
@@ -197,7 +197,7 @@ def test_cpp(installed):
 
 
 @needs("g++")
-def test_renewal(installed):
+def test_calls_of_a_renewed_set_are_linearizable(installed):
     """Sets of each list renew themselves while eight threads add and remove the same keys; their calls are judged."""
     made, flags = installed.room / "made", ["-std=c++17", *WARN, "-pthread", TESTS / "renewed.cpp", *installed.flags()]
     for how, calls in (([], 50_000), (["-O0", MEMORY], 2_000), (["-O0", RACES], 500)):
@@ -207,7 +207,7 @@ def test_renewal(installed):
 
 
 @needs("cargo")
-def test_rust(installed):
+def test_programs_in_rust_use_sets_and_judge(installed):
     crate, target, cargo = installed.share / "rust", ["--target-dir", installed.room / "target"], [*QUICK_CARGO, "--offline"]
     how = {**os.environ, "LISTSET_EXAMPLES": str(EXAMPLES)}
     said = well(*cargo, "test", "--locked", *target, "--manifest-path", crate / "Cargo.toml", env=how)
@@ -230,7 +230,7 @@ def test_rust(installed):
 
 
 @needs("go", "pkg-config", "gcc")
-def test_go(installed):
+def test_programs_in_go_use_sets_and_judge(installed):
     how = {**in_room(installed), "PKG_CONFIG_PATH": str(installed.library / "pkgconfig"), "LD_LIBRARY_PATH": str(installed.library), "SET": "right", "HOW": "runs=2"}
     shutil.copytree(FORMS / "go", installed.room / "go")
     first = go_words("test", "-count=1", "-tags", "listset", "-run", "TestSet", "-v")
@@ -247,7 +247,7 @@ def is_judged(said, proof):
     assert f"; judge: liblistset, {proof}" in said
 
 
-def test_python(installed):
+def test_programs_in_python_use_sets_and_judge(installed):
     how = {"env": {**in_room(installed), "PYTHONPATH": str(installed.share)}}
     well(sys.executable, "-B", TESTS / "judge.py", EXAMPLES, **how)
     how["env"] |= {"SET": "right", "HOW": "runs=2"}

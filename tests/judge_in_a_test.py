@@ -148,7 +148,7 @@ def test_wrong_sets_are_refused_with_the_default_options(form, program):
 
 
 @each(LANGUAGES)
-def test_keys_of_any_kind(form, program):
+def test_keys_can_be_of_any_kind(form, program):
     assert form.told(program, "collides", f"{FEW} keys=4")[0] == "ok"
     assert form.told(program, "collides", f"{FEW} keys=128")[0] == "refused"
     assert "the key function returns " in form.told(program, "twice", f"{FEW} keys=4")[1]
@@ -370,7 +370,7 @@ def test_all_languages_have_the_messages_of_one_file():
 
 
 @pytest.mark.needs("cargo")
-def test_a_lock_that_another_test_holds(room, once, program):
+def test_a_lock_that_another_test_holds_stops_no_test(room, once, program):
     tests, *_ = once(built_rust)
     assert "ok: " in well(tests, "another_test_holds_a_lock", "--exact", "--nocapture", env={**os.environ, "LISTSET": program, "TMPDIR": str(room)})
 
@@ -412,7 +412,7 @@ def test_a_set_that_cannot_be_sent_is_called_in_this_jvm(room, once, program):
 
 
 @pytest.mark.needs("java")
-def test_java_sets_that_inherit_their_calls(room, once, program):
+def test_java_sets_that_inherit_their_calls_are_judged_by_them(room, once, program):
     """Java 17 reads the serialized `Second::contains` back as `First::contains` if both inherit it. The sets
     are then called in this JVM."""
     form = Form("Java", room, once(built_java))
@@ -423,7 +423,7 @@ def test_java_sets_that_inherit_their_calls(room, once, program):
     assert kind == "refused" and re.search("^not linearizable\nno order explains .*\n(?:.*\n)*.*contains.* true", said, re.M), said
 
 
-def test_servers(room, program):
+def test_servers_are_judged_by_their_clients(room, program):
     words = [sys.executable, "-B", "-m", "unittest", "discover", "-s", FORMS / "python/tests", "-t", FORMS / "python/tests"]
     well(*words, cwd=room, env={**os.environ, "LISTSET": program, "TMPDIR": str(room), "PYTHONPATH": str(FORMS / "python")})
 
@@ -439,7 +439,7 @@ target_link_libraries(own listset::judge)
 
 
 @pytest.mark.needs("cmake", "g++")
-def test_the_package_of_cpp(room, program):
+def test_a_project_uses_the_package_of_cpp(room, program):
     well("cmake", "-S", FORMS / "cpp", "-B", room / "out")
     well("cmake", "--install", room / "out", "--prefix", room / "here")
     assert (room / "here/lib/pkgconfig/listset_judge.pc").exists()
@@ -450,7 +450,7 @@ def test_the_package_of_cpp(room, program):
     assert Form("C++", room, [room / "own/own"]).told(program, "right", FEW)[0] == "ok"
 
 
-def test_the_package_of_python(room, program, lacking):
+def test_a_project_uses_the_package_of_python(room, program, lacking):
     if ran(sys.executable, "-c", "import setuptools, wheel, pip").returncode:
         lacking("pip, setuptools or wheel is not installed: Debian's packages python3-pip and python3-wheel")
     source = shutil.copytree(FORMS / "python", room / "source", ignore=shutil.ignore_patterns("__pycache__"))
@@ -464,7 +464,7 @@ def test_the_package_of_python(room, program, lacking):
 
 
 @pytest.mark.needs("mvn", "javac", "java")
-def test_the_package_of_java(room, program, lacking):
+def test_a_project_uses_the_package_of_java(room, program, lacking):
     plugins = pathlib.Path("/usr/share/maven-repo/org/apache/maven/plugins")
     if not all((plugins / f"maven-{it}-plugin").exists() for it in ("compiler", "jar", "resources", "surefire")):
         lacking("maven's plugins are missing: Debian's libmaven-compiler-plugin-java, libmaven-jar-plugin-java, libmaven-resources-plugin-java, libsurefire-java")
@@ -476,7 +476,7 @@ def test_the_package_of_java(room, program, lacking):
 
 
 @pytest.mark.needs("go")
-def test_the_package_of_go(room, program):
+def test_a_project_uses_the_package_of_go(room, program):
     module = re.search("^module (.*)$", (FORMS / "go/go.mod").read_text(), re.M)[1]
     (room / "go.mod").write_text(f"module own\n\ngo 1.18\n\nrequire {module} v0.1.0\n\nreplace {module} => {FORMS / 'go'}\n")
     sets = (FORMS / "go/sets_test.go").read_text().replace("package judge", "package own").replace('import (\n', f'import (\n\t. "{module}"\n')
@@ -486,7 +486,7 @@ def test_the_package_of_go(room, program):
 
 
 @pytest.mark.needs("cargo")
-def test_the_package_of_rust(room):
+def test_a_project_uses_the_package_of_rust(room):
     well("cargo", "package", "--offline", "--allow-dirty", "--quiet", "--target-dir", room, "--manifest-path", FORMS / "rust/Cargo.toml")
     assert [*(room / "package").glob("*.crate")]
 
@@ -504,7 +504,7 @@ OF_CPP = {"libcds": (["-lcds"], "cds/init.h"), "others": (["-ltbb", "-lurcu-cds"
 
 @pytest.mark.needs("g++")
 @pytest.mark.parametrize("name", OF_CPP)
-def test_published_sets_of_cpp(room, program, lacking, name):
+def test_right_published_sets_of_cpp_are_not_refused(room, program, lacking, name):
     libraries, header = OF_CPP[name]
     if not pathlib.Path("/usr/include", header).exists():
         lacking("a library is not installed: Debian's packages libcds-dev, libtbb-dev, liburcu-dev and libck-dev")
@@ -519,7 +519,7 @@ def test_packages_that_are_not_installed_are_skipped(program):
 
 
 @pytest.mark.needs("javac", "java")
-def test_published_sets_of_java(room, program, lacking):
+def test_of_the_published_sets_of_java_the_wrong_ones_are_refused(room, program, lacking):
     jar = pathlib.Path("/usr/share/java/jctools-core.jar")
     if not jar.exists():
         lacking("JCTools is not installed: Debian's package libjctools-java")

@@ -244,7 +244,7 @@ def in_pieces(program, text, size):
 
 
 @pytest.mark.parametrize("size", [1, 7, 16, 4096])
-def test_pieces_of_any_size(program, size):
+def test_the_verdict_does_not_depend_on_the_pieces(program, size):
     """A recording, a recording without its end, and a recording with another title."""
     rng = random.Random(size)
     for many in (3, 30, 400):

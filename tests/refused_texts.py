@@ -74,7 +74,7 @@ def refused(program, words, text, due):
 
 
 @pytest.mark.parametrize("kind", READERS)
-def test_the_first_error_of_a_text(program, kind):
+def test_the_first_error_of_a_text_is_named(program, kind):
     words, head = READERS[kind]
     for its_kind, lines, due in rows():
         if its_kind == kind:
@@ -88,7 +88,7 @@ def test_faults_explains_each_cause(program):
 
 @pytest.mark.parametrize("title, words", [("listset-schedule 1", "replay"), ("listset-schedule 2", "replay"), ("listset-draft 2", "draft"),
                                           ("listset-report 1", "check"), ("listset-report 2", "check")])
-def test_the_first_error_of_a_header(program, title, words):
+def test_the_first_error_of_a_header_is_named(program, title, words):
     for wrong in ("", "\n", "listset-calls 1\n", f"{title} \n", f"{title}\r\n", f"{title[:-1]}3\n"):
         refused(program, words, wrong, "line 1: Header")
     for line, wrong in [(2, "list skip"), (2, "list  lazy"), (3, "threads 0"), (3, "threads 65"), (3, "thread 1"), (4, "quota 16385"), (4, "quota 01")]:
@@ -97,7 +97,7 @@ def test_the_first_error_of_a_header(program, title, words):
         refused(program, words, "".join(f"{it}\n" for it in header), f"line {line}: {HEADER[line - 1]}")
 
 
-def test_the_first_error_of_each_prefix_of_a_draft(program):
+def test_the_first_error_of_each_prefix_of_a_draft_is_named(program):
     """The error of a prefix that ends within a line is that the line has no end. A prefix of whole lines
     lacks the next line of the header, or is read."""
     text = (DATA / "drafts/opens-with-keys.draft").read_text()
@@ -114,5 +114,5 @@ def test_the_first_error_of_each_prefix_of_a_draft(program):
 @pytest.mark.parametrize("words, front", [("check", "listset-report 1\nlist lazy\nthreads 1\nquota 1\n"), ("judge", "listset-calls 1\n"),
                                           ("judge", "listset-calls 1\ncall 0 add 5 1 2 true\n"), ("serve lazy 1 4 0 0 -", "key 1\nkey 2"),
                                           ("serve lazy 1 4 0 0 -", "sessions 3\ncalls 2\nkey 7"), ("replay", "listset-schedule 1\nlist")])
-def test_a_text_without_its_end(program, words, front):
+def test_a_text_without_its_end_is_refused_at_its_last_line(program, words, front):
     refused(program, words, front, f"line {front.count(chr(10)) + 1}: NotEnded")

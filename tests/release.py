@@ -134,7 +134,7 @@ OF_LANGUAGES = [pytest.param(it, marks=needs(tool)) for it, tool in {"c": "gcc",
 @pytest.mark.parametrize("language", OF_LANGUAGES)
 def test_a_language_uses_the_unpacked_library(release, program, language):
     how = {"env": {**WITHOUT_RATTLE, "LISTSET_PREFIX": str(release.unpacked("*-linux-x86_64.tar.gz"))}}
-    well(sys.executable, "-m", "pytest", "-q", TOP / f"tests/foreign.py::test_{language}", "--program", program, **how)
+    well(sys.executable, "-m", "pytest", "-q", TOP / f"tests/foreign.py::test_programs_in_{language}_use_sets_and_judge", "--program", program, **how)
 
 
 def test_the_man_page_and_the_completions_work(release):
