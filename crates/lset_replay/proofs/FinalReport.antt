@@ -17,7 +17,7 @@ use Rattle.lset_words.specs.SequentialSet.{opening_set}
 use Rattle.lset_report.specs.Order.{placed_in, pointed_of}
 use Rattle.lset_replay.specs.declared.places.Linearized.{Linearized}
 use Rattle.lset_replay.specs.Trace.{trace_at, place_at, Trace}
-use Rattle.lset_replay.specs.Blocks.{point_of, pointed_from, IsOrderOf}
+use Rattle.lset_replay.specs.PlacedOrder.{point_of, pointed_from, IsOrderOf}
 use Rattle.lset_replay.proofs.KeyChanges.{HoldsKeys}
 use Rattle.lset_replay.proofs.ReplayKept.{PlaceBy, PlaceOf}
 use Rattle.lset_replay.proofs.RecorderReady.{follows, few_calls}

@@ -1,5 +1,5 @@
 pub mod Events
 pub mod Reports
 pub mod Trace
-pub mod Blocks
+pub mod PlacedOrder
 pub mod Follows

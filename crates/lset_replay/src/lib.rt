@@ -3,7 +3,6 @@
 //! lists too, and `calls_of` collects its calls. Traces and pictures use `Run` and `calls_of`, which are tested, not proved.
 #![tactic(auto)]
 
-mod calls;
 mod events;
 mod fault;
 mod fits;
@@ -12,14 +11,15 @@ mod order;
 mod places;
 mod recorder;
 mod replaying;
+mod run_calls;
 mod start;
 mod traced;
 mod tracing;
 
-pub use calls::{RunCalls, calls_of};
 pub use events::{LineEvent, event_of};
 pub use fault::ReplayFault;
 pub use replaying::replay;
+pub use run_calls::{RunCalls, calls_of};
 pub use start::run_of;
 pub use traced::{CallEnd, Deed, MadeEvent, TracedEvent};
 pub use tracing::{Run, Steps};

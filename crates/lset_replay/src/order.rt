@@ -1,6 +1,6 @@
 ghost use Rattle.std.specs.Prelude.{◌≡◌, ◌≤◌, length, IfOk};
 ghost use Rattle.lset_schedule.specs.declared.TheConstants.{MOST_EVENTS};
-ghost use Rattle.lset_replay.specs.Blocks.{pointed_from, IsOrderOf};
+ghost use Rattle.lset_replay.specs.PlacedOrder.{pointed_from, IsOrderOf};
 
 use crate::places::Linearized;
 use lset_report::{Pointed, order_of, sort_by_points};

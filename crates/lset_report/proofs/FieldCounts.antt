@@ -3,8 +3,8 @@ use Rattle.std.proofs.Common.{◌≡◌, ℕ, ◌<◌, ◌⊎◌, inl, inr, List
 use Rattle.lset_text.specs.declared.words.Version.{Version}
 use Rattle.lset_text.specs.declared.words.Version.TheVariants.{One, Two}
 use Rattle.lset_text.specs.Kinds.{first_of}
-use Rattle.lset_report.specs.declared.reading.lines.Section.{Section}
-use Rattle.lset_report.specs.declared.reading.lines.Section.TheVariants as section
+use Rattle.lset_report.specs.declared.reading.report_lines.Section.{Section}
+use Rattle.lset_report.specs.declared.reading.report_lines.Section.TheVariants as section
 use Rattle.lset_text.specs.declared.causes.Cause.TheVariants as wrong
 use Rattle.lset_report.specs.ReportReading.{open_kind, ended_kind, from_keys, kinds}
 

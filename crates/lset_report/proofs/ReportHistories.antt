@@ -18,7 +18,7 @@ use Rattle.lset_words.specs.History.{MayFollow, IsHistory}
 use Rattle.lset_words.specs.Words.{empty}
 use Rattle.lset_history.specs.History.{HistoryValue, with_begun}
 use Rattle.lset_history.proofs.CallByCall.{history_begun}
-use Rattle.lset_report.specs.declared.reading.calls.CallsSoFar.{CallsSoFar}
+use Rattle.lset_report.specs.declared.reading.calls_so_far.CallsSoFar.{CallsSoFar}
 use Rattle.lset_report.specs.ReportReading.{ends_at, is_entry, is_taken, begins_later, ended_before, is_idle, ends_later}
 use Rattle.lset_report.specs.ReportReading.{may_follow}
 use Rattle.lset_report.specs.ReportCalls.{threads_of, end_moment, is_open, is_last_end, Tracks}

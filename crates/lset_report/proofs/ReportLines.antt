@@ -20,10 +20,10 @@ use Rattle.lset_text.proofs.WordLaws.{with_key-word_of}
 use Rattle.lset_text.proofs.KindLaws.{Knows, IsMade}
 use Rattle.lset_text.proofs.NumberLaws.{any_fits, moment_fits}
 use Rattle.lset_text.proofs.SectionLaws.{later}
-use Rattle.lset_report.specs.declared.reading.lines.Line.{Line}
-use Rattle.lset_report.specs.declared.reading.lines.Line.TheVariants as told
-use Rattle.lset_report.specs.declared.reading.lines.Section.{Section}
-use Rattle.lset_report.specs.declared.reading.lines.Section.TheVariants as section
+use Rattle.lset_report.specs.declared.reading.report_lines.Line.{Line}
+use Rattle.lset_report.specs.declared.reading.report_lines.Line.TheVariants as told
+use Rattle.lset_report.specs.declared.reading.report_lines.Section.{Section}
+use Rattle.lset_report.specs.declared.reading.report_lines.Section.TheVariants as section
 use Rattle.lset_report.specs.Report.{ReportValue}
 use Rattle.lset_report.specs.Texts.{end_pieces}
 use Rattle.lset_report.specs.ReportReading.{call_told, call_form, IsEnd, IsCall, IsPlace, opening_kind, open_kind, ended_kind}

@@ -24,10 +24,10 @@ use Rattle.lset_text.proofs.LineLaws.{stops, is_good, line_at}
 use Rattle.lset_text.proofs.TextLaws.{text_refused, text_after, header_good, good_in_text}
 use Rattle.lset_report.specs.declared.report.TheConstants.{MOST_CALLS, MOST_PLACES}
 use Rattle.lset_report.specs.declared.reading.Reader.{Reader}
-use Rattle.lset_report.specs.declared.reading.lines.Line.{Line}
-use Rattle.lset_report.specs.declared.reading.lines.Line.TheVariants.{Opening, Call, Place, Key, End}
-use Rattle.lset_report.specs.declared.reading.lines.Section.{Section}
-use Rattle.lset_report.specs.declared.reading.lines.Section.TheVariants as section
+use Rattle.lset_report.specs.declared.reading.report_lines.Line.{Line}
+use Rattle.lset_report.specs.declared.reading.report_lines.Line.TheVariants.{Opening, Call, Place, Key, End}
+use Rattle.lset_report.specs.declared.reading.report_lines.Section.{Section}
+use Rattle.lset_report.specs.declared.reading.report_lines.Section.TheVariants as section
 use Rattle.lset_report.specs.Report.{ReportValue}
 use Rattle.lset_report.specs.Texts.{title, last_line}
 use Rattle.lset_report.specs.ReportReading.{kinds, may_follow, most_keys, is_next, judged, line_after, SoFar, with_told, step}

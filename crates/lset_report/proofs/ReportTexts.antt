@@ -31,10 +31,10 @@ use Rattle.lset_text.proofs.KindLaws.{made_ok, line_found, line_found_lacks, lin
 use Rattle.lset_text.proofs.LineLaws.{leads_on, items_lead}
 use Rattle.lset_text.proofs.SectionLaws.{middle, shorter, push_last, push_before, later_pushed, section_leads, openings_lead}
 use Rattle.lset_text.proofs.TextLaws.{all_both, text_found, text_again, version_again}
-use Rattle.lset_report.specs.declared.reading.lines.Line.{Line}
-use Rattle.lset_report.specs.declared.reading.lines.Line.TheVariants as told
-use Rattle.lset_report.specs.declared.reading.lines.Section.{Section}
-use Rattle.lset_report.specs.declared.reading.lines.Section.TheVariants as section
+use Rattle.lset_report.specs.declared.reading.report_lines.Line.{Line}
+use Rattle.lset_report.specs.declared.reading.report_lines.Line.TheVariants as told
+use Rattle.lset_report.specs.declared.reading.report_lines.Section.{Section}
+use Rattle.lset_report.specs.declared.reading.report_lines.Section.TheVariants as section
 use Rattle.lset_report.specs.declared.report.Report.{Report}
 use Rattle.lset_report.specs.declared.report.TheConstants.{MOST_CALLS, MOST_PLACES}
 use Rattle.lset_text.specs.declared.causes.Cause.TheVariants as wrong

@@ -3,7 +3,7 @@ use Rattle.std.specs.Prelude.{◌≡◌, ℕ, ◌<◌, ◌&&◌, ◌==◌, nat_l
 use Rattle.std.specs.List.{list_any}
 use Rattle.lset_words.specs.declared.Reply.{Reply}
 use Rattle.lset_words.specs.declared.history.CallRecord.{CallRecord}
-use Rattle.lset_report.specs.declared.reading.calls.CallsSoFar.{CallsSoFar}
+use Rattle.lset_report.specs.declared.reading.calls_so_far.CallsSoFar.{CallsSoFar}
 use Rattle.lset_report.specs.ReportReading.{begins_later, is_taken, is_idle}
 
 abbrev pub threads_of : CallsSoFar → ℕ

@@ -11,8 +11,8 @@ use Rattle.lset_text.specs.Lines.{IsGoodLine}
 use Rattle.lset_text.specs.Texts.{first_line}
 use Rattle.lset_report.specs.declared.reading.Reader.{Reader}
 use Rattle.lset_report.specs.Report.{ReportValue}
-use Rattle.lset_report.specs.declared.reading.lines.Line.{Line}
-use Rattle.lset_report.specs.declared.reading.lines.Line.TheVariants.{End}
+use Rattle.lset_report.specs.declared.reading.report_lines.Line.{Line}
+use Rattle.lset_report.specs.declared.reading.report_lines.Line.TheVariants.{End}
 use Rattle.lset_report.specs.Texts.{last_line}
 use Rattle.lset_report.specs.ReportReading.{line_after, SoFar, step}
 use Rattle.lset_report.specs.ReportCalls.{Tracks}

@@ -27,10 +27,10 @@ use Rattle.lset_text.specs.Texts.{TextGrammar, last_of_header, versioned_from}
 use Rattle.lset_text.specs.Headers.{version_in}
 use Rattle.lset_text.specs.Openings.{opening_form, HasOpening, is_above}
 use Rattle.lset_report.specs.declared.report.TheConstants.{MOST_CALLS, MOST_PLACES, MOST_KEYS, MOST_KEYS_OPENED}
-use Rattle.lset_report.specs.declared.reading.lines.Line.{Line as ReportLine}
-use Rattle.lset_report.specs.declared.reading.lines.Line.TheVariants as told
-use Rattle.lset_report.specs.declared.reading.lines.Section.{Section}
-use Rattle.lset_report.specs.declared.reading.lines.Section.TheVariants as section
+use Rattle.lset_report.specs.declared.reading.report_lines.Line.{Line as ReportLine}
+use Rattle.lset_report.specs.declared.reading.report_lines.Line.TheVariants as told
+use Rattle.lset_report.specs.declared.reading.report_lines.Section.{Section}
+use Rattle.lset_report.specs.declared.reading.report_lines.Section.TheVariants as section
 use Rattle.lset_report.specs.Report.{ReportValue}
 use Rattle.lset_report.specs.Texts.{title, last_line, report_text}
 

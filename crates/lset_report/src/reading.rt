@@ -21,15 +21,15 @@ ghost use Rattle.lset_report.specs.ReportReading.{
 };
 ghost use Rattle.lset_report.specs.ReportReader.{Holds, GoesOn, ReadsLine, so_far, state};
 
-mod calls;
-mod lines;
+mod calls_so_far;
+mod report_lines;
 
 use crate::title::title;
 use crate::{MOST_CALLS, MOST_KEYS, MOST_KEYS_OPENED, MOST_PLACES, Report, ReportFault};
-use calls::CallsSoFar;
-use lines::{Line, Section, line_of_report};
+use calls_so_far::CallsSoFar;
 use lset_text::{Cause, Header, LineFault, Version, cut, is_above, read_header, version_of};
 use lset_words::{CallRecord, MOST_OPENING, Placed};
+use report_lines::{Line, Section, line_of_report};
 use std::alloc::{AllocError, Global};
 
 /// The last line of the header.

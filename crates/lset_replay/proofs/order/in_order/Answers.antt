@@ -5,7 +5,7 @@ use Rattle.lset_report.specs.declared.order.Pointed.{Pointed}
 use Rattle.lset_report.specs.Order.{placed_in, HasSmallerNumber}
 use Rattle.lset_report.proofs.SortedPlaces.{sorted_rises}
 use Rattle.lset_replay.specs.declared.places.Linearized.{Linearized}
-use Rattle.lset_replay.specs.Blocks.{pointed_from}
+use Rattle.lset_replay.specs.PlacedOrder.{pointed_from}
 use Rattle.lset_replay.proofs.order.in_order.Goals as goal
 
 -- The calls that have a point, by their numbers

@@ -1,5 +1,5 @@
 use Rattle.std.proofs.Common.{◌≡◌, ◌++◌, drop}
-use Rattle.lset_replay.specs.Blocks.{pointed_from}
+use Rattle.lset_replay.specs.PlacedOrder.{pointed_from}
 use Rattle.lset_replay.proofs.order.pointed_calls.Given as goal
 
 abbrev pub invariant-loop-number : goal.invariant-loop-number

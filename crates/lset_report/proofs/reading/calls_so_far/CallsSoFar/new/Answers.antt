@@ -1,6 +1,6 @@
 use Rattle.std.proofs.Common.{◌≡◌, refl, replicate, false, rules}
 use Rattle.lset_report.proofs.ReportHistories.{tracks_none}
-use Rattle.lset_report.proofs.reading.calls.CallsSoFar.new.Goals as goal
+use Rattle.lset_report.proofs.reading.calls_so_far.CallsSoFar.new.Goals as goal
 
 pub returns-clause-tracks : goal.returns-clause-tracks
 returns-clause-tracks c =

@@ -1,9 +1,9 @@
 use Rattle.std.proofs.Common.{ap, refl}
 use Rattle.std.specs.Vec.{with_item}
 use Rattle.std.proofs.Math.ListN.{set}
-use Rattle.lset_report.specs.declared.reading.calls.CallsSoFar.{CallsSoFar}
+use Rattle.lset_report.specs.declared.reading.calls_so_far.CallsSoFar.{CallsSoFar}
 use Rattle.lset_report.proofs.ReportHistories.{may_ok, tracks_more}
-use Rattle.lset_report.proofs.reading.calls.CallsSoFar.push.Goals as goal
+use Rattle.lset_report.proofs.reading.calls_so_far.CallsSoFar.push.Goals as goal
 
 pub push-requires : goal.push-requires
 push-requires c = may_ok _ _ _ c.requires.may

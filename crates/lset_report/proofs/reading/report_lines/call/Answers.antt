@@ -1,7 +1,7 @@
 use Rattle.lset_text.specs.Parts.{cut_at}
 use Rattle.lset_text.proofs.PartLaws.{some_part}
 use Rattle.lset_report.proofs.FieldCounts.{call_many}
-use Rattle.lset_report.proofs.reading.lines.call.Goals as goal
+use Rattle.lset_report.proofs.reading.report_lines.call.Goals as goal
 
 pub returns-in-Some-cut-4 : goal.returns-in-Some-cut-4
 returns-in-Some-cut-4 c =

@@ -1,9 +1,9 @@
 use Rattle.std.proofs.Common.{◌∙◌}
 use Rattle.lset_text.proofs.PartLaws.{some_part}
 use Rattle.lset_report.proofs.FieldCounts.{one_piece, two_pieces, no_call, is_call}
-use Rattle.lset_report.proofs.reading.lines.line_of_report.Goals as goal
-use Rattle.lset_report.proofs.reading.lines.line_of_report.Goals.{in_default-2-via-in-Two+in_default}
-use Rattle.lset_report.proofs.reading.lines.line_of_report.Goals.{in_default-2-via-in_default+in_default}
+use Rattle.lset_report.proofs.reading.report_lines.line_of_report.Goals as goal
+use Rattle.lset_report.proofs.reading.report_lines.line_of_report.Goals.{in_default-2-via-in-Two+in_default}
+use Rattle.lset_report.proofs.reading.report_lines.line_of_report.Goals.{in_default-2-via-in_default+in_default}
 
 pub returns-in_default-section : goal.returns-in_default-section
 returns-in_default-section c =
