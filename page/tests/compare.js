@@ -4,6 +4,7 @@
 const fs = require("fs");
 const path = require("path");
 const vm = require("vm");
+const zlib = require("zlib");
 const { inPage, startedEngine } = require("../in_node.js");
 
 const folder = path.dirname(__dirname);
@@ -44,8 +45,8 @@ async function main() {
   const cases = JSON.parse(fs.readFileSync(process.argv[2], "utf8"));
   const engine = await startedEngine();
   const result = await vm.runInThisContext("compared")(engine, cases);
-  const module = fs.readFileSync(path.join(folder, "listset.wasm")).toString("base64");
-  check(result, "engine.js has the bytes of listset.wasm", vm.runInThisContext("ENGINE") === module);
+  const module = fs.readFileSync(path.join(folder, "listset.wasm"));
+  check(result, "engine.js has the bytes of listset.wasm", module.equals(zlib.gunzipSync(Buffer.from(vm.runInThisContext("ENGINE"), "base64"))));
   checkTraces(result, engine, cases);
   process.stdout.write(JSON.stringify(result));
 }

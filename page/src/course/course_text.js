@@ -1,5 +1,6 @@
 // Reads courses of lessons. The head of book.course describes the format. Each error names its line.
 import { LACKING } from "../../made/classics.js";
+import { bytesOf, passed } from "../engine/engine.js";
 import { AddressFault, LONGEST_ADDRESS } from "../run/address.js";
 import { GoalFault, readGoal } from "./goal_words.js";
 
@@ -142,10 +143,6 @@ export function readCourse(text) {
 }
 
 // ---- A course in a link: its packed text follows #course=, so nothing is loaded from a network.
-async function passed(bytes, stream) {
-  return new Uint8Array(await new Response(new Blob([bytes]).stream().pipeThrough(stream)).arrayBuffer());
-}
-
 export async function courseAddress(text) {
   const lines = text.split("\n").filter((line) => line.trim() !== "" && !line.startsWith("#"));
   const bytes = await passed(new TextEncoder().encode(`${lines.join("\n")}\n`), new CompressionStream("deflate-raw"));
@@ -156,7 +153,7 @@ export async function courseAddress(text) {
 
 export async function courseOfAddress(letters) {
   try {
-    const bytes = Uint8Array.from(atob(letters.replaceAll("-", "+").replaceAll("_", "/")), (letter) => letter.charCodeAt(0));
+    const bytes = bytesOf(letters.replaceAll("-", "+").replaceAll("_", "/"));
     return new TextDecoder().decode(await passed(bytes, new DecompressionStream("deflate-raw")));
   } catch {
     throw new AddressFault("the course of the address cannot be unpacked: the link is cut");

@@ -93,14 +93,18 @@ export function engineClass(firstRoom) {
 }
 export const Engine = engineClass(FIRST_ROOM);
 
-// Compiles the module: from engine.js (base64) if the page is opened as a file, else while it is downloaded.
+// Returns what a stream makes of some bytes.
+export async function passed(bytes, stream) {
+  return new Uint8Array(await new Response(new Blob([bytes]).stream().pipeThrough(stream)).arrayBuffer());
+}
+
+export const bytesOf = (base64) => Uint8Array.from(atob(base64), (letter) => letter.charCodeAt(0));
+
+// Compiles the module: its bytes are packed in engine.js, a third of listset.wasm. A browser that cannot unpack fetches them as they are.
 async function engineModule() {
-  if (typeof ENGINE === "undefined" && location.protocol === "file:") await loadScript("engine.js");
-  if (typeof ENGINE !== "undefined") return WebAssembly.compile(Uint8Array.from(atob(ENGINE), (letter) => letter.charCodeAt(0)));
-  const answer = await fetch("listset.wasm");
-  if (!answer.ok) throw new Error(`listset.wasm: ${answer.status} ${answer.statusText}`);
-  const isTyped = answer.headers.get("content-type") === "application/wasm"; // some servers do not know this type
-  return isTyped ? WebAssembly.compileStreaming(answer) : WebAssembly.compile(await answer.arrayBuffer());
+  if (typeof DecompressionStream === "undefined") return WebAssembly.compile(await (await fetch("listset.wasm")).arrayBuffer());
+  if (typeof ENGINE === "undefined") await loadScript("engine.js");
+  return WebAssembly.compile(await passed(bytesOf(ENGINE), new DecompressionStream("gzip")));
 }
 export const startEngine = async () => new Engine(await engineModule());
 

@@ -36,7 +36,7 @@ class Quiet(http.server.SimpleHTTPRequestHandler):
         return str(self.cases) if path == "/cases.json" else super().translate_path(path)
 
     def do_GET(self):
-        if self.path == "/listset.wasm" and "slow" in self.headers.get("referer", ""):
+        if self.path == "/engine.js" and "slow" in self.headers.get("referer", ""):
             time.sleep(SLOW)
         super().do_GET()
 
