@@ -185,7 +185,7 @@ function checkRecorded(ask) {
   check(`one that was cut off: ${cut}`, cut.join().includes("The recording was cut off: "));
   const calls = Array.from({ length: 50 }, (_, at) => `call 0 contains 5 ${2 * at + 1} ${2 * at + 2} false\n`).join("");
   const many = saidOf(ask, `${TITLE}${calls}end`);
-  const drawn = barsIn(inPage("drawRecorded")(many.calls, many.from, 600));
+  const drawn = barsIn(inPage("drawRecorded")(many.calls, 600));
   check(`many calls: ${many.reasons}`, drawn === 40 && many.reasons.at(-1) === "The first 40 calls are drawn.");
 }
 
@@ -216,7 +216,7 @@ function checkRefusals(ask) {
     "No remove(5) that answered true or is pending overlaps the time of both. They contradict each other in the other order too.",
   ];
   check(`two adds of one key: ${both.reasons.join(" ")}`, both.kind === "none" && both.reasons.join() === reasons.join());
-  const drawn = inPage("drawRecorded")(both.calls, both.from, 600);
+  const drawn = inPage("drawRecorded")(both.calls, 600);
   check("its calls as bars", barsIn(drawn) === 2 && />add\(5\)<tspan [^>]*> true</.test(drawn) && !drawn.includes("cursor"));
   const late = 1760000000000000000n; // a clock of nanoseconds
   const at = (moment) => String(late + BigInt(moment));
@@ -257,7 +257,7 @@ function checkDiagnosis() {
   const why = inPage("diagnosisIn")(`${record}\n`);
   check("a diagnosis: its headline", why.headline.startsWith("contains(3) returned true"));
   check("its calls", why.calls.length === 2 && why.calls[0].mark === "" && why.calls[1].mark === "expected false" && why.calls[1].ended === null && why.calls[0].begun === 5414n);
-  check("its facts", why.facts.length === 1 && why.also[0].key === "2" && why.likely.startsWith("contains does not") && why.because.endsWith("running"));
+  check("its facts", why.facts.length === 1 && why.also[0].key === 2 && why.likely.startsWith("contains does not") && why.because.endsWith("running"));
   check("no diagnosis", inPage("diagnosisIn")("") === null);
 }
 

@@ -9,12 +9,12 @@ import { momentAt, sentenceOf } from "../run/sentences.js";
 import { drawOrder, drawTable, drawThreads, MOST_ROWS } from "../draw/tables.js";
 import { HISTORY_LEFT } from "../draw/history.js";
 import { drawListing } from "../draw/listing.js";
-import { byId, setAble, setHtml } from "../page/dom.js";
+import { byId, scrollToLine, setAble, setHtml } from "../page/dom.js";
 import { works } from "../page/kept.js";
 import { askNow, hiddenOutcomes, isJudging, now, show, tell } from "../page/now.js";
 import { goByHand, isPlaying } from "../page/play.js";
 import { addressOfAssignment, addressOfCode, titleIn } from "../page/visit.js";
-import { examples, openTask, scrollToLine } from "../page/work.js";
+import { examples, openTask, scrollToEvent } from "../page/work.js";
 import { homeworkOf, titleOfAssignment } from "../story/assignment.js";
 import { Figure, STILL } from "../story/figure.js";
 import { linesOf, ShownRun } from "../story/live_run.js";
@@ -50,7 +50,7 @@ export function showRun() {
   showThreads(moment.event);
   showTable(moment);
   showListing(moment);
-  scrollToLine(moment.event);
+  scrollToEvent(moment.event);
 }
 
 export function showBar() {
@@ -86,9 +86,7 @@ function showListing(moment) {
   const box = byId("listing");
   box.innerHTML = drawListing(moment);
   const line = box.querySelector(".moved") ?? box.querySelector(".here");
-  if (line === null) return;
-  const y = line.offsetTop - box.offsetTop;
-  if (y < box.scrollTop + 40 || y > box.scrollTop + box.clientHeight - 80) box.scrollTop = y - box.clientHeight / 2;
+  if (line !== null) scrollToLine(box, line, 40, 80);
 }
 
 function pressPicture({ target, clientX }) {

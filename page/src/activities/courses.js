@@ -5,14 +5,12 @@ import { handInText } from "../course/hand_in.js";
 import { triedCourse } from "../course/lesson.js";
 import { byId } from "../page/dom.js";
 import { onFile, saveText } from "../page/files.js";
-import { isText, keptUnder } from "../page/kept.js";
 import { askNow, held } from "../page/now.js";
 import { copied, linkTo } from "../page/visit.js";
 import { AddressFault, warningOf } from "../run/address.js";
 import { counted } from "../run/markup.js";
-import { brokenLines, keepStory } from "../story/progress.js";
+import { brokenLines, judgedLines, keepStory } from "../story/progress.js";
 import { learning } from "../story/learning.js";
-import { JUDGED } from "./judging.js";
 import { drawLearnMap } from "./maps.js";
 
 const lessonPart = (name) => byId(`lesson-${name}`);
@@ -85,7 +83,7 @@ async function handIn() {
   const { panel } = learning;
   const lessons = panel.course.lessons.filter(({ name }) => panel.isSolved(name));
   const solutions = lessons.map(({ name }) => ({ name, schedule: panel.own.solutions.get(name) }));
-  const orders = Object.values(keptUnder(JUDGED) ?? {}).filter(isText);
+  const orders = Object.values(judgedLines());
   const broken = brokenLines().map(([, line]) => line);
   const box = lessonPart("text");
   box.value = handInText(panel.course.name, lessonPart("student").value.trim() || "?", solutions, [...orders, ...broken]);

@@ -2,15 +2,14 @@
 import { CLASSICS } from "../../made/classics.js";
 import { drawJudged, drawOwnOrder, judgeScale, momentOfReport } from "../draw/judged_bars.js";
 import { byId, redraw } from "../page/dom.js";
-import { keepUnder, keptUnder } from "../page/kept.js";
 import { askNow, dispatch, exampleShown, held, isJudging, now, tell } from "../page/now.js";
 import { addressOf } from "../run/address.js";
 import { askList } from "../run/broken.js";
 import { exerciseOf, LEVELS, MOST_JUDGED, OwnAnswer, repliesOf, verdictOn, wordOfAnswer } from "../run/judged.js";
 import { callText, chipOf, escaped } from "../run/markup.js";
 import { homeworkOf } from "../story/assignment.js";
+import { keepJudged } from "../story/progress.js";
 
-export const JUDGED = "listset-judged"; // in the browser's storage: of each run and level the order that was right
 const HALF_STEPS = { ArrowLeft: -0.5, ArrowDown: -0.5, ArrowRight: 0.5, ArrowUp: 0.5 };
 const SLIDER_KEYS = { ...HALF_STEPS, PageDown: -5, PageUp: 5, Home: -Infinity, End: Infinity };
 const judgePart = (name) => byId(`judge-${name}`);
@@ -94,7 +93,7 @@ class Judging {
   keep() {
     const run = exampleShown() === "" ? addressOf(now.run.text, now.run.count) : exampleShown();
     this.line = `judge ${run} ${this.exercise.level} ${wordOfAnswer(this.answer)}`;
-    if (run !== null) keepUnder(JUDGED, { ...keptUnder(JUDGED), [`${run} ${this.exercise.level}`]: this.line });
+    if (run !== null) keepJudged(`${run} ${this.exercise.level}`, this.line);
   }
 
   draw() {

@@ -3,17 +3,15 @@ import { BOOK_NAME } from "../../made/book.js";
 import { LACKING } from "../../made/classics.js";
 import { BREAK_LEVELS, numberOfLevel, TEN, THREE_MORE } from "../data/levels.js";
 import { byId } from "../page/dom.js";
-import { keptUnder } from "../page/kept.js";
 import { examples } from "../page/work.js";
 import { escaped, tag } from "../run/markup.js";
 import { QUESTIONS } from "../story/ask.js";
 import { bookCourse } from "../story/assignment.js";
 import { itemOf } from "../story/ask_branches.js";
 import { APPENDIX } from "../story/ask_more.js";
-import { isBrokenOnce, keptStory } from "../story/progress.js";
+import { isBrokenOnce, judgedLines, keptStory } from "../story/progress.js";
 import { learning } from "../story/learning.js";
 import { foot, head, LIST_WORDS, part } from "../story/scene.js";
-import { JUDGED } from "./judging.js";
 import { drawRecordedBox, listenToRecorded } from "./recording.js";
 import { listenToSeedForm, seedForm } from "./bench.js";
 
@@ -98,7 +96,7 @@ function openBook() {
 
 // ---- Judge: a run by its number, recorded calls, or an example by its question
 function judgeHtml() {
-  const judged = Object.keys(keptUnder(JUDGED) ?? {});
+  const judged = Object.keys(judgedLines());
   const cardOf = ({ name, kind }) => {
     const state = judged.some((run) => run.startsWith(`${name} `)) ? "done" : "";
     const { title, question } = itemOf({ id: name });

@@ -3,7 +3,7 @@ import { drawRecorded } from "../draw/judged_bars.js";
 import { byId } from "../page/dom.js";
 import { onFile } from "../page/files.js";
 import { askLong, LONG_TEXT } from "../page/long_run.js";
-import { askNow, held } from "../page/now.js";
+import { askNow } from "../page/now.js";
 import { escaped, letterOf, tag } from "../run/markup.js";
 import { RECORDED_EXAMPLE, recordedInWords, verdictOnCalls, withNewline } from "../run/recorded.js";
 import { diagnosisIn } from "../run/why.js";
@@ -39,17 +39,15 @@ function keysInWords(text, { kind }) {
 
 // Replaces the judge's reasons by the diagnosis, if there is one.
 async function withDiagnosis(verdict, text) {
-  const hasIt = WebAssembly.Module.exports(held.engine.module).some(({ name }) => name === WHY);
-  const why = verdict.kind === "none" && hasIt ? diagnosisIn((await askLong(WHY, text, false)).text) : null;
+  const why = verdict.kind === "none" ? diagnosisIn((await askLong("listset_why_record", text, false)).text) : null;
   if (why === null) return verdict;
   const inWords = (mark) => (mark === "either" ? "one of the two is wrong" : mark.replace("leaves", "leaves the key"));
   const marked = why.calls.filter(({ mark }) => mark !== "").map((call) => `${recordedInWords(call)}: ${inWords(call.mark)}`);
   const likely = why.likely === null ? [] : [`Likely: ${why.likely}.`, `Because ${why.because}.`];
   const also = why.also.length === 0 ? [] : [`At the same time: ${why.also.map(recordedInWords).join("; ")}.`];
   const reasons = [`<b>${escaped(why.headline)}</b>`, ...[...marked, ...why.facts, ...likely, ...also].map(escaped)];
-  return { ...verdict, reasons, calls: why.calls, also: why.also, from: null };
+  return { ...verdict, reasons, calls: why.calls, also: why.also };
 }
-const WHY = "listset_why_record";
 
 function withRemarks(verdict, text) {
   const hasCalls = /^call /m.test(text);
@@ -57,17 +55,17 @@ function withRemarks(verdict, text) {
   return { ...verdict, reasons: [...verdict.reasons, ...keysInWords(text, verdict), ...threadsInWords([...verdict.calls, ...(verdict.also ?? [])])] };
 }
 
-function showVerdict({ kind, says, reasons, calls, from }) {
+function showVerdict({ kind, says, reasons, calls }) {
   recordedPart("verdict").className = kind;
   recordedPart("verdict").textContent = says;
   recordedPart("reasons").innerHTML = reasons.map((reason) => tag("li", {}, reason)).join("");
   const wide = recordedPart("picture").clientWidth;
   const zoom = wide > WIDEST ? 1.25 : 1;
   recordedPart("picture").style.setProperty("--zoom", String(zoom));
-  recordedPart("picture").innerHTML = calls.length > 0 ? drawRecorded(calls, from, Math.min(Math.max(300, wide / zoom), WIDEST)) : "";
+  recordedPart("picture").innerHTML = calls.length > 0 ? drawRecorded(calls, Math.min(Math.max(300, wide / zoom), WIDEST)) : "";
 }
 
-const nothing = { kind: "", says: "", reasons: [], calls: [], from: null };
+const nothing = { kind: "", says: "", reasons: [], calls: [] };
 
 async function judgeCalls() {
   const text = withNewline(recordedPart("text").value);

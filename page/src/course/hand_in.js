@@ -23,8 +23,10 @@ import { judged, missingIn, MOST_EVENTS } from "./lesson.js";
 
 const HAND_IN_TITLE = "listset-lessons 2";
 
+export const solutionLine = (name, schedule) => `${name} ${addressOf(schedule, eventsAsked(schedule))}`;
+
 export function handInText(course, student, solutions, otherLines, assignment = null) {
-  const lines = solutions.map(({ name, schedule }) => `${name} ${addressOf(schedule, eventsAsked(schedule))}`);
+  const lines = solutions.map(({ name, schedule }) => solutionLine(name, schedule));
   const title = assignment === null ? [] : [`assignment ${assignment}`];
   return [HAND_IN_TITLE, `course ${course}`, ...title, `student ${student}`, ...lines, ...otherLines, "end", ""].join("\n");
 }
@@ -96,7 +98,7 @@ export function readHandIn({ lines, isEnded, number }) {
   return { course: valueOf("course"), assignment: valueOf("assignment"), student: valueOf("student"), solutions, faults };
 }
 
-function readSchedule(link) {
+export function readSchedule(link) {
   try {
     const { text } = readAddress(link.slice(link.indexOf("#")).replace(/>$/, ""));
     return text === null ? { fault: "the address is not that of a schedule" } : { schedule: text };

@@ -4,7 +4,7 @@ import { said, tag, title } from "../run/markup.js";
 
 export const linkWidth = (width) => (width < 70 ? 12 : Math.min(34, width * 0.3));
 
-export function curve(...numbers) {
+function curve(...numbers) {
   const [a, b, c, d, e, f, g, h] = numbers.map((one) => Math.round(one * 10) / 10);
   return `M${a} ${b} C${c} ${d} ${e} ${f} ${g} ${h}`;
 }

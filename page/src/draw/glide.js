@@ -2,7 +2,7 @@
 
 const TIME = 260; // milliseconds
 const EASE = { duration: TIME, easing: "cubic-bezier(.2, .7, .2, 1)" };
-const wantsStill = () => matchMedia("(prefers-reduced-motion: reduce)").matches;
+export const wantsStill = () => matchMedia("(prefers-reduced-motion: reduce)").matches;
 
 function placesIn(box) {
   const places = new Map();

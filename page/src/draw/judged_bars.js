@@ -64,12 +64,11 @@ function drawJudgedBar(call, reply, scale, y) {
 
 const frameOf = ({ width, height }) => ({ width, height, viewBox: `0 0 ${width} ${height}` });
 
-// Draws recorded calls as bars, at equal distances of their moments. A line shows from where the calls of a refusal have no order.
-export function drawRecorded(calls, from, width) {
+// Draws recorded calls as bars, at equal distances of their moments.
+export function drawRecorded(calls, width) {
   const inOrder = (numbers) => [...new Set(numbers)].sort((one, other) => (one < other ? -1 : 1));
   const threads = inOrder(calls.map(({ thread }) => thread));
-  const ends = calls.flatMap(({ begun, ended }) => (ended === null ? [begun] : [begun, ended]));
-  const moments = inOrder(from === null ? ends : [...ends, from.moment]);
+  const moments = inOrder(calls.flatMap(({ begun, ended }) => (ended === null ? [begun] : [begun, ended])));
   const momentOf = (at) => (at === null ? null : moments.indexOf(at) + 1);
   const laneOf = ({ thread }) => threads.indexOf(thread);
   const placed = calls.map((call, id) => ({ ...call, id, thread: laneOf(call), begun: momentOf(call.begun), ended: momentOf(call.ended) }));
@@ -80,16 +79,7 @@ export function drawRecorded(calls, from, width) {
     return tag("g", still, title(recordedInWords(calls[call.id])), bar);
   });
   const lanes = threads.map((thread, at) => drawLane(scale, thread, at));
-  const below = from === null ? 0 : ROW_HEIGHT;
-  const frame = { ...frameOf({ ...scale, height: scale.height + below }), role: "img", "aria-label": calls.map(nameOfCall).join(", ") };
-  return tag("svg", frame, ...lanes, from === null ? "" : drawFrom(from.says, scale, momentOf(from.moment)), ...bars);
-}
-
-function drawFrom(says, { x, step, width, height }, moment) {
-  const at = x(moment) + step / 2;
-  const anchor = at > width / 2 ? { x: at - 6, "text-anchor": "end" } : { x: at + 6 };
-  const words = label({ class: "note", y: height + ROW_HEIGHT - 4, ...anchor }, says);
-  return tag("line", { class: "cursor", x1: at, x2: at, y1: 0, y2: height + ROW_HEIGHT }) + words;
+  return tag("svg", { ...frameOf(scale), role: "img", "aria-label": calls.map(nameOfCall).join(", ") }, ...lanes, ...bars);
 }
 
 function drawOwnPoint(call, at, y, scale) {

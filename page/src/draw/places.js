@@ -19,7 +19,7 @@ const SMALL = { least: 0.82, key: 44, lock: 28, slot: 62, gap: 0.28, hand: SMALL
 const LOW = 46; // from the top of the chain to that of the nodes in its gaps
 const formOf = ({ wide }) => (wide < 600 ? SMALL : WIDE);
 
-export function pointersOf(state, event) {
+function pointersOf(state, event) {
   const inCall = state.threads.map((held, thread) => ({ held, thread })).filter(({ held }) => held.pc !== 0);
   inCall.sort((one, other) => Number(other.thread === event?.thread) - Number(one.thread === event?.thread));
   const { calls } = LISTS[state.trace.kind];

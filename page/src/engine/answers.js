@@ -10,7 +10,7 @@ function callOfReport(line) {
 }
 
 // A call of a recording, `call THREAD OPERATION KEY BEGIN END REPLY`. Its moments may be larger than a Number is exact.
-function callOfRecording(line) {
+export function callOfRecording(line) {
   const [, thread, operation, key, begun, ended, reply] = line.split(" ");
   const isOpen = ended === "-";
   const moments = { begun: BigInt(begun), ended: isOpen ? null : BigInt(ended) };

@@ -1,5 +1,6 @@
 // The handlers of the bench's buttons, slider and schedule box.
 import { CLASSICS } from "../../made/classics.js";
+import { wantsStill } from "../draw/glide.js";
 import { inLetters, tag } from "../run/markup.js";
 import { eventsAsked } from "../run/schedule_text.js";
 import { byId, redraw } from "./dom.js";
@@ -7,7 +8,7 @@ import { onFile, openFile, refreshReport, savePicture, saveText } from "./files.
 import { keepUnder, keptUnder, works } from "./kept.js";
 import { cancelLong } from "./long_run.js";
 import { change, dispatch, exampleShown, held, isJudging, now } from "./now.js";
-import { changeSpeed, goByHand, toggleKeys, toggleLecture, togglePlay, wantsLessMotion } from "./play.js";
+import { changeSpeed, goByHand, toggleKeys, toggleLecture, togglePlay } from "./play.js";
 import { copyLink, keepSoon } from "./visit.js";
 import { examples, newSchedule, openExample, openKept, openWork, runBox, runWithOpening, showMarks, watchEditor } from "./work.js";
 
@@ -28,7 +29,7 @@ export function listenToBar() {
   byId("next").onclick = () => goByHand(now.run.count + 1);
   byId("play").onclick = togglePlay;
   byId("speed").onchange = changeSpeed;
-  byId("speed").value = wantsLessMotion() ? "slow" : "medium";
+  byId("speed").value = wantsStill() ? "slow" : "medium";
   byId("slider").oninput = () => goByHand(Number(byId("slider").value));
   byId("all-threads").onclick = () => dispatch("prefs", { allThreads: !now.prefs.allThreads });
   byId("keys").onclick = toggleKeys;

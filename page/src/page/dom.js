@@ -26,6 +26,12 @@ export function setHidden(part, isHidden, other) {
   part.hidden = isHidden;
 }
 
+// Scrolls a box so that a line of it is seen, with these distances to its upper and lower end.
+export function scrollToLine(box, line, above, below) {
+  const y = line.offsetTop - box.offsetTop;
+  if (y < box.scrollTop + above || y > box.scrollTop + box.clientHeight - below) box.scrollTop = y - box.clientHeight / 2;
+}
+
 // Replaces the HTML of a box. Returns whether it differs from the last one.
 export function setHtml(box, html) {
   if (texts.get(box) === html) return false;

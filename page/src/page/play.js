@@ -6,7 +6,6 @@ import { setView } from "./seen.js";
 
 const SPEEDS = { slow: 1600, medium: 700, fast: 200 }; // milliseconds of one event
 const play = { timer: null };
-export const wantsLessMotion = () => matchMedia("(prefers-reduced-motion: reduce)").matches;
 export const isPlaying = () => play.timer !== null; // the sentence is said where the play ends, and not before
 
 function showPlay() {

@@ -84,18 +84,23 @@ export function addressOfCode(list, opening, lines, set = SET_OF_CODE) {
   return `#code=${list}${ofSet}${ofOpening}${lines.length > 0 ? `&s=${lines.map(shortLine).join()}` : ""}`;
 }
 
+// Returns the address of a task with the schedule of a try, if there is one and it fits.
+function withTry(named, text) {
+  const own = text === "" ? null : addressOf(text, eventsAsked(text));
+  const whole = own === null ? named : `${named}&${own.slice(1)}`;
+  return whole.length <= LONGEST_ADDRESS ? whole : named;
+}
+
 function addressOfLevel({ id }, { text }) {
   const name = levelOfNumber(id);
-  if (id === "" || text === "" || text === startOfLacking(name)) return id === "" ? "#break" : `#break=${id}`;
-  return `#break=${id}&${addressOf(text, eventsAsked(text))?.slice(1) ?? ""}`;
+  if (id === "") return "#break";
+  return withTry(`#break=${id}`, text === startOfLacking(name) ? "" : text);
 }
 
 // Returns the address of a lesson: its course unless it is the book's, its name, and the attempt if it fits.
 function addressOfLesson({ id }, { text }, { course }) {
   const named = `${course === null ? "#" : `${course}&`}learn${id === "" ? "" : `=${id}`}`;
-  const own = text === "" ? null : addressOf(text, eventsAsked(text));
-  const whole = own === null ? named : `${named}&${own.slice(1)}`;
-  return whole.length <= LONGEST_ADDRESS ? whole : named;
+  return withTry(named, text);
 }
 
 export const addressOfAssignment = ({ id, given }) => `#${new URLSearchParams({ assignment: id, ...given })}`.replaceAll("%2C", ",");

@@ -122,13 +122,13 @@ export function watchEditor() {
   const look = ([{ isIntersecting }]) => {
     editor.isSeen = isIntersecting;
     if (!isIntersecting || now.run.trace === null) return;
-    scrollToLine(now.run.count > 0 ? now.run.trace.event(now.run.count) : null);
+    scrollToEvent(now.run.count > 0 ? now.run.trace.event(now.run.count) : null);
     showMarks();
   };
   new IntersectionObserver(look).observe(byId("editor"));
 }
 
-export function scrollToLine(event) {
+export function scrollToEvent(event) {
   const box = byId("schedule");
   if (!editor.isSeen || event === null || document.activeElement === box || box.value !== now.run.text) return;
   const y = LINE_HEIGHT * (event.line - 1);

@@ -40,7 +40,7 @@ const stateInWords = (isPresent) => (isPresent ? "present" : "absent");
 // Whether two calls overlap, and so contradict each other in both orders.
 const overlap = (first, second) => first !== null && second !== null && BigInt(second.begun) < BigInt(first.ended);
 
-export function clashInWords(key, { isPresent, first, second }) {
+function clashInWords(key, { isPresent, first, second }) {
   const was = first === null ? `Key ${key} is ${stateInWords(isPresent)} at first` : `${recordedInWords(first)}, and leaves key ${key} ${stateInWords(isPresent)}`;
   const need = second === null ? `it is ${stateInWords(!isPresent)} at the end` : `${recordedInWords(second)}, and needs it ${stateInWords(!isPresent)}`;
   const change = `${isPresent ? "remove" : "add"}(${key})`;
@@ -56,10 +56,6 @@ export function reasonsOf({ key, moment, clash, noSuchReply }) {
   return [said, ...(clash === null ? [] : clashInWords(key, clash))];
 }
 
-function verdictOfOk(judged, text) {
-  return { kind: "ok", says: okInWords(judged), reasons: remarksOn(judged), calls: callsOfRecording(text, MOST_DRAWN), from: null };
-}
-
 function verdictOfRefusal(why, text) {
   const { key, moment, clash } = why;
   const atEnd = moment === null ? [`At the end the set ${leavesKey(text, key) ? "has it" : "does not have it"}.`] : [];
@@ -68,7 +64,6 @@ function verdictOfRefusal(why, text) {
     says: `Not linearizable: no order at all explains these calls${moment === null ? " and leaves the keys" : ""}.`,
     reasons: [...reasonsOf(why), ...atEnd],
     calls: clash === null ? [] : [clash.first, clash.second].filter((call) => call !== null),
-    from: null,
   };
 }
 
@@ -79,8 +74,9 @@ function troubleInWords(ask, { cause, says }) {
 
 // Returns the judge's verdict in words, and the calls to draw. For a refusal these are the calls that contradict each other.
 export function verdictOnCalls(ask, answer, text) {
+  /** @type {any} */
   const judged = readVerdict(answer);
-  if (judged.kind === "ok") return verdictOfOk(judged, text);
+  if (judged.kind === "ok") return { kind: "ok", says: okInWords(judged), reasons: remarksOn(judged), calls: callsOfRecording(text, MOST_DRAWN) };
   if (judged.kind === "none") return verdictOfRefusal(judged.why, text);
-  return { kind: "fault", says: troubleInWords(ask, judged.fault), reasons: [], calls: [], from: null };
+  return { kind: "fault", says: troubleInWords(ask, judged.fault), reasons: [], calls: [] };
 }

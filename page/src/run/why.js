@@ -1,16 +1,11 @@
 // Reads the program's diagnosis of a refused recording from its record.
+import { callOfRecording } from "../engine/answers.js";
 
 /**
  * A call of the key that shows the bug has a mark: the answer that was expected, the state that it leaves, or that either was allowed.
- * @typedef {{ thread: string, operation: string, key: string, begun: bigint, ended: bigint | null, reply: string | null, mark: string }} CallOfBug
+ * @typedef {ReturnType<typeof callOfRecording> & { mark: string }} CallOfBug
  * @typedef {{ headline: string, calls: CallOfBug[], also: CallOfBug[], facts: string[], likely: string | null, because: string | null }} Diagnosis
  */
-
-/** @param {string[]} words @returns {CallOfBug} */
-function callOf([thread, operation, key, begun, ended, reply, ...mark]) {
-  const isPending = ended === "-";
-  return { thread, operation, key, begun: BigInt(begun), ended: isPending ? null : BigInt(ended), reply: isPending ? null : reply, mark: mark.join(" ").replace(/^-$/, "") };
-}
 
 /** The diagnosis of a record, or null if the program has none. @param {string} text @returns {Diagnosis | null} */
 export function diagnosisIn(text) {
@@ -18,6 +13,6 @@ export function diagnosisIn(text) {
   const all = (word) => lines.filter((line) => line.word === word).map(({ rest }) => rest);
   const [headline] = all("headline");
   if (headline === undefined) return null;
-  const callsOf = (word) => all(word).map((rest) => callOf(rest.split(" ")));
+  const callsOf = (word) => all(word).map((rest) => ({ ...callOfRecording(`${word} ${rest}`), mark: rest.split(" ").slice(6).join(" ").replace(/^-$/, "") }));
   return { headline, calls: callsOf("call"), also: callsOf("also"), facts: all("fact"), likely: all("likely")[0] ?? null, because: all("because")[0] ?? null };
 }

@@ -3,17 +3,15 @@ import { BOOK, BOOK_NAME } from "../../made/book.js";
 import { LACKING } from "../../made/classics.js";
 import { LISTS } from "../../made/rows.js";
 import { BREAK_LEVELS, levelOfNumber, numberOfLevel } from "../data/levels.js";
-import { AddressFault, addressOf, isSeed, partsOfSeed, readAddress, scheduleOfSeed } from "../run/address.js";
+import { isSeed, partsOfSeed, scheduleOfSeed } from "../run/address.js";
 import { NO_TASK } from "../run/broken.js";
 import { counted, escaped, inLetters, tag } from "../run/markup.js";
-import { eventsAsked } from "../run/schedule_text.js";
-import { handInText } from "../course/hand_in.js";
+import { handInText, readSchedule, solutionLine } from "../course/hand_in.js";
 import { triedCourse } from "../course/lesson.js";
 import { saveText } from "../page/files.js";
-import { keptUnder } from "../page/kept.js";
 import { askNow, now } from "../page/now.js";
 import { addressOfAssignment } from "../page/visit.js";
-import { brokenLines, keepStory, keptStory, startAfresh } from "./progress.js";
+import { brokenLines, judgedLines, keepStory, KeptLessons, keptStory, startAfresh } from "./progress.js";
 import { copyText, foot, head, part } from "./scene.js";
 
 const known = { course: null };
@@ -81,28 +79,19 @@ export function tasksOf(given) {
 }
 
 // ---- the progress in this browser: solved lessons, broken levels, judged runs
-function textOfRun(run) {
-  try {
-    return run.includes("#") ? readAddress(run.slice(run.indexOf("#"))).text : null;
-  } catch (fault) {
-    if (fault instanceof AddressFault) return null;
-    throw fault;
-  }
-}
-
 export function taskOfJudged(line, tasks) {
   const [, run = "", level] = line.split(" ");
   if (level === "claim") return null;
-  const text = textOfRun(run);
-  return tasks.find(({ seed }) => seed !== undefined && text === scheduleOfSeed(askNow, seed)) ?? null;
+  const { schedule = null } = run.includes("#") ? readSchedule(run) : {};
+  return tasks.find(({ seed }) => seed !== undefined && schedule === scheduleOfSeed(askNow, seed)) ?? null;
 }
 
 function linesDone(tasks) {
-  const lessons = keptUnder("listset-lessons-2")?.of?.[BOOK_NAME]?.solutions ?? {};
+  const { solutions } = new KeptLessons().ofCourse(BOOK_NAME);
   const broken = Object.fromEntries(brokenLines());
-  const judged = Object.values(keptUnder("listset-judged") ?? {}).filter((line) => typeof line === "string");
+  const judged = Object.values(judgedLines());
   const lineOf = {
-    Solve: ({ id }) => (typeof lessons[id] === "string" ? `${id} ${addressOf(lessons[id], eventsAsked(lessons[id]))}` : undefined),
+    Solve: ({ id }) => (solutions.has(id) ? solutionLine(id, solutions.get(id)) : undefined),
     Break: ({ id }) => broken[id.slice("break ".length)],
     Judge: (task) => judged.find((line) => taskOfJudged(line, [task]) !== null),
   };

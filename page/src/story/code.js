@@ -62,6 +62,17 @@ export const drawOwnCode = (spec) => tag("ol", { class: "steps" }, ...linesShown
 
 const CHANGES = ["add", "remove"];
 
+// The lines in which an add and a remove of a list with locks write. Rows of a mark come before the unlinking.
+const writes = (make, link, unlink, mark = []) => [
+  { of: ["add"], text: "add, if curr.key ≠ key:" },
+  { of: ["add"], text: "    node = new Node(key, next = curr)", rows: make },
+  { of: ["add"], text: "    pred.next = node", rows: link },
+  { of: ["remove"], text: "remove, if curr.key == key:" },
+  ...mark.map((row) => ({ of: ["remove"], text: "    mark curr", rows: [row] })),
+  { of: ["remove"], text: "    pred.next = curr.next", rows: unlink },
+];
+const LOOKS = { of: ["contains"], text: "contains: return curr.key == key" };
+
 const READS = [
   { of: ["contains"], text: "contains(key):  no lock, no retry" },
   { of: ["contains"], text: "  curr = curr.next, from the head", rows: [20] },
@@ -79,12 +90,8 @@ export const BOOK_CODE = {
     { text: "pred = head; curr = pred.next", rows: [2] },
     { text: "while curr.key < key:", rows: [3] },
     { text: "    pred = curr; curr = curr.next", rows: [4] },
-    { of: ["add"], text: "add, if curr.key ≠ key:" },
-    { of: ["add"], text: "    node = new Node(key, next = curr)", rows: [5, 6] },
-    { of: ["add"], text: "    pred.next = node", rows: [7] },
-    { of: ["remove"], text: "remove, if curr.key == key:" },
-    { of: ["remove"], text: "    pred.next = curr.next", rows: [8, 9] },
-    { of: ["contains"], text: "contains: return curr.key == key" },
+    ...writes([5, 6], [7], [8, 9]),
+    LOOKS,
     { text: "unlock the list; return", rows: [10] },
   ],
   fine: [
@@ -94,12 +101,8 @@ export const BOOK_CODE = {
     { text: "    if curr.key ≥ key: leave the loop", rows: [4] },
     { text: "    unlock pred", rows: [5] },
     { text: "    pred = curr; curr = curr.next", rows: [6] },
-    { of: ["add"], text: "add, if curr.key ≠ key:" },
-    { of: ["add"], text: "    node = new Node(key, next = curr)", rows: [7, 8] },
-    { of: ["add"], text: "    pred.next = node", rows: [9] },
-    { of: ["remove"], text: "remove, if curr.key == key:" },
-    { of: ["remove"], text: "    pred.next = curr.next", rows: [10, 11] },
-    { of: ["contains"], text: "contains: return curr.key == key" },
+    ...writes([7, 8], [9], [10, 11]),
+    LOOKS,
     { text: "unlock curr; unlock pred; return", rows: [12, 13] },
   ],
   optimistic: [
@@ -110,12 +113,8 @@ export const BOOK_CODE = {
     { text: "validate: walk from the head again", rows: [6] },
     { text: "    until pred is met, else not valid", rows: [7] },
     { text: "    pred.next == curr, else not valid", rows: [8] },
-    { of: ["add"], text: "add, if curr.key ≠ key:" },
-    { of: ["add"], text: "    node = new Node(key, next = curr)", rows: [9, 10] },
-    { of: ["add"], text: "    pred.next = node", rows: [11] },
-    { of: ["remove"], text: "remove, if curr.key == key:" },
-    { of: ["remove"], text: "    pred.next = curr.next", rows: [12, 13] },
-    { of: ["contains"], text: "contains: return curr.key == key" },
+    ...writes([9, 10], [11], [12, 13]),
+    LOOKS,
     { text: "unlock pred; unlock curr", rows: [14, 15] },
     { text: "if not valid: start again; return", isPlain: true },
   ],
@@ -126,12 +125,7 @@ export const BOOK_CODE = {
     { of: CHANGES, text: "lock pred; lock curr", rows: [4, 5] },
     { of: CHANGES, text: "validate: pred unmarked, leads to curr", rows: [6] },
     { of: CHANGES, text: "    and curr unmarked", rows: [7] },
-    { of: ["add"], text: "add, if curr.key ≠ key:" },
-    { of: ["add"], text: "    node = new Node(key, next = curr)", rows: [8, 9] },
-    { of: ["add"], text: "    pred.next = node", rows: [10] },
-    { of: ["remove"], text: "remove, if curr.key == key:" },
-    { of: ["remove"], text: "    mark curr", rows: [11] },
-    { of: ["remove"], text: "    pred.next = curr.next", rows: [12] },
+    ...writes([8, 9], [10], [12], [11]),
     { of: CHANGES, text: "unlock curr; unlock pred", rows: [13, 14] },
     { of: CHANGES, text: "if not valid: start again; return", isPlain: true },
     ...READS,

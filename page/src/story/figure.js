@@ -1,5 +1,5 @@
 // A live figure: the list, a sentence, the code, and a button for each thread that makes its next steps.
-import { fallTime } from "../draw/glide.js";
+import { fallTime, wantsStill } from "../draw/glide.js";
 import { momentAt } from "../run/sentences.js";
 import { drawFigure, frameOf, markLostNodes } from "./figure_parts.js";
 import { askCall, beginOwn, chooseCall, pressed } from "./dock.js";
@@ -7,7 +7,6 @@ import { LiveRun } from "./live_run.js";
 
 const BIT = 300; // milliseconds between two steps of one press
 const BETWEEN = 450; // and between two presses that the page makes
-const wantsStill = () => matchMedia("(prefers-reduced-motion: reduce)").matches;
 const sleep = (time) => new Promise((done) => setTimeout(done, time));
 const drawn = { count: 0 };
 const tellBusy = (isBusy) => (document.body.dataset.busy = isBusy ? "yes" : "no");

@@ -5,7 +5,7 @@ import { drawStage } from "../draw/stage.js";
 import { isLecture, isSceneSlide } from "../page/now.js";
 import { callText, colourOf, letterOf } from "../run/markup.js";
 import { momentAt } from "../run/sentences.js";
-import { setHtml } from "../page/dom.js";
+import { scrollToLine, setHtml } from "../page/dom.js";
 import { drawOwnCode } from "./code.js";
 import { barEnds, scrollToLane, showDock, showScrub, showStrip } from "./dock.js";
 import { taleOf } from "./tale.js";
@@ -139,7 +139,5 @@ const toggleOf = (thread, active) => `<button class="who ${colourOf(thread)}" da
 function scrollToLit(figure, moved) {
   const box = figure.part("lines");
   const line = box?.querySelector(`.lit.${colourOf(moved)}`) ?? box?.querySelector(".made") ?? box?.querySelector(".lit") ?? box?.querySelector(".line:has(del)");
-  if (line == null || box.scrollHeight <= box.clientHeight) return;
-  const y = line.offsetTop - box.offsetTop;
-  if (y < box.scrollTop + 10 || y > box.scrollTop + box.clientHeight - 50) box.scrollTop = y - box.clientHeight / 2;
+  if (line != null && box.scrollHeight > box.clientHeight) scrollToLine(box, line, 10, 50);
 }

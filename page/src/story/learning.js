@@ -10,11 +10,12 @@ import { bookCourse } from "./assignment.js";
 import { KeptLessons } from "./progress.js";
 import { linesOf } from "./live_run.js";
 
+const courseOf = (text) => (text === BOOK ? bookCourse() : triedCourse(askNow, text));
+
 class Learning {
   constructor() {
     this.kept = new KeptLessons();
-    const text = this.kept.courses.get(this.kept.course) ?? BOOK;
-    const course = text === BOOK ? bookCourse() : triedCourse(askNow, text);
+    const course = courseOf(this.kept.courses.get(this.kept.course) ?? BOOK);
     this.takeCourse(course.faults.length === 0 ? course : bookCourse());
   }
 
@@ -36,7 +37,7 @@ class Learning {
     const find = ({ lessons }) => lessons.find((lesson) => lesson.name === name);
     if (find(this.course) !== undefined) return find(this.course);
     for (const text of [BOOK, ...this.kept.courses.values()]) {
-      const course = text === BOOK ? bookCourse() : triedCourse(askNow, text);
+      const course = courseOf(text);
       if (course.faults.length > 0 || find(course) === undefined) continue;
       this.takeCourse(course);
       return find(course);

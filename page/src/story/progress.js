@@ -12,6 +12,10 @@ const NOTHING = { at: 1, done: {}, asks: {}, student: "", number: "", homework: 
 /** @returns {{ at: number, done: Record<string, boolean>, asks: Record<string, string>, student: string, number: string, homework: any }} */
 export const keptStory = () => ({ ...NOTHING, ...keptUnder(STORY) });
 export const keepStory = (change) => keepUnder(STORY, { ...keptStory(), ...change });
+// Of each run and level the line of the order that was right.
+const JUDGED = "listset-judged";
+export const judgedLines = () => Object.fromEntries(textsKept(keptUnder(JUDGED)));
+export const keepJudged = (run, line) => keepUnder(JUDGED, { ...keptUnder(JUDGED), [run]: line });
 const isBrokenLine = ([name, line]) => Object.hasOwn(LACKING, name) && isText(line);
 export const brokenLines = () => Object.entries(keptUnder(BROKEN) ?? {}).filter(isBrokenLine);
 export const isBrokenOnce = (name) => brokenLines().some(([one]) => one === name);

@@ -1,6 +1,7 @@
 // Groups the rows of the tables into the presses of a thread's button, and names each press.
 import { callText, chipOf, keyText } from "../run/markup.js";
 import { isLock, ownerIn } from "../run/outcomes.js";
+import { linkTarget } from "../run/state.js";
 
 const walkers = (...rows) => Object.fromEntries(rows.map((row) => [row, "walk"]));
 
@@ -62,7 +63,6 @@ const nodeName = (state, name) => {
   if (name === "tail") return "the tail";
   return name in state.nodes ? keyText(state.nodes[name].key) : "";
 };
-const bare = (link) => link.replace("*", "");
 export const answerText = (answer) => answer.replace(/^at-/, "");
 
 export function taleOf(moment, { plain = false } = {}) {
@@ -113,7 +113,7 @@ function keyTold(event, owner, key, phase, held) {
 function linkTold(moment, owner, who, phase) {
   const { trace, state, event, held, before } = moment;
   const isMarked = event.saw.endsWith("*");
-  const to = nodeName(state, bare(event.saw));
+  const to = nodeName(state, linkTarget(event.saw));
   if (phase === "look" || (event.answer !== undefined && isMarked)) return isMarked ? `sees the mark: ${bold(`this ${who} has been removed.`)}` : `sees no mark: ${who} is in the set.`;
   if (phase === "check") {
     if (held.reply === "none" && held.pc === 13) {
@@ -139,7 +139,7 @@ function linkTold(moment, owner, who, phase) {
 function writeTold(moment, owner, who) {
   const { state, event, before } = moment;
   const key = event.call.key;
-  const to = nodeName(state, bare(event.to ?? ""));
+  const to = nodeName(state, linkTarget(event.to ?? ""));
   const isDone = event.deed === "store" || event.saw === event.from;
   if (event.to.endsWith("*")) {
     if (isDone) return `marks ${who}: ${bold(`${key} is removed.`)}`;
@@ -149,7 +149,7 @@ function writeTold(moment, owner, who) {
     return `lets its node point to ${to}.`;
   }
   if (event.put !== undefined) {
-    const isIn = state.chain().includes(bare(event.to));
+    const isIn = state.chain().includes(linkTarget(event.to));
     return isIn ? `lets ${who} point to ${key}: ${bold(`${key} is in the list.`)}` : `lets its pred point to ${key}. ${bold("But that pred is not in the list.")}`;
   }
   if (!isDone) {
