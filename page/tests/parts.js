@@ -168,7 +168,7 @@ function checkAddresses(engine, texts) {
   const example = readAddress("#example=snip&event=17");
   check("an example", example.example === "snip" && example.event === 17 && example.text === null);
   check("nothing", readAddress("").text === null && readAddress("#").example === null);
-  check("a part that is none", refusalOf("#exmaple=snip") === 'the address has a part "exmaple", which is none');
+  check("a part that is none", refusalOf("#exmaple=snip") === 'the address has an unknown part "exmaple"');
   check("a part twice", refusalOf("#list=lazy&list=fine") === 'the address has "list" twice');
   check("a bad line", refusalOf("#list=lazy&threads=2&quota=4&s=b0.add.5,x0.6").endsWith("is no s of an address"));
   check("a bad event", refusalOf("#example=snip&event=x") === '"x" is no event of an address');

@@ -57,7 +57,7 @@ function openRun(wanted) {
     needEngine("a run by its number");
     openSeed(wanted.seed, wanted.event);
   } else if (wanted.example !== null) {
-    if (!isExample(wanted.example)) throw new AddressFault(`the address names the example "${wanted.example}", which there is not`);
+    if (!isExample(wanted.example)) throw new AddressFault(`the address names an example "${wanted.example}" that does not exist`);
     const isShown = exampleShown() === wanted.example && now.run.isRun && now.place.screen === "stage";
     const isBeforehand = isShown && now.task.work === "" && held.engine !== null; // from its trace, and the reader may have gone on
     if (isBeforehand) pickExample(wanted.example, now.run.count);

@@ -20,7 +20,7 @@ const PARTS = `<p class="prose">The templates in the folder <code>judge</code> r
   <p class="line"><button id="recorded-judge" class="primary">Judge these calls</button>
     <label class="button">Open a file<input type="file" id="recorded-file"></label>
     <button id="recorded-example" class="quiet">Load an example</button></p></div>
-  <div id="recorded-result"><p id="recorded-verdict" role="status">The verdict stands here.</p><ul id="recorded-reasons"></ul></div></div>
+  <div id="recorded-result"><p id="recorded-verdict" role="status">The verdict appears here.</p><ul id="recorded-reasons"></ul></div></div>
   <div id="recorded-picture"></div>`;
 
 export const drawRecordedBox = () => tag("section", { id: "recorded-box", class: "panel" }, "<h2>Judge calls recorded from your own set</h2>", PARTS);

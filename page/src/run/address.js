@@ -95,7 +95,7 @@ function placeOf(parts, seed) {
 function partsOf(hash) {
   const parts = {};
   for (const [name, value] of new URLSearchParams(hash.replace(/^#/, ""))) {
-    if (!Object.hasOwn(ADDRESS_PARTS, name)) throw new AddressFault(`the address has a part "${name}", which is none`);
+    if (!Object.hasOwn(ADDRESS_PARTS, name)) throw new AddressFault(`the address has an unknown part "${name}"`);
     if (name in parts) throw new AddressFault(`the address has "${name}" twice`);
     const bad = ADDRESS_PARTS[name].test(value) ? undefined : (value.split(",").find((one) => !ADDRESS_PARTS[name].test(one)) ?? value);
     if (bad !== undefined) throw new AddressFault(`"${bad.slice(0, 60)}" is no ${name} of an address`);

@@ -14,7 +14,7 @@ export const QUESTIONS = [
     broken: "Both return true, and 5 was added once.",
   },
   {
-    name: "hand-over-hand", list: "fine", title: "Behind each other", opening: [9],
+    name: "hand-over-hand", list: "fine", title: "One behind the other", opening: [9],
     lines: ["begin 0 add 5", "begin 1 remove 9", "go 0 4"], rest: ["go 1 2", "go 0 out", "go 1 out"],
     question: "A has locked the head and 9, to add 5 between them. B wants to remove 9. How far does it get?",
     options: [
@@ -58,7 +58,7 @@ export const QUESTIONS = [
       { text: "false", right: true, say: "" },
       { text: "Nothing, before B has returned", say: "A takes no lock, so no thread can delay it." },
     ],
-    why: "<b>false.</b> With the mark, 5 has left the set; it does not matter that its node is still in the chain. A takes no lock, and reads one word. (The book’s LazyList has the mark in a word of its own.)",
+    why: "<b>false.</b> With the mark, 5 has left the set; it does not matter that its node is still in the chain. A takes no lock; one word that it reads decides. (The book’s LazyList has the mark in a word of its own.)",
   },
   {
     name: "marked-pred", list: "lazy", title: "Warned by a mark", opening: [3], hides: [6, 7],

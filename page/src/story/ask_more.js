@@ -59,7 +59,7 @@ export const APPENDIX = [
     lines: ["begin 0 add 5", "go 0 out", "begin 0 remove 5", "go 0 out", "begin 0 add 7", "go 0 3"], rest: ["go 0 out"],
     question: "A can make one node. It has added 5, and removed it. Now it wants to add 7. Does it get the node of 5 again?",
     options: [
-      { text: "Yes: 5 is gone", say: "Another thread can still be at that node." },
+      { text: "Yes: 5 is gone", say: "Another thread could still be at that node." },
       { text: "No", right: true, say: "" },
     ],
     why: "<b>No: add answers full.</b> Each node is used once, so no thread ever meets a node whose number has changed.",

@@ -56,8 +56,8 @@ function looked() {
 function notYet(run, { kind, isExplained }) {
   const lost = run.promised().filter((key) => !run.has().includes(key));
   if (run.trace.calls.some(({ ended }) => ended === null)) return lost.length === 0 ? "" : `${lost.join(" and ")} is no longer in the list. Now let each call return.`;
-  const order = isExplained ? "one order explains" : "some order can explain";
-  if (kind === "points") return `That looks wrong. But calls that overlap can take effect in either order, and ${order} these answers: not broken yet.`;
+  const order = isExplained ? "and one order explains these answers" : "and whether an order explains these answers is not known";
+  if (kind === "points") return `That looks wrong. But calls that overlap can take effect in either order, ${order}: not broken yet.`;
   const hasEach = scene.figure.shown.every((thread) => run.trace.calls.some((call) => call.thread === thread));
   return hasEach ? "Every call has returned, and one order explains the answers: not broken this time. Start over, or begin another call." : "";
 }

@@ -17,9 +17,9 @@ const openingOf = ({ given: { opening, s } }) => (opening === undefined ? (s ===
 function html(place) {
   const list = listOf(place);
   const tab = ([kind, name]) => tag("button", { class: "small", "data-do": "list", "data-list": kind, "aria-pressed": kind === list }, name);
-  const prose = `<p class="prose">Each thread’s letter stands at the line that it makes next. Press that line to make it; press another line, and
+  const prose = `<p class="prose">Each thread’s letter stands at the line that it executes next. Press that line to execute it; press another line, and
     the thread runs there. Let an idle thread begin any call.</p>`;
-  return `${onStage(`${head("", "Press a line, and its thread makes it.", prose)}
+  return `${onStage(`${head("", "Press a line, and its thread executes it.", prose)}
     <div class="line"><span class="branches">${Object.entries(LIST_WORDS).map(tab).join("")}</span>
     <label class="small">begins with <input id="code-opening" value="${openingOf(place).join(" ")}" size="8"></label></div>
     <p id="code-told" class="again" role="status" hidden></p>`)}

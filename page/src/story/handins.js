@@ -22,7 +22,7 @@ export function assignmentOfLink(link) {
   const { assignment: title, ...given } = Object.fromEntries(new URLSearchParams(link.replaceAll("&amp;", "&").replace(/^[^#]*#?/, "")));
   const { tasks, unknown } = tasksOf(given);
   if (title === undefined) return { fault: "This is no link of an assignment: “#assignment=” is missing." };
-  if (unknown.length > 0) return { fault: `This link names tasks that there are not: ${unknown.join(", ")}.` };
+  if (unknown.length > 0) return { fault: `This link names tasks that do not exist: ${unknown.join(", ")}.` };
   return tasks.length === 0 ? { fault: "The assignment of this link has no task." } : { title, tasks };
 }
 

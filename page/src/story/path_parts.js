@@ -77,7 +77,7 @@ export const LAST = SCREENS.length + 1; // the number of the last screen
 
 const WAYS = [
   ["#ask", "Guess, then see", "Runs that stop at the question. What comes next, and why?"],
-  ["#code=lock-free", "Step by the code", "Any list, any calls: press a line, and its thread makes it."],
+  ["#code=lock-free", "Step by the code", "Any list, any calls: press a line, and its thread executes it."],
   ["#break", "Break it", "Lists that lack one check each. Find a run that shows it."],
   ["#learn", "Solve it", "Twelve lessons: choose the steps until the run shows what is asked."],
   ["#teachers", "Teach it", "A lecture of 45 minutes, homework in one link, hand-ins checked."],
@@ -85,7 +85,8 @@ const WAYS = [
 
 const TRUTH = `<details class="truth"><summary>How true is this?</summary><p>Each step that you saw was computed by a program that is proved by
   machine to run these lists step by step. “Lost” is said only if a proved judge finds that no order of the calls explains their answers and
-  what is left. The list of screens 1 and 2 is CoarseList, with its lock ignored; that of screen 5 is OptimisticList without its second walk.
+  what is left. The list of screens 1 and 2 is CoarseList, with its lock ignored; that of “Why two locks?” is FineList, whose remove
+  locks only pred; that of screen 5 is OptimisticList without its second walk.
   That the page draws what the program says is only tested. <a href="#read">More</a></p></details>`;
 
 function rowOfList([name, list, waits, needs, id]) {
