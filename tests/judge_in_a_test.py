@@ -14,6 +14,7 @@ import sys
 
 import pytest
 from harness.programs import QUICK_CARGO, TOP, ran, well
+from toolchain import NEEDS
 
 FORMS = TOP / "judge"
 SECONDS = 300  # for each run of a judge, on a busy machine
@@ -423,9 +424,10 @@ def test_java_sets_that_inherit_their_calls_are_judged_by_them(room, once, progr
     assert kind == "refused" and re.search("^not linearizable\nno order explains .*\n(?:.*\n)*.*contains.* true", said, re.M), said
 
 
-def test_servers_are_judged_by_their_clients(room, program):
-    words = [sys.executable, "-B", "-m", "unittest", "discover", "-s", FORMS / "python/tests", "-t", FORMS / "python/tests"]
-    well(*words, cwd=room, env={**os.environ, "LISTSET": program, "TMPDIR": str(room), "PYTHONPATH": str(FORMS / "python")})
+@pytest.mark.parametrize("of", ["Served", pytest.param("OfRedis", marks=pytest.mark.needs("redis-server"))])
+def test_servers_are_judged_by_their_clients(room, program, of):
+    paths = f"{FORMS / 'python'}:{FORMS / 'python/tests'}"
+    well(sys.executable, "-B", "-m", "unittest", f"test_servers.{of}", cwd=room, env={**os.environ, "LISTSET": program, "TMPDIR": str(room), "PYTHONPATH": paths})
 
 
 # ---- as a package of each language, used by a project of one's own from where it is installed
@@ -438,7 +440,7 @@ target_link_libraries(own listset::judge)
 """
 
 
-@pytest.mark.needs("cmake", "g++")
+@pytest.mark.needs("cmake", "make", "g++")
 def test_a_project_uses_the_package_of_cpp(room, program):
     well("cmake", "-S", FORMS / "cpp", "-B", room / "out")
     well("cmake", "--install", room / "out", "--prefix", room / "here")
@@ -463,11 +465,17 @@ def test_a_project_uses_the_package_of_python(room, program, lacking):
     assert "ok: " in well(sys.executable, "-B", "-c", own, cwd=room, env=how)
 
 
+def missing_of_maven():
+    """Returns how to install Maven's plugins and JUnit, which are packages of their own, if one is missing."""
+    plugins = [pathlib.Path(f"/usr/share/maven-repo/org/apache/maven/plugins/maven-{it}-plugin") for it in ("compiler", "jar", "resources", "surefire")]
+    is_here = all(it.exists() for it in [*plugins, pathlib.Path("/usr/share/java/junit4.jar")])
+    return "" if is_here else f"a plugin of mvn, or JUnit, is not installed: {NEEDS['mvn']}"
+
+
 @pytest.mark.needs("mvn", "javac", "java")
 def test_a_project_uses_the_package_of_java(room, program, lacking):
-    plugins = pathlib.Path("/usr/share/maven-repo/org/apache/maven/plugins")
-    if not all((plugins / f"maven-{it}-plugin").exists() for it in ("compiler", "jar", "resources", "surefire")):
-        lacking("maven's plugins are missing: Debian's libmaven-compiler-plugin-java, libmaven-jar-plugin-java, libmaven-resources-plugin-java, libsurefire-java")
+    if why := missing_of_maven():
+        lacking(why)
     source = shutil.copytree(FORMS / "java", room / "source")
     well("mvn", "-o", "-q", "-Dmaven.repo.local=/usr/share/maven-repo", "package", cwd=source)
     (jar,) = (source / "target").glob("*.jar")

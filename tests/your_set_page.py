@@ -11,7 +11,7 @@ from pathlib import Path
 
 import pytest
 from harness.programs import QUICK_CARGO, TOP, ran, well
-from judge_in_a_test import FORMS, TEST_LIBRARIES, each, go_words, in_jvm
+from judge_in_a_test import FORMS, TEST_LIBRARIES, each, go_words, in_jvm, missing_of_maven
 
 PAGE = TOP / "docs" / "YOUR-SET.md"
 CPP = """#include "listset_judge.hpp"
@@ -167,13 +167,18 @@ def go(room):
     return go_words("test", "-count=1", "./...")
 
 
+def missing_google_test():
+    package, is_here = TEST_LIBRARIES["GoogleTest"]
+    return "" if is_here() else f"GoogleTest is not installed: {package}"
+
+
 LANGUAGES = {"GoogleTest": cpp, "Rust": rust, "Java": java, "Python": python, "Go": go}
 
 
 @each(LANGUAGES)
 def test_the_lines_of_the_page_judge(program, room, lacking, language):
-    if language == "GoogleTest" and not TEST_LIBRARIES[language][1]():
-        lacking(f"GoogleTest is not installed: {TEST_LIBRARIES[language][0]}")
+    if language == "GoogleTest" and (why := missing_google_test()):
+        lacking(why)
     own = room / "own"
     own.mkdir()
     well(*LANGUAGES[language](own), cwd=own, env={**os.environ, "LISTSET": program, "TMPDIR": str(room)})
@@ -204,12 +209,7 @@ def lay_rust(room, own):
     (room / "tests" / "own.rs").write_text(own(text, "self.0.lock().unwrap().contains(&key)"))
 
 
-MAVEN_PLUGINS = Path("/usr/share/maven-repo/org/apache/maven/plugins")
-
-
 def lay_java(room, own):
-    if missing := [it for it in ("resources", "compiler", "surefire") if not (MAVEN_PLUGINS / f"maven-{it}-plugin").exists()]:
-        pytest.skip(f"Maven's plugins are missing ({', '.join(missing)}): Debian's packages libmaven-{{resources,compiler}}-plugin-java, libsurefire-java, junit4")
     tests = room / "src" / "test" / "java"
     (tests / "listset").mkdir(parents=True)
     shutil.copy(FORMS / "java" / "Judge.java", tests / "listset")
@@ -243,7 +243,7 @@ public class OwnTest {
 }
 """
 PROJECTS = {"C++": lay_cpp, "Rust": lay_rust, "Java": lay_java, "Python": lay_python, "Go": lay_go}
-NEEDS = {"C++": ["cmake", "g++", "node"], "Rust": ["cargo", "node"], "Java": ["mvn", "java", "node"], "Python": ["node"], "Go": ["go", "node"]}
+NEEDS = {"C++": ["cmake", "make", "g++", "node"], "Rust": ["cargo", "node"], "Java": ["mvn", "java", "node"], "Python": ["node"], "Go": ["go", "node"]}
 
 
 def finds_all(text, found):
@@ -271,7 +271,9 @@ def in_ci(room, command, **also):
 
 
 @pytest.mark.parametrize("language", [pytest.param(it, marks=pytest.mark.needs(*NEEDS[it])) for it in PROJECTS])
-def test_a_project_in_continuous_integration(room, language):
+def test_a_project_in_continuous_integration_is_judged(room, lacking, language):
+    if why := {"C++": missing_google_test, "Java": missing_of_maven}.get(language, str)():
+        lacking(why)
     for is_right in (True, False):
         own = room / f"right {is_right}".replace(" ", "-")
         (own / "judge").mkdir(parents=True)
