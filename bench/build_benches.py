@@ -12,8 +12,8 @@ BENCH = pathlib.Path(__file__).resolve().parent
 TOP = BENCH.parent
 sys.path.insert(0, str(TOP / "build"))
 import crates_txt  # noqa: E402
+import kit_builds  # noqa: E402
 import toolchain  # noqa: E402
-import unproved_programs  # noqa: E402
 
 SOURCES = BENCH / "crates"
 BUILT = BENCH / "out"  # not tracked by git
@@ -69,7 +69,7 @@ def read():
     with tempfile.TemporaryDirectory(prefix="bench-") as room:
         lay_out(pathlib.Path(room), NAMES)
         for name in NAMES:
-            status, said = unproved_programs.read(name, pathlib.Path(room))
+            status, said = kit_builds.read(name, pathlib.Path(room))
             if status:
                 print(f"{said[-3000:].rstrip()}\nbench: {name} is not read")
                 failed += 1

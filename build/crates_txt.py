@@ -29,20 +29,12 @@ def tests():
 
 
 def below(names, root=TOP, lines=None):
-    """Returns these crates and all crates below them, lowest first."""
-    lines = lines or lines_of(root)
-    libraries = {name: [it for it in line.partition(":")[2].split() if it in lines] for name, line in lines.items()}
-    found = {}
-
-    def take(name):
-        if name not in found:
-            for it in libraries[name]:
-                take(it)
-            found[name] = None
-
-    for name in sorted(names, key=list(lines).index):
-        take(name)
-    return list(found)
+    """Returns these crates and all crates below them, lowest first. (crates.txt has each crate after those that it uses.)"""
+    lines, wanted = lines or lines_of(root), set(names)
+    for name in reversed(lines):
+        if name in wanted:
+            wanted.update(lines[name].partition(":")[2].split())
+    return [it for it in lines if it in wanted]
 
 
 def lay_out(to, names, is_whole=False):

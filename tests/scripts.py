@@ -10,6 +10,7 @@ import subprocess
 import sys
 import time
 
+import crates_txt
 import pytest
 from harness.programs import LONG, SECONDS, TOP, comes, is_running, ran, wants, well
 
@@ -145,7 +146,7 @@ def test_the_program_is_built_once_for_the_current_sources(room):
     wants(clone.ran("./listset", "gen"), output="4\n", no=[BUILDING])
 
 
-@pytest.mark.parametrize("words", ["build/unproved example", "foreign/build", "page/build", "./gate --quick"])
+@pytest.mark.parametrize("words", ["build/unproved", "foreign/build", "page/build", "./gate --quick"])
 def test_a_missing_rt_is_named(room, words):
     path = bare_path(room / "path", "git", "ls", "node", "uname")
     script, *others = words.split()
@@ -223,7 +224,7 @@ echo $$ >{room}/started.new && mv {room}/started.new {room}/started && exec slee
 """
 
 
-@pytest.mark.parametrize("words", ["./listset --prove", "build/prove_all --in ../all"])
+@pytest.mark.parametrize("words", ["./listset --prove", "build/prove --in ../all"])
 def test_an_interrupted_proof_leaves_no_process_and_no_file(room, words):
     clone = Clone(room)
     (room / "temporary").mkdir()
@@ -240,6 +241,70 @@ def test_an_interrupted_proof_leaves_no_process_and_no_file(room, words):
     assert "listset" not in words or re.search(r"proving \d+ crates by rt ci, about \d+ minutes .* \d+ processors; Ctrl-C ends it and keeps what is proved\n", said), said
     comes(lambda: not is_running(int((room / "started").read_text())), "the end of what was started")
     assert [*(room / "temporary").iterdir()] == []
+
+
+def test_each_crate_is_after_those_that_it_uses_and_both_scripts_find_those_below():
+    lines, before = crates_txt.lines_of(), set()
+    for name, line in lines.items():
+        used = {it for it in line.partition(":")[2].split() if it in lines}
+        assert used <= before, f"{name} uses {used - before}"
+        before.add(name)
+        below = well(TOP / "build/crates_below", name).splitlines()
+        assert [it.split()[0].removesuffix(":") for it in reversed(below)] == crates_txt.below([name])
+        assert used < {*crates_txt.below([name])}
+    wants(ran(TOP / "build/crates_below", "no-such"), status=2, output="", tells=["there is no crate no-such; the crates are lset_words "])
+
+
+def test_help_of_a_script_starts_no_work(room):
+    clone = Clone(room)
+    for script in ("prove", "unproved"):
+        assert f"    build/{script} " in wants(clone.ran(f"build/{script}", "--help")).stdout
+        wants(clone.ran(f"build/{script}", "no-such"), status=2, output="", tells=[f"    build/{script} "])
+    assert [*clone.tree.rglob("out")] == []
+
+
+# An edit of a function's body, of its contract, of two bodies, and of a constant
+EDITED = """const MOST: u32 = 5;
+
+/// Returns the larger number.
+pub fn larger(a: u32, b: u32) -> u32
+    ensures { result ≡ max a b }
+{
+    if a < b { b } else { a }
+}
+
+pub fn smaller(
+    a: u32,
+    b: u32,
+) -> u32 {
+    MOST.min(a.min(b))
+}
+"""
+EDITS = {"if a < b": "larger", "MOST.min": "smaller", "max a b": None, "-> u32 {": None, "MOST: u32 = 5": None, "b: u32,": None, "no such text": None}
+
+
+@pytest.mark.parametrize("old", EDITS)
+def test_an_edit_that_must_fail_changes_bodies_alone(room, old):
+    here = copied(["build", "crates.txt", "HANDLES"], room / "here")
+    (here / "crates/lset_words/src").mkdir(parents=True)
+    (here / "crates/lset_words/must-fail").mkdir()
+    (here / "crates/lset_words/src/lib.rt").write_text(EDITED)
+    (here / "crates/lset_words/must-fail/it.edit").write_text(f"file: src/lib.rt\nold: {old}\nnew: {old} \n")
+    done = ran(sys.executable, "-c", EDITED_FUNCTIONS, cwd=here)
+    if EDITS[old]:
+        assert done.stdout.split() == [EDITS[old]], done.stderr
+    else:
+        assert "BadEdit: " in done.stderr, done
+
+
+# Prints the functions that an edit changes
+EDITED_FUNCTIONS = """import importlib.machinery, importlib.util, pathlib, sys
+sys.path.insert(0, "build")
+loader = importlib.machinery.SourceFileLoader("try_edits", "build/try_edits")
+try_edits = importlib.util.module_from_spec(importlib.util.spec_from_loader("try_edits", loader))
+loader.exec_module(try_edits)
+print(*(it.name for _, it in try_edits.Edit(pathlib.Path("crates/lset_words/must-fail/it.edit").resolve()).functions))
+"""
 
 
 def test_take_copies_crates_and_replaces_them(room):
