@@ -1,15 +1,20 @@
 # Prints hints below an error at a terminal: what is wrong, and what to do. Sourced by ./listset, which sets `engine`,
-# the command line of the program.
+# the command line of the program, and `called`, the name by which the user called the script.
 
-# Sets `values` to the arguments of a command that are no options, and `has_lacks` to the name after --lacks.
+# Sets `values` to the arguments of a command that are no options, and `texts` to the values of its options.
 read_words() {
-  values=() has_lacks=""
+  local name
+  values=()
+  declare -gA texts=()
   shift
   while [ $# -gt 0 ]; do
     case "$1" in
-      --lacks) has_lacks=${2-} && { [ $# -lt 2 ] || shift; } ;;
-      --lacks=*) has_lacks=${1#*=} ;;
-      --from | --to | --width | --only) [ $# -lt 2 ] || shift ;;
+      --lacks | --from | --to | --width | --only)
+        texts[${1#--}]=${2-}
+        [ $# -lt 2 ] || shift ;;
+      --lacks=* | --from=* | --to=* | --width=* | --only=*)
+        name=${1%%=*}
+        texts[${name#--}]=${1#*=} ;;
       --) shift && values+=("$@") && return ;;
       -?*) ;;
       *) values+=("$1") ;;
@@ -29,39 +34,113 @@ print_file() {
   [ "$file" = - ] || printf '%s' "$file"
 }
 
-# Prints the last line of what the command explain prints for a file: what is wrong, and what to do. If $2 is Header and
-# the file has another kind of text than the command reads, prints its kind first.
-explain_in_a_line() {
-  local said
-  said=$("${engine[@]}" explain -- "$1" 2>/dev/null)
-  case "${2-}:$said" in
-    *" is no text of listset"*) ;;
-    Header:*", and "*) printf '%s. ' "${said%%, and *}" ;;
+# Prints a file's name as a command line has it.
+quoted() {
+  local name=$1
+  case "$name" in -*) name=./$name ;; esac
+  case "$name" in
+    *[!A-Za-z0-9_./+:=@%,-]*) printf "'%s'" "${name//\'/\'\\\'\'}" ;;
+    *) printf '%s' "$name" ;;
   esac
-  tail -n 1 <<<"$said"
+}
+
+# Prints what the command explain prints of a file.
+explain_file() {
+  local said
+  if [ -f "$1" ] && [ -r "$1" ]; then
+    said=$("${engine[@]}" explain 2>/dev/null <"$1") || true
+    printf '%s' "${said//FILE/"$(quoted "$1")"}"
+  else
+    "${engine[@]}" explain -- "$1" 2>/dev/null || true
+  fi
+}
+
+# Prints the commands that read a file, by the kind that the first line of its explanation states; nothing of another kind.
+print_use() {
+  local name
+  name=$(quoted "$1")
+  case "$2" in
+    "$name is a schedule"*) echo "For its report: listset replay $name; for its picture: listset show $name" ;;
+    "$name is a draft"*) echo "For its schedule: listset draft $name" ;;
+    "$name is a report"*) echo "To check its order: listset check $name; for its picture: listset show $name" ;;
+    "$name has recorded calls"*) echo "For the verdict: listset judge $name" ;;
+    "$name is a trace"*) echo "No command reads a trace" ;;
+    "$name is a course"*) echo "No command reads a course: paste it into page/index.html, under Solve" ;;
+    "$name has keys for serve"*) echo "A server opens with these keys: listset serve KIND SEATS QUOTA PORT SESSIONS $name" ;;
+  esac
+}
+
+# Prints what a command reads.
+read_by() {
+  case "$1" in
+    replay | trace) echo "a schedule" ;;
+    check) echo "a report" ;;
+    draft) echo "a draft" ;;
+    judge) echo "recorded calls" ;;
+    serve) echo "lines 'key K'" ;;
+    *) echo "a schedule or a report" ;;
+  esac
+}
+
+# Prints what is wrong in a file, and what to do: the last line of what the command explain prints. If the cause $3 is
+# Header and the file is of another kind than command $1 reads, prints both kinds and the commands that read the file.
+explain_in_a_line() {
+  local command=$1 file=$2 said first use
+  said=$(explain_file "$file")
+  first=${said%%$'\n'*}
+  use=$(print_use "$file" "$first")
+  if [ "${3-}" = Header ] && [ -n "$use" ]; then
+    echo "${first%%, and *}, and $command reads $(read_by "$command"). $use"
+  else
+    tail -n 1 <<<"$said"
+  fi
+}
+
+# Explains a refused line of recorded calls that are too long for the command explain: the line, and its cause.
+explain_long() {
+  local file=$1 number=$2 cause=$3 line why
+  line=$(sed -n "$number{p;q}" "$file" | cut -c1-100 | cat -v)
+  why=$("${engine[@]}" faults "$cause" | sed -n '/in recorded calls/,/^$/p' | sed '1d; s/^ *//' | tr '\n' ' ')
+  why=${why#"$cause"}
+  why=$(sed 's/^ *//; s/ *$//' <<<"${why//FILE/$(quoted "$file")}")
+  [ -z "$line" ] || why="Line $number is '$line'. $why"
+  echo "$why"
 }
 
 # Explains a refused line of the input of a command.
 explain_line() {
-  local command=$1 cause=$2 file
+  local command=$1 number=$2 cause=$3 file
   file=$(print_file "$command")
-  if [ "$cause" = Kind ] && [ -n "$has_lacks" ]; then
-    echo "$has_lacks is a check of another list than the one in line 2; listset help replay lists the checks of each list"
-  elif [ "$command $cause" = "serve Line" ]; then
-    explain_in_a_line "$file" Header
-  elif [ -f "$file" ]; then
-    explain_in_a_line "$file" "$cause"
-  else
+  if [ "$cause" = Kind ] && [ -n "${texts[lacks]-}" ]; then
+    echo "${texts[lacks]} is a check of another list than the one in line 2; listset help replay lists the checks of each list"
+  elif [ ! -f "$file" ]; then
     echo "listset faults $cause explains this error; for a text in a file, listset explain FILE says what is wrong"
+  elif [ "$command" = judge ] && [ "$(stat -c %s -- "$file")" -gt 67108864 ]; then
+    explain_long "$file" "$number" "$cause"
+  elif [ "$command $cause" = "serve Line" ]; then
+    explain_in_a_line serve "$file" Header
+  else
+    explain_in_a_line "$command" "$file" "$cause"
   fi
+}
+
+# Explains a refusal of recorded calls without lines of final keys, if the refusal is about the final keys.
+explain_refusal() {
+  local file=${values[0]-} verdict
+  [ -f "$file" ] && [ "$(stat -c %s -- "$file")" -le 67108864 ] || return 0
+  ! grep -q '^key ' "$file" && [ "$(tail -n 1 "$file")" = end ] || return 0
+  verdict=$("${engine[@]}" judge --brief -- "$file" 2>/dev/null) || true
+  [[ "$verdict" == *" and leaves it as it was left"* ]] || return 0
+  file=$(quoted "$file")
+  echo "$file has no 'key' lines, so it says that the set is empty at the end. If its final keys are not known, write 'cut' instead of 'end': sed -i '\$s/^end\$/cut/' $file"
 }
 
 explain_unread() {
   local file
   file=$(print_file "$1")
   if [ -n "$file" ]; then
-    explain_in_a_line "$file"
-  elif [ ! -e /proc/self/fd/0 ]; then
+    explain_in_a_line "$1" "$file"
+  elif [ -n "$is_input_closed" ]; then
     echo "Standard input is closed. Name a file: listset $1 FILE"
   else
     echo "Standard input could not be read. Name a file: listset $1 FILE"
@@ -77,6 +156,27 @@ explain_port() {
   fi
 }
 
+# Prints the last moment that show can draw of the command's file; nothing if the command reads standard input.
+print_last_moment() {
+  local file picture lacks=()
+  file=$(print_file show)
+  [ -f "$file" ] || return 0
+  [ -z "${texts[lacks]-}" ] || lacks=(--lacks "${texts[lacks]}")
+  picture=$("${engine[@]}" show "${lacks[@]}" -- "$file" 2>/dev/null) || true
+  sed -n 's/^moments .* of \([0-9]*\);.*/\1/p; s/^moment .* \([0-9]*\)$/\1/p' <<<"$picture" | head -n 1
+}
+
+# Explains a wrong option of show, with the help of the command.
+explain_option() {
+  local name=$1 range=$2 last
+  case "$name" in
+    FROM) last=$(print_last_moment)
+      [ -z "$last" ] || range+="; of this file, 1 to $last" ;;
+    TO) range+="; here, ${texts[from]-1} or a later one" ;;
+  esac
+  echo "$name '${texts[${name,,}]-}' is wrong. $range"
+}
+
 # Explains a missing or wrong argument, with the help of its command.
 explain_value() {
   local command=$1 name=$2 help usage range words at=0
@@ -84,10 +184,10 @@ explain_value() {
   usage=$(sed -n 's/^Usage: //p' <<<"$help")
   read -ra words <<<"$usage"
   case "$command $name" in
-    "example NAME") echo "listset example lists the names; not each of them has a --broken report" && return ;;
+    "example NAME") echo "listset example lists the names" && return ;;
     "faults CAUSE") echo "listset faults lists all causes" && return ;;
-    "judge KEY") echo "KEY is a number from 0 to 4294967295" && return ;;
-    *\ FROM | *\ TO | *\ WIDTH) echo "$name: $(sed -n "s/^ *--${name,,} <[MN]> *//p" <<<"$help")" && return ;;
+    "judge KEY") echo "KEY is a number from 0 to 4294967295, and the recording has a call of it" && return ;;
+    *\ FROM | *\ TO | *\ WIDTH) explain_option "$name" "$(sed -n "s/^ *--${name,,} <[MN]> *//p" <<<"$help")" && return ;;
   esac
   range=$(sed -n "s/^ *\[$name\] *//p" <<<"$help")
   for ((at = 2; at < ${#words[@]}; at++)); do
@@ -130,12 +230,12 @@ explain_word() {
     -v | --v | --ver) echo "listset --version prints the version" ;;
     -*)
       for file in "${given[@]}"; do
-        [[ "$file" != "$word"* ]] || [ ! -e "./$file" ] || { echo "If you mean the file: listset $command ./$file" && return; }
+        [[ "$file" != "$word"* ]] || [ ! -e "./$file" ] || { echo "If you mean the file: listset $command $(quoted "$file")" && return; }
       done
       if "${engine[@]}" help "${word#--}" >/dev/null 2>&1; then
         echo "A command has no hyphens: listset ${word#--}"
       else
-        echo "listset help $command lists the options"
+        echo "listset help $command lists its arguments and options"
       fi ;;
     *)
       if [ -f "$word" ]; then
@@ -145,32 +245,64 @@ explain_word() {
 }
 
 explain_command() {
+  local first use
   if [ -f "$1" ]; then
-    echo "If you mean the file: $(explain_in_a_line "$1" | grep -o "listset [a-z]* $1" || echo "listset explain $1")" | head -n 1
+    first=$(explain_file "$1")
+    first=${first%%$'\n'*}
+    use=$(print_use "$1" "$first")
+    [ -n "$use" ] || use="listset explain $(quoted "$1") says what it has"
+    echo "If you mean the file: ${first%%, and *}. $use"
   else
     echo "listset --help lists the commands"
   fi
 }
 
-# Prints a hint for an error of the program with these arguments.
+# Prints the examples whose broken report example --broken prints.
+print_broken() {
+  local it names=""
+  for it in "$top"/examples/schedules/*.broken.report; do
+    [ -e "$it" ] || return 0
+    it=${it##*/}
+    names+="${names:+, }${it%.broken.report}"
+  done
+  echo "These examples have one: $names"
+}
+
+# Prints a hint for an error of the program with these arguments, or for a refusal, of which the program says nothing on
+# standard error. Commands in it have the name by which the script was called.
+print_hint() {
+  local hint it
+  hint=$(explain_error "$@")
+  [ "$called" = listset ] || for it in replay judge check show trace draft example gen run serve faults explain help --help --version; do
+    hint=${hint//"listset $it"/"$called $it"}
+  done
+  [ -z "$hint" ] || printf '%s\n' "$hint"
+}
+
+# Prints a hint as `print_hint` does, with listset as the name of the script.
 explain_error() {
-  local said=$1 word
+  local said=$1 word number
   shift
   given=("$@")
   read_words "$@"
   word=$(sed -n "1s/^error: .*argument '\([^' ]*\).*/\1/p" <<<"$said")
   case "$said" in
-    "listset: line "*) explain_line "$1" "${said##*: }" ;;
+    "") explain_refusal ;;
+    "listset: line "*)
+      number=${said#listset: line }
+      explain_line "$1" "${number%%:*}" "${said##*: }" ;;
     "listset: cannot read") explain_unread "$1" ;;
     "listset: too long") [ "$1" != judge ] || { echo "Only a recording can have more than 67108864 bytes: line 1 must be 'listset-calls 1', and no line has more than 128 bytes" && return; }
       echo "An input has at most 67108864 bytes; only judge reads more. Make the text shorter" ;;
     "listset: cannot write") echo "The output was closed, as by head, or its device is full: df -h" ;;
     "listset: cannot listen") explain_port ;;
     "listset: work: "* | "listset: serve: "*) echo "listset faults ${said##*: } explains this error" ;;
+    "listset: bad NAME: this example"*) print_broken ;;
     "listset: bad NAME: "*) ;;
     "listset: bad "*) explain_value "$1" "${said#listset: bad }" ;;
     "error: unrecognized subcommand"*"tip:"*) [ ! -f "$1" ] || explain_command "$1" ;;
     "error: unrecognized subcommand"*) explain_command "$1" ;;
+    "error: a value is required for"*) echo "listset help $1 says what it can be" ;;
     *"tip: a similar argument exists"*) ;;
     "error: unexpected argument"*) explain_word "$1" "$word" ;;
   esac

@@ -231,6 +231,7 @@ var require_only = __commonJS({
 
 // listset.js
 var fs = require("fs");
+var path = require("path");
 var { NO_ENGINE, NOT_RUN, onlyKey, startedEngine } = parts();
 var LONGEST = 67108864;
 var WRONG = 2;
@@ -461,8 +462,7 @@ function answerTo(engine, { name, functions, isJudge, isExplain, isOn, texts: { 
   const tried = ask(Buffer.alloc(0));
   return tried.status === WRONG ? tried : ask(bytesOf2(opened(values[0])));
 }
-function explained(engine, file = "-") {
-  const name = file === "-" ? "FILE" : file;
+function explained(engine, file = "-", name = file === "-" ? "FILE" : file) {
   try {
     return engine.askBytes("listset_explain", Buffer.from(name), bytesOf2(opened(file)));
   } catch (fault) {
@@ -503,50 +503,147 @@ function write({ status, bytes }, hint) {
   if (status !== 0 && text.subarray(0, 9).toString("latin1") === "listset: ")
     return tellError(text, hint);
   if (text.length > 0 && isOutputClosed())
-    return tellError("listset: cannot write\n");
-  process.stdout.on("error", () => tellError("listset: cannot write\n"));
+    return tellError("listset: cannot write\n", hint);
+  process.stdout.on("error", () => tellError("listset: cannot write\n", hint));
   process.stdout.write(text);
+  if (status === 1 && process.stderr.isTTY && hint)
+    process.stderr.write(hint("", bytes));
 }
-function tellError(text, hint = () => "") {
+function tellError(text, hint = noHint) {
   if (process.exitCode === 0)
     process.exitCode = 1;
-  const more = process.stderr.isTTY ? hint(text.toString()) : "";
-  process.stderr.write(more ? `${text}${more}
-` : text);
+  process.stderr.write(process.stderr.isTTY ? `${text}${hint(text.toString())}` : text);
 }
+var noHint = () => "";
 function hintOn(engine, words) {
-  return (said) => {
-    const { name, isOfFile, values } = words;
-    const [, value] = /^listset: bad (\w+)\n/.exec(said) ?? [];
-    const [, cause] = /^listset: line \d+: (\w+)/.exec(said) ?? [];
-    if (value)
-      return valueHint(words, value);
-    if (isOfFile && values.length > 0 && values[0] !== "-")
-      return lineAbout(explained(engine, values[0]).bytes, cause);
-    if (cause)
-      return `listset faults ${cause} explains it; of a text in a file, listset explain FILE says what is wrong there`;
-    return /cannot read/.test(said) ? `Standard input could not be read. Name a file: listset ${name} FILE` : "";
+  return (said, bytes) => {
+    const hint = asCalled(said === "" ? keysHint(words, bytes) : hintOf(engine, words, said));
+    return hint === "" ? "" : `${hint}
+`;
   };
 }
-function lineAbout(bytes, cause) {
-  const lines = Buffer.from(bytes).toString().trimEnd().split("\n");
-  const kind = cause === "Header" && !lines[0].includes("is no text of listset") ? /^(.*?), and /.exec(lines[0])?.[1] : void 0;
-  return kind ? `${kind}. ${lines.at(-1)}` : lines.at(-1);
+function hintOf(engine, { name, isOfFile, texts, values }, said) {
+  const [file = "-"] = values;
+  const [, value] = /^listset: bad (\w+)\n/.exec(said) ?? [];
+  const [, number, cause] = /^listset: line (\d+): (\w+)/.exec(said) ?? [];
+  if (value)
+    return valueHint(engine, { name, texts, values }, value);
+  if (said.startsWith("listset: bad NAME: this example"))
+    return `These examples have one: ${brokenExamples(engine).join(", ")}`;
+  if (said.startsWith("listset: bad "))
+    return "";
+  if (said.startsWith("listset: cannot write"))
+    return "The output was closed, as by head, or its device is full: df -h";
+  if (said.startsWith("listset: too long"))
+    return `An input has at most ${LONGEST} bytes; only judge reads more. Make the text shorter`;
+  if (cause === "Kind" && texts.lacks !== void 0)
+    return `${texts.lacks} is a check of another list than the one in line 2; listset help replay lists the checks of each list`;
+  if (isOfFile && file !== "-")
+    return fileHint(engine, name, file, number, cause);
+  if (cause)
+    return `listset faults ${cause} explains it; of a text in a file, listset explain FILE says what is wrong there`;
+  return /cannot read/.test(said) ? `Standard input could not be read. Name a file: listset ${name} FILE` : "";
 }
-function valueHint({ name, texts, values }, value) {
+var KINDS = [
+  ["listset-schedule", "is a schedule", "For its report: listset replay FILE; for its picture: listset show FILE"],
+  ["listset-draft", "is a draft", "For its schedule: listset draft FILE"],
+  ["listset-report", "is a report", "To check its order: listset check FILE; for its picture: listset show FILE"],
+  ["listset-calls", "has recorded calls", "For the verdict: listset judge FILE"],
+  ["listset-trace", "is a trace", "No command reads a trace"],
+  ["key ", "has keys for serve", "A server opens with these keys: listset serve KIND SEATS QUOTA PORT SESSIONS FILE"]
+];
+var READS = { replay: "a schedule", trace: "a schedule", check: "a report", draft: "a draft", judge: "recorded calls", show: "a schedule or a report" };
+function quoted(file) {
+  const name = file.startsWith("-") ? `./${file}` : file;
+  return /^[\w./+:=@%,\u0080-\uffff-]+$/.test(name) ? name : `'${name.replaceAll("'", "'\\''")}'`;
+}
+function kindOf(file) {
+  const first = lineOf(file, 1);
+  const found = KINDS.find(([title]) => first.startsWith(title));
+  return found ? { is: `${quoted(file)} ${found[1]}`, use: found[2].replaceAll("FILE", quoted(file)) } : null;
+}
+function lineOf(file, number) {
+  const input = fs.openSync(file, "r");
+  let [line, at] = ["", 1];
+  for (const piece = Buffer.alloc(65536); at <= number && line.length < 100; ) {
+    const text = piece.toString("latin1", 0, readSome(input, piece));
+    if (text === "")
+      break;
+    const lines = text.split("\n");
+    if (at <= number && number < at + lines.length)
+      line += lines[number - at];
+    at += lines.length - 1;
+    if (at > number)
+      break;
+  }
+  fs.closeSync(input);
+  return line.slice(0, 100).replace(/[^ -~]/g, (byte) => `\\x${byte.charCodeAt(0).toString(16).padStart(2, "0")}`);
+}
+function fileHint(engine, name, file, number, cause) {
+  const isLong = fs.existsSync(file) && fs.statSync(file).size > LONGEST;
+  if (isLong && name === "judge" && cause)
+    return longHint(engine, file, number, cause);
+  const kind = cause === "Header" ? kindOf(file) : null;
+  const isOther = kind !== null && !READS[name].split(" or ").some((it) => kind.is.endsWith(it));
+  if (isOther)
+    return `${kind.is}, and ${name} reads ${READS[name]}. ${kind.use}`;
+  return Buffer.from(explained(engine, file, "FILE").bytes).toString().trimEnd().split("\n").at(-1).replaceAll("FILE", quoted(file));
+}
+function longHint(engine, file, number, cause) {
+  const [, part] = engine.ask("listset_fault", cause).text.split(", in recorded calls; exit status 1\n");
+  const [why] = part.split("\n\n");
+  const line = lineOf(file, Number(number));
+  const shown = why.replace(/\s+/g, " ").trim().slice(cause.length).trim().replaceAll("FILE", quoted(file));
+  return line ? `Line ${number} is '${line}'. ${shown}` : shown;
+}
+function keysHint({ name, values: [file = "-"] }, bytes) {
+  const verdict = Buffer.from(bytes).toString();
+  if (name !== "judge" || file === "-" || !/^not linearizable\nno order .* and leaves it as it was left\n/.test(verdict))
+    return "";
+  const text = bytesOf2(opened(file)).toString("latin1");
+  if (/^key /m.test(text) || !text.endsWith("\nend\n"))
+    return "";
+  return `${quoted(file)} has no 'key' lines, so it says that the set is empty at the end. If its final keys are not known, write 'cut' instead of 'end': sed -i '$s/^end$/cut/' ${quoted(file)}`;
+}
+function brokenExamples(engine) {
+  const names = engine.ask("listset_examples").text.trimEnd().split("\n").map((line) => line.split(" ")[0]);
+  return names.filter((it) => engine.ask("listset_broken_example", it).status === 0).sort();
+}
+function valueHint(engine, { name, texts, values }, value) {
   const help = HELP[name] ?? "";
   const ofOption = new RegExp(`--${value.toLowerCase()} <[MN]> +(.*)`).exec(help)?.[1];
   if (ofOption)
-    return `${value} '${texts[value.toLowerCase()]}' is wrong. ${ofOption}`;
+    return `${value} '${texts[value.toLowerCase()]}' is wrong. ${ofOption}${ofThisFile(engine, { texts, values }, value)}`;
   const range = new RegExp(`^ +\\[${value}\\] +(.*)`, "m").exec(help)?.[1];
   if (name === "example")
-    return "listset example lists the names; with --broken not each of them has a report";
+    return "listset example lists the names";
   if (name === "faults")
     return "listset faults lists all causes";
   if (value === "KEY")
-    return "KEY is a number from 0 to 4294967295";
+    return "KEY is a number from 0 to 4294967295, and the recording has a call of it";
   const given = values[usageOf(name).split(" ").indexOf(value) - 2];
   return given === void 0 ? `${value} is missing. Usage: ${usageOf(name)}` : `${value} '${given}' is wrong. ${range}`;
+}
+function ofThisFile(engine, { texts, values: [file = "-"] }, value) {
+  if (value === "TO")
+    return `; here, ${texts.from ?? 1} or a later one`;
+  if (value !== "FROM" || file === "-" || texts.lacks !== void 0)
+    return "";
+  const picture = engine.askBytes("listset_show", bytesOf2(opened(file)), Buffer.from("\0\0")).bytes;
+  const [, all, drawn] = /^moments .* of (\d+);|^moment .* (\d+)$/m.exec(Buffer.from(picture).toString()) ?? [];
+  return all || drawn ? `; of this file, 1 to ${all ?? drawn}` : "";
+}
+function asCalled(hint) {
+  const called = `node ${quoted(path.relative("", process.argv[1]))}`;
+  return hint.replace(/\blistset (?=(replay|judge|check|show|trace|draft|example|gen|run|serve|faults|explain|help)\b)/g, `${called} `);
+}
+function wordHint([word = ""]) {
+  const isFile = fs.existsSync(word) && fs.statSync(word).isFile();
+  if (!isFile)
+    return "";
+  const kind = kindOf(word);
+  return `${asCalled(`If you mean the file: ${kind ? `${kind.is}. ${kind.use}` : `listset explain ${quoted(word)}`}`)}
+`;
 }
 async function main(given) {
   const words = asked(given);
@@ -569,5 +666,5 @@ main(process.argv.slice(2)).catch((fault) => {
   process.exitCode = fault.status;
   if (fault.status === 0)
     return write({ status: 0, bytes: Buffer.from(fault.message) });
-  process.stderr.write(fault.message);
+  process.stderr.write(process.stderr.isTTY ? `${fault.message}${wordHint(process.argv.slice(2))}` : fault.message);
 });

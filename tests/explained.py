@@ -1,14 +1,11 @@
-"""What is said of mistakes: in a pipe one fixed line, to the byte; by `explain` the line, what is wrong and what to do; at a terminal a line below
-the fixed one."""
+"""What is said of mistakes: in a pipe one fixed line, to the byte; by `explain` the line, what is wrong and what to do. tests/hints.py has what
+a terminal shows below the fixed line."""
 
 import os
-import pty
 import re
-import shutil
-import subprocess
 
 import pytest
-from harness.programs import SECONDS, TOP, ran, wants, well
+from harness.programs import ran, wants, well
 
 SCHEDULE = "listset-schedule 1\nlist lazy\nthreads 2\nquota 4\n"
 DRAFT = "listset-draft 2\nlist coarse\nthreads 2\nquota 4\n"
@@ -153,114 +150,3 @@ def test_faults_of_a_cause(program):
     assert well(program, "faults", "refused TooEarly 1") == well(program, "faults", "TooEarly")
     for wrong in ("Nothing", "", " ", "I", "Idl", "a", "a file", "Error", "Error messages"):
         wants(ran(program, "faults", wrong), status=2, output="", tells=["listset: bad CAUSE\n"])
-
-
-# ---- at a terminal
-
-# words, what stands on the terminal below the fixed line
-AT_TERMINAL = {
-    "replay no-such": ["listset: cannot read\n", "no-such: there is no such file"],
-    "judge .": ["listset: cannot read\n", ".: this is a folder"],
-    "replay a.schedule": ["listset: line 6: Idle\n", "Write 'go 0 11'"],
-    "replay --lacks mark a.schedule": ["listset: line 2: Kind\n", "mark is a check of another list"],
-    "judge a.schedule": ["listset: line 1: Header\n", "a.schedule is a schedule. Thread 0"],
-    "judge b.schedule": ["listset: line 1: Header\n", "b.schedule is a schedule. For its report: listset replay b.schedule"],
-    "gen": ["listset: bad KIND\n", "KIND is missing. Usage: listset gen KIND THREADS QUOTA CALLS KEYS SEED"],
-    "gen lazy": ["listset: bad THREADS\n", "THREADS is missing"],
-    "gen Lazy 2 4 9 5 1": ["listset: bad KIND\n", "KIND 'Lazy' is wrong. List: coarse, fine"],
-    "gen lazy 65 4 9 5 1": ["listset: bad THREADS\n", "THREADS '65' is wrong. Number of threads", "1 to 64"],
-    "gen lazy 2 4 9 5 0x10": ["listset: bad SEED\n", "SEED '0x10' is wrong", "0 to 18446744073709551615"],
-    "gen lazy 2 4 9 5 -1": ["unexpected argument '-1' found\n", "SEED '-1' is wrong", "0 to 18446744073709551615"],
-    "show --from 0 b.schedule": ["listset: bad FROM\n", "FROM", "1 to the last one"],
-    "example nosuch": ["listset: bad NAME\n", "listset example lists the names"],
-    "judge --only x b.schedule": ["listset: bad KEY\n", "KEY is a number from 0 to 4294967295"],
-    "show --brief b.schedule": ["unexpected argument '--brief' found\n", "--brief is an option of judge"],
-    "faults nosuch": ["listset: bad CAUSE\n", "lists all causes"],
-    "b.schedule": ["unrecognized subcommand 'b.schedule'\n", "If you mean the file: listset replay b.schedule\n"],
-    "judge -x.calls": ["unexpected argument '-x' found\n", "If you mean the file: listset judge ./-x.calls"],
-    "serve lazy 1 4 0 0 b.schedule": ["listset: line 1: Line\n", "b.schedule is a schedule."],
-    "judge a.schedule b.schedule": ["unexpected argument 'b.schedule' found\n", "judge reads one file"],
-    "show --chain b.schedule": ["unexpected argument '--chain' found\n", "--chain is an option of trace"],
-    "shwo": ["unrecognized subcommand 'shwo'\n", "'show'"],
-}
-
-
-def at_terminal(words, cwd, typed=None):
-    """Returns what a command prints at a terminal, and its status. `typed` is its standard input."""
-    ours, theirs = pty.openpty()
-    stdin = theirs if typed else subprocess.DEVNULL
-    running = subprocess.Popen(words, cwd=cwd, stdin=stdin, stdout=theirs, stderr=theirs)
-    os.close(theirs)
-    os.write(ours, typed or b"")
-    said = b""
-    while True:
-        try:
-            piece = os.read(ours, 65536)
-        except OSError:
-            break
-        if not piece:
-            break
-        said += piece
-    os.close(ours)
-    return running.wait(timeout=SECONDS), said.decode().replace("\r\n", "\n")
-
-
-@pytest.fixture
-def script(program, room):
-    """Makes a folder with the script, the program under test as its proved program, and two schedules, a.schedule and b.schedule."""
-    tree = room / "tree"
-    (tree / "crates/listset/out").mkdir(parents=True)
-    shutil.copytree(TOP / "build", tree / "build")
-    for name in ("listset", "crates.txt"):
-        shutil.copy2(TOP / name, tree)
-    shutil.copy(program, tree / "crates/listset/out/listset")
-    (tree / "a.schedule").write_text(SCHEDULE + "begin 0 add 5\ngo 0 12\n")
-    (tree / "b.schedule").write_text(RIGHT)
-    (tree / "-x.calls").write_text(RIGHT_CALLS)
-    return tree
-
-
-@pytest.mark.parametrize("words", AT_TERMINAL)
-def test_a_terminal_has_a_line_below_an_error(script, words):
-    fixed, *more = AT_TERMINAL[words]
-    status, said = at_terminal(["./listset", *words.split()], script)
-    assert status in (1, 2) and fixed in said, said
-    below = said.split(fixed, 1)[1]
-    assert all(it in below for it in more) and "to pass '-" not in said, said
-    in_pipe = ran("./listset", *words.split(), cwd=script)
-    assert (in_pipe.stdout, in_pipe.stderr, in_pipe.returncode) == ("", ran(script / "crates/listset/out/listset", *words.split(), cwd=script).stderr, status)
-
-
-def test_a_result_at_a_terminal_is_the_result(script):
-    status, said = at_terminal(["./listset", "example", "snip"], script)
-    assert (status, said) == (0, well(script / "crates/listset/out/listset", "example", "snip"))
-
-
-READ = {"judge": "recorded calls", "replay": "a schedule", "replay --lacks mark": "a schedule", "trace --chain -": "a schedule", "check": "a report",
-        "draft": "a draft", "show --svg": "a schedule or a report", "show --lacks=mark": "a schedule or a report", "explain": "a text", "serve lazy 1 4 0 0 -": "the keys of the set"}
-
-
-@pytest.mark.parametrize("words", READ)
-def test_what_is_read_from_a_terminal_is_said(script, words):
-    _, said = at_terminal(["./listset", *words.split()], script, typed=b"\x04")
-    assert f"listset: reading {READ[words]} from the terminal, up to Ctrl-D (see listset help {words.split()[0]})\n" in said, said
-
-
-def test_the_size_of_a_long_recording_is_said(script):
-    long = script / "long.calls"
-    long.write_text(SCHEDULE)
-    os.truncate(long, 60_000_000)
-    note = "listset: judging 60 MB; a recording that is refused is read twice\n"
-    assert at_terminal(["./listset", "judge", "long.calls"], script)[1].startswith(note + "listset: line 1: Header\n")
-    assert ran("./listset", "judge", "long.calls", cwd=script).stderr == "listset: line 1: Header\n"
-
-
-def test_a_note_comes_once_and_after_a_result(script):
-    out = script / "crates/listset/out"
-    (out / "unproved").mkdir()
-    (out / "listset").rename(out / "unproved/listset")
-    note = "listset: this program was built without a proof; ./listset --prove proves and builds the program first\n"
-    assert at_terminal(["./listset", "replay", "no-such"], script)[1].startswith("listset: cannot read\n")
-    first, second = (at_terminal(["./listset", "example", "snip"], script) for _ in range(2))
-    assert first == (0, second[1] + note) and second[1].startswith("listset-schedule 1\n")
-    assert wants(ran("./listset", "example", "snip", cwd=script), output=second[1]).stderr == ""

@@ -1,0 +1,185 @@
+"""What the script ./listset shows at a terminal: below an error a line that helps, before a command what it reads, and in a pipe nothing more."""
+
+import os
+import pty
+import shutil
+import subprocess
+
+import pytest
+from explained import CALLS, RIGHT, RIGHT_CALLS, SCHEDULE, ADD
+from harness.programs import SECONDS, TOP, ran, wants, well
+
+# The arguments, the fixed line, and what the terminal shows below it
+AT_TERMINAL = {
+    "replay no-such": ["listset: cannot read\n", "no-such: there is no such file"],
+    "judge .": ["listset: cannot read\n", ".: this is a folder"],
+    "replay a.schedule": ["listset: line 6: Idle\n", "Write 'go 0 11'"],
+    "replay --lacks mark a.schedule": ["listset: line 2: Kind\n", "mark is a check of another list"],
+    "check a.schedule": ["listset: line 1: Header\n", "a.schedule is a schedule, and check reads a report. For its report: ./listset replay a.schedule; for its picture: ./listset show a.schedule\n"],
+    "judge b.schedule": ["listset: line 1: Header\n", "b.schedule is a schedule, and judge reads recorded calls. For its report: ./listset replay b.schedule"],
+    "replay -- -x.calls": ["listset: line 1: Header\n", "./-x.calls has recorded calls, and replay reads a schedule. For the verdict: ./listset judge ./-x.calls\n"],
+    "judge it's_unsorted": ["listset: line 3: History\n", r"grep '^call' 'it'\''s_unsorted' | sort -n -k 5,5;", "| ./listset judge\n"],
+    "judge -": ["listset: line 1: Header\n", "./listset faults Header explains this error; for a text in a file, ./listset explain FILE says"],
+    "gen": ["listset: bad KIND\n", "KIND is missing. Usage: ./listset gen KIND THREADS QUOTA CALLS KEYS SEED"],
+    "gen lazy": ["listset: bad THREADS\n", "THREADS is missing"],
+    "gen Lazy 2 4 9 5 1": ["listset: bad KIND\n", "KIND 'Lazy' is wrong. List: coarse, fine"],
+    "gen lazy 65 4 9 5 1": ["listset: bad THREADS\n", "THREADS '65' is wrong. Number of threads", "1 to 64"],
+    "gen lazy 2 4 9 5 0x10": ["listset: bad SEED\n", "SEED '0x10' is wrong", "0 to 18446744073709551615"],
+    "gen lazy 2 4 9 5 -1": ["unexpected argument '-1' found\n", "SEED '-1' is wrong", "0 to 18446744073709551615"],
+    "show --from 0 b.schedule": ["listset: bad FROM\n", "FROM '0' is wrong.", "; of this file, 1 to 12\n"],
+    "show --from=abc": ["listset: bad FROM\n", "FROM 'abc' is wrong. First moment to draw: 1 to the last one"],
+    "show --from 700 long.schedule": ["listset: bad FROM\n", "; of this file, 1 to 600\n"],
+    "show --from 5 --to 3 b.schedule": ["listset: bad TO\n", "TO '3' is wrong.", "; here, 5 or a later one\n"],
+    "show --width 0 b.schedule": ["listset: bad WIDTH\n", "WIDTH '0' is wrong.", "1 to 4294967295"],
+    "example nosuch": ["listset: bad NAME\n", "listset example lists the names"],
+    "example --broken full": ["listset: bad NAME: this example has no broken report\n", "These examples have one: ", "snip"],
+    "judge --only x b.schedule": ["listset: bad KEY\n", "KEY is a number from 0 to 4294967295"],
+    "show --brief b.schedule": ["unexpected argument '--brief' found\n", "--brief is an option of judge"],
+    "faults nosuch": ["listset: bad CAUSE\n", "lists all causes"],
+    "b.schedule": ["unrecognized subcommand 'b.schedule'\n", "If you mean the file: b.schedule is a schedule. For its report: ./listset replay b.schedule; "],
+    "judge -x.calls": ["unexpected argument '-x' found\n", "If you mean the file: ./listset judge ./-x.calls"],
+    "serve lazy 1 4 0 0 b.schedule": ["listset: line 1: Line\n", "b.schedule is a schedule, and serve reads lines 'key K'."],
+    "replay --lacks": ["a value is required for '--lacks <NAME>' but none was supplied\n", "./listset help replay says what it can be\n"],
+    "judge a.schedule b.schedule": ["unexpected argument 'b.schedule' found\n", "judge reads one file"],
+    "show --chain b.schedule": ["unexpected argument '--chain' found\n", "--chain is an option of trace"],
+    "shwo": ["unrecognized subcommand 'shwo'\n", "'show'"],
+}
+
+
+def at_terminal(words, cwd, typed=None, env=None):
+    """Returns what a command prints at a terminal, and its status. `typed` is its standard input."""
+    ours, theirs = pty.openpty()
+    stdin = theirs if typed else subprocess.DEVNULL
+    running = subprocess.Popen(words, cwd=cwd, stdin=stdin, stdout=theirs, stderr=theirs, env=env)
+    os.close(theirs)
+    os.write(ours, typed or b"")
+    said = b""
+    while True:
+        try:
+            piece = os.read(ours, 65536)
+        except OSError:
+            break
+        if not piece:
+            break
+        said += piece
+    os.close(ours)
+    return running.wait(timeout=SECONDS), said.decode().replace("\r\n", "\n")
+
+
+@pytest.fixture
+def script(program, room):
+    """Makes a folder with the script, the program under test as its proved program, schedules and recordings."""
+    tree = room / "tree"
+    (tree / "crates/listset/out").mkdir(parents=True)
+    for folder in ("build", "examples/schedules"):
+        shutil.copytree(TOP / folder, tree / folder)
+    for name in ("listset", "crates.txt"):
+        shutil.copy2(TOP / name, tree)
+    shutil.copy(program, tree / "crates/listset/out/listset")
+    (tree / "a.schedule").write_text(SCHEDULE + "begin 0 add 5\ngo 0 12\n")
+    (tree / "b.schedule").write_text(RIGHT)
+    (tree / "long.schedule").write_text(SCHEDULE + "begin 0 contains 5\ngo 0 2\n" * 200)
+    (tree / "-x.calls").write_text(RIGHT_CALLS)
+    (tree / "it's_unsorted").write_text(CALLS + "call 0 add 5 5 6 true\ncall 1 add 7 1 2 true\nend\n")
+    return tree
+
+
+def test_broken_reports_are_those_of_the_examples(program):
+    here = {it.name.split(".")[0] for it in (TOP / "examples/schedules").glob("*.broken.report")}
+    assert here == {it for it in (line.split()[0] for line in well(program, "example").splitlines()) if ran(program, "example", "--broken", it).returncode == 0}
+
+
+@pytest.mark.parametrize("words", AT_TERMINAL)
+def test_a_terminal_has_a_line_below_an_error(script, words):
+    fixed, *more = AT_TERMINAL[words]
+    status, said = at_terminal(["./listset", *words.split()], script)
+    assert status in (1, 2) and fixed in said, said
+    below = said.split(fixed, 1)[1]
+    assert all(it in below for it in more) and "to pass '-" not in said, said
+    in_pipe = ran("./listset", *words.split(), cwd=script)
+    assert (in_pipe.stdout, in_pipe.stderr, in_pipe.returncode) == ("", ran(script / "crates/listset/out/listset", *words.split(), cwd=script).stderr, status)
+
+
+def test_commands_in_a_hint_have_the_name_that_the_user_typed(script):
+    in_path = {**os.environ, "PATH": f"{script}:{os.environ['PATH']}"}
+    for called, how in (("listset", in_path), (f"{script}/listset", None)):
+        _, said = at_terminal([called, "judge", "b.schedule"], script, env=how)
+        assert f"For its report: {called} replay b.schedule; for its picture: {called} show b.schedule\n" in said, said
+
+
+@pytest.mark.parametrize("closed, line, hint", [("<&-", "cannot read", "Standard input is closed. Name a file: ./listset replay FILE"), (">&-", "cannot write", "The output was closed")])
+def test_a_closed_input_or_output_is_named(script, closed, line, hint):
+    words = f"./listset {'replay' if closed == '<&-' else 'example'} {closed}"
+    status, said = at_terminal(["sh", "-c", words], script)
+    assert (status, said.startswith(f"listset: {line}\n{hint}")) == (1, True), said
+    wants(ran("sh", "-c", words, cwd=script), status=1, tells=[f"listset: {line}\n"], no=[hint])
+
+
+def test_a_recording_without_final_keys_is_named(script):
+    texts = {"none": CALLS + ADD + "end\n", "other": CALLS + ADD + "key 6\nend\n", "bug": CALLS + ADD + "call 1 contains 5 5 6 false\nend\n", "right": CALLS + "end\n"}
+    for name, text in texts.items():
+        (script / name).write_text(text)
+        status, said = at_terminal(["./listset", "judge", name], script)
+        verdict = ran("./listset", "judge", name, cwd=script)
+        assert (status, verdict.stderr) == (verdict.returncode, "") and said.startswith(verdict.stdout), said
+        below = "none has no 'key' lines, so it says that the set is empty at the end. If its final keys are not known, write 'cut' instead of 'end': sed -i '$s/^end$/cut/' none\n"
+        assert said[len(verdict.stdout) :] == (below if name == "none" else ""), said
+    well("sh", "-c", "sed -i '$s/^end$/cut/' none && ./listset judge none", cwd=script)
+
+
+def test_an_error_in_a_long_recording_is_shown(script):
+    long = script / "my long.calls"
+    with open(long, "w") as file:
+        file.write(CALLS)
+        for at in range(1, 2_000_001):
+            file.write(f"call 0 contains 5 {10_000_000 + 2 * at} {10_000_001 + 2 * at} false\n")
+        file.write("call 0 contains 5 4 5 false\nend\n")
+    status, said = at_terminal(["./listset", "judge", "my long.calls"], script)
+    _, fixed, hint, _ = said.split("\n")
+    assert (status, fixed) == (1, "listset: line 2000002: History")
+    assert hint.startswith("Line 2000002 is 'call 0 contains 5 4 5 false'. The call does not end after it begins; or ")
+    assert "grep '^call' 'my long.calls' | sort -n -k 5,5" in hint, hint
+
+
+@pytest.mark.needs("node")
+def test_node_alone_has_the_hints_too(program, script):
+    shutil.copytree(TOP / "page", script / "page", ignore=shutil.ignore_patterns("src", "tests", "shots"))
+    (script / "none").write_text(CALLS + ADD + "end\n")
+    for words in ("replay no-such", "judge .", "check a.schedule", "replay -- -x.calls", "judge it's_unsorted", "gen lazy 65 4 9 5 1", "show --from 700 long.schedule", "example --broken full", "judge none"):
+        by_script, by_node = (at_terminal([*it, *words.split()], script) for it in (["./listset"], ["node", "page/listset.js"]))
+        assert by_node == (by_script[0], by_script[1].replace("./listset", "node page/listset.js")), words
+
+
+def test_a_result_at_a_terminal_is_the_result(script):
+    status, said = at_terminal(["./listset", "example", "snip"], script)
+    assert (status, said) == (0, well(script / "crates/listset/out/listset", "example", "snip"))
+
+
+READ = {"judge": "recorded calls", "replay": "a schedule", "replay --lacks mark": "a schedule", "trace --chain -": "a schedule", "check": "a report",
+        "draft": "a draft", "show --svg": "a schedule or a report", "show --lacks=mark": "a schedule or a report", "explain": "a text", "serve lazy 1 4 0 0 -": "the keys of the set"}
+
+
+@pytest.mark.parametrize("words", READ)
+def test_what_is_read_from_a_terminal_is_said(script, words):
+    _, said = at_terminal(["./listset", *words.split()], script, typed=b"\x04")
+    assert f"listset: reading {READ[words]} from the terminal, up to Ctrl-D (see listset help {words.split()[0]})\n" in said, said
+
+
+def test_the_size_of_a_long_recording_is_said(script):
+    long = script / "long.calls"
+    long.write_text(SCHEDULE)
+    os.truncate(long, 60_000_000)
+    note = "listset: judging 60 MB; a recording that is refused is read twice\n"
+    assert at_terminal(["./listset", "judge", "long.calls"], script)[1].startswith(note + "listset: line 1: Header\n")
+    assert ran("./listset", "judge", "long.calls", cwd=script).stderr == "listset: line 1: Header\n"
+
+
+def test_a_note_comes_once_and_after_a_result(script):
+    out = script / "crates/listset/out"
+    (out / "unproved").mkdir()
+    (out / "listset").rename(out / "unproved/listset")
+    note = "listset: this program was built without a proof; ./listset --prove proves and builds the program first\n"
+    assert at_terminal(["./listset", "replay", "no-such"], script)[1].startswith("listset: cannot read\n")
+    first, second = (at_terminal(["./listset", "example", "snip"], script) for _ in range(2))
+    assert first == (0, second[1] + note) and second[1].startswith("listset-schedule 1\n")
+    assert wants(ran("./listset", "example", "snip", cwd=script), output=second[1]).stderr == ""
