@@ -268,18 +268,17 @@ print_broken() {
   echo "These examples have one: $names"
 }
 
-# Prints a hint for an error of the program with these arguments, or for a refusal, of which the program says nothing on
-# standard error. Commands in it have the name by which the script was called.
-print_hint() {
-  local hint it
-  hint=$(explain_error "$@")
+# Prints a text, in which commands of listset begin with the name by which the script was called.
+print_as_called() {
+  local text=$1 it
   [ "$called" = listset ] || for it in replay judge check show trace draft example gen run serve faults explain help --help --version; do
-    hint=${hint//"listset $it"/"$called $it"}
+    text=${text//"listset $it"/"$called $it"}
   done
-  [ -z "$hint" ] || printf '%s\n' "$hint"
+  [ -z "$text" ] || printf '%s\n' "$text"
 }
 
-# Prints a hint as `print_hint` does, with listset as the name of the script.
+# Prints a hint for an error of the program with these arguments, or for a refusal, of which the program says nothing on
+# standard error.
 explain_error() {
   local said=$1 word number
   shift

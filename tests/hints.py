@@ -40,6 +40,7 @@ AT_TERMINAL = {
     "judge -x.calls": ["unexpected argument '-x' found\n", "If you mean the file: ./listset judge ./-x.calls"],
     "serve lazy 1 4 0 0 b.schedule": ["listset: line 1: Line\n", "b.schedule is a schedule, and serve reads lines 'key K'."],
     "replay --lacks": ["a value is required for '--lacks <NAME>' but none was supplied\n", "./listset help replay says what it can be\n"],
+    "explain a.schedule b.schedule": ["unexpected argument 'b.schedule' found\n", "explain reads one file"],
     "judge a.schedule b.schedule": ["unexpected argument 'b.schedule' found\n", "judge reads one file"],
     "show --chain b.schedule": ["unexpected argument '--chain' found\n", "--chain is an option of trace"],
     "shwo": ["unrecognized subcommand 'shwo'\n", "'show'"],
@@ -98,6 +99,13 @@ def test_a_terminal_has_a_line_below_an_error(script, words):
     assert all(it in below for it in more) and "to pass '-" not in said, said
     in_pipe = ran("./listset", *words.split(), cwd=script)
     assert (in_pipe.stdout, in_pipe.stderr, in_pipe.returncode) == ("", ran(script / "crates/listset/out/listset", *words.split(), cwd=script).stderr, status)
+
+
+def test_an_explanation_at_a_terminal_has_the_name_that_the_user_typed(script):
+    of_program = well(script / "crates/listset/out/listset", "explain", "b.schedule", cwd=script)
+    assert "For its report: listset replay b.schedule" in of_program
+    assert at_terminal(["./listset", "explain", "b.schedule"], script) == (0, of_program.replace("listset ", "./listset "))
+    assert well("./listset", "explain", "b.schedule", cwd=script) == of_program
 
 
 def test_commands_in_a_hint_have_the_name_that_the_user_typed(script):
