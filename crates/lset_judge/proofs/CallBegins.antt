@@ -1,4 +1,4 @@
--- A call of a stream begins, and what the stream keeps goes on to it.
+-- The state of a stream stays right when a call begins.
 use Rattle.std.proofs.Common.{◌≡◌, ◌≢◌, ℕ, suc, ◌+◌, ◌-◌, ◌<◌, ◌≤◌, true, List, [], ◌∷◌, ◌++◌, refl, sym, ap, ◌∙◌, arith, subst, inl, inr}
 use Rattle.std.proofs.Common.{length, get_or, length-append}
 use Rattle.std.specs.Prelude.{Option, Some, None, IfSome, IsSomeAnd, All, Contains}
@@ -137,7 +137,7 @@ module _ (threads : ℕ) (opening : List ℕ) (calls : List CallRecord) (s : Str
   long : length more ≡ length calls + 1
   long = length-append calls (x ∷ [])
 
-  -- an open call that began before does not end where this one does
+  -- a pending call that began before does not end at the end of this call
   ends_apart : (k : ℕ) (d : Pending) → k < length s.pending → (get_or s.pending k d).end ≢ (pending_of x).end
   ends_apart k d low z = elim (none_or_some x.ended) [
     | inr e ↦ (
@@ -166,7 +166,7 @@ module _ (threads : ℕ) (opening : List ℕ) (calls : List CallRecord) (s : Str
     | inl none ↦ (let v : (pending_of x).end ≡ behind_all + x.begun = ap (until_if behind_all x.begun) none in omega (arith, v))
   ]
 
-  -- nor does a call that is pending
+  -- a call in the list of pending calls does not, either
   pub begins_apart : All (λ (p : Pending). p.end ≢ (pending_of x).end) s.pending
   begins_apart k d low = ends_apart k d low
 

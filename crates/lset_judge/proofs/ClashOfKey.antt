@@ -1,4 +1,4 @@
--- Two calls that clash have no order, whatever all other calls did.
+-- If two calls clash, no order explains them, whatever all other calls did.
 use Rattle.std.proofs.Common.{◌≡◌, ℕ, ◌<◌, ◌≤◌, ◌⊎◌, List, [], ◌∷◌, Bool, true, false, inl, inr, refl, sym, ap, ◌∙◌, arith, subst, length, get_or, map}
 use Rattle.std.specs.Prelude.{not, ◌||◌, Option, Some, None, IfSome, IsSomeAnd, All, Contains as Has, ◌==◌}
 use Rattle.std.specs.List.{AllByRecursion}
@@ -52,7 +52,7 @@ early x t [] pairs b = absurd b
 early x t (p ∷ ys) pairs (inl h) = subst (λ (q : Act). q.begun < t.until) h.0 (one_of (Apart p) t ys pairs.0 h.1).in_time
 early x t (p ∷ ys) pairs (inr b) = early x t ys pairs.1 b
 
--- no act turns the key the other way: it stays as it is
+-- if no act changes the key to the other state, the key keeps its state
 goes_on : (s b : Bool) (k : Kind) → s ≡ b → (k ≡ changes (not b) → ⊥) → becomes s k ≡ b
 goes_on s true (changes true) e n = refl
 goes_on s false (changes false) e n = refl
@@ -77,7 +77,7 @@ stays_left left s b (p ∷ ys) e turns n = stays_left left (becomes s p.does) b 
 abbrev pub Leaves : Bool → Kind → Type 0
 Leaves b k = (s : Bool) → suits s k → becomes s k ≡ b
 
--- from an act that leaves it so
+-- from an act that leaves the key in the state
 after : (left s b : Bool) (x t : Act) (ys : List Act) → TakeTurns left s ys → Pairs Apart ys → Before x t ys → Leaves b x.does
     → ((a : Act) → In a ys → a.does ≡ changes (not b) → x.begun < a.until → a.begun < t.until → ⊥) → suits b t.does
 after left s b x t [] turns pairs i l n = absurd i
@@ -164,7 +164,7 @@ module _ (threads : ℕ) (calls : List CallRecord) (history : IsHistory threads 
   positive : (a : Act) → In a ys → 0 < a.until
   positive a i = let l = (is_act a i).ends_later in omega (arith, l)
 
-  -- no act turns the key
+  -- no act changes the key
   none : (p : Presence) (since : ℕ) (second : Option CallRecord) → NothingTurns calls k (other p) since second
       → (a : Act) → In a ys → a.does ≡ changes (not (is_there p)) → since < a.until → is_before a.begun second ≡ true → ⊥
   none p since second n a i d s b =
@@ -216,7 +216,7 @@ module _ (threads : ℕ) (calls : List CallRecord) (history : IsHistory threads 
         ]
       ]
 
--- A CLASH EXCLUDES EVERY ORDER of a history, under its quota, with these keys left
+-- A CLASH EXCLUDES EVERY ORDER of a history, under its quota and with these final keys
 pub clash_refutes : (h : HistoryValue) (keys : List ℕ) (k : ℕ) (there : Presence) (left : Option Presence) (was : Presence) (first second : Option CallRecord)
     → IsHistory h.opening.threads h.calls → has_key k h.opening.keys ≡ is_there there → IfSome left (λ (l : Presence). has_key k keys ≡ is_there l)
     → IsClash h.calls k there left was first second → IsUnexplained h keys
@@ -230,7 +230,7 @@ clash_refutes h keys k there left was first second history opens leaves c order 
     (subst (λ b. TakeTurns (has_key k keys) b acts) opens r.take_turns) r.pairs r.acts
     (stands h.opening.threads h.calls history last upto k h.opening.quota (opening_set h.opening) order ex.linearizes) was first second c
 
--- and of the calls of the key alone, under any quota
+-- a clash excludes every order of the calls of its key alone, under any quota
 pub clash_has_none : (threads key : ℕ) (there : Presence) (left : Option Presence) (was : Presence) (first second : Option CallRecord) (calls : List CallRecord)
     → IsHistory threads calls → IsClash calls key there left was first second → HaveNone threads key there left calls
 clash_has_none threads key there left was first second calls history c quota keys leaves =
@@ -241,7 +241,7 @@ clash_has_none threads key there left was first second calls history c quota key
     left_as None e = tt
     left_as (Some l) e = ap (has_key key) e ∙ opens_so (is_there l) key
 
--- ---- what the code asks of the calls
+-- ---- the tests of the code
 
 ends : (a b c : Bool) → a ≡ true → b ≡ true → (not a || (not b || c)) ≡ true → c ≡ true
 ends true true c e f h = h

@@ -1,4 +1,4 @@
--- The verdict on a stream, when all has happened that its calls tell.
+-- The verdict on a stream after all events of its calls.
 use Rattle.std.proofs.Common.{◌≡◌, ◌≢◌, ℕ, ◌<◌, ◌≤◌, Bool, false, List, [], ◌∷◌, sym, ap, ◌∙◌, arith, inl, inr, zero, suc, true, refl, subst, length, get_or}
 use Rattle.std.specs.Prelude.{◌==◌, ◌&&◌, nat_le, None, IfSome, ◌||◌, Option, Some, is_some, MatchOption, All}
 use Rattle.std.specs.List.{AllByRecursion}
@@ -32,7 +32,7 @@ use Rattle.lset_judge.proofs.PlacedCalls.{same_flips}
 use Rattle.lset_judge.proofs.RuleLeads.{at_once, settled_none}
 use Rattle.lset_judge.proofs.StreamSteps.{same_some, until_end}
 
--- ---- the calls of one key that begin by a moment, alone: the rule judges them as it judges the key
+-- ---- the rule judges the calls of one key that begin by a moment as it judges the key
 
 abbrev EndsLater : CallRecord → Type 0
 EndsLater x = IfSome x.ended (λ (e : ℕ × Reply). x.begun < e.0)
@@ -40,7 +40,7 @@ EndsLater x = IfSome x.ended (λ (e : ℕ × Reply). x.begun < e.0)
 abbrev is_by : ℕ → ℕ → CallRecord → Bool
 is_by k M x = (key_of x.call).0 == k && nat_le x.begun M
 
--- up to the moment nothing is left out of the key
+-- up to the moment, no event of the key is missing
 event_by : (last k M m : ℕ) (xs : List CallRecord) → m ≤ M → AllByRecursion EndsLater xs → event_at last k (calls_by k M xs) m ≡ event_at last k xs m
 event_by last k M m xs low later = event_filter last k m (is_by k M) xs (silent xs later)
   where
@@ -95,7 +95,7 @@ module _ (last : ℕ) (h : HistoryValue) (told : IsHistory h.opening.threads h.c
       ])
       ∙ fails)
 
--- ---- how a key may be left
+-- ---- the final states that a key can have
 
 module _ (m : ℕ) (w : Bool) where
   one_turn : (n : ℕ) (s : State) (os : List ℕ) → same w s.there ≡ false → options s ≡ os → length os ≤ n

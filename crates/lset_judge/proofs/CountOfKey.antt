@@ -1,4 +1,4 @@
--- Calls between which a key has to turn back more often than it could have no order, whatever all other calls did.
+-- If a key must change back between calls more often than it can, no order explains the calls, whatever all other calls did.
 use Rattle.std.proofs.Common.{◌≡◌, ◌≢◌, ℕ, zero, suc, ◌+◌, ◌<◌, ◌≤◌, ◌⊎◌, List, [], ◌∷◌, Bool, true, false, inl, inr, refl, sym, ap, ◌∙◌, arith, subst, length}
 use Rattle.std.proofs.Common.{◌-◌, drop, get_or, map, take}
 use Rattle.std.proofs.lemmas.Grind.{common_steps}
@@ -67,12 +67,12 @@ empty_or_not : (xs : List ℕ) → (xs ≡ []) ⊎ ((u : ℕ) × (has_key u xs �
 empty_or_not [] = inl refl
 empty_or_not (x ∷ xs) = inr (x, has_head x xs)
 
--- ---- acts that are due, by their ends: between each two of them the key has to turn back
+-- ---- acts of counted calls: the key must change back between each two of them
 
 abbrev Needs : Bool → Kind → Type 0
 Needs b k = (s : Bool) → suits s k → s ≡ not b
 
--- one if the key is not so
+-- 1 if the key is in the other state
 abbrev against : Bool → Bool → ℕ
 against b s = if same b s then 0 else 1
 
@@ -94,7 +94,7 @@ against_so true false e = absurd (true≢false (sym e))
 against_so false true e = absurd (true≢false e)
 against_so false false e = refl
 
--- an act turns the key back, or does not
+-- an act changes the key back, or does not
 turns_or_not : (b s : Bool) (k : Kind) → suits s k → (k ≡ changes (not b)) ⊎ (against b (becomes s k) ≤ against b s)
 turns_or_not true s (changes true) h = inr (let a = against_so true true refl in omega (arith, a))
 turns_or_not true s (changes false) h = inl refl
@@ -103,7 +103,8 @@ turns_or_not false s (changes false) h = inr (let a = against_so false false ref
 turns_or_not b s (sees w) h = inr (omega arith)
 turns_or_not b s nothing h = inr (omega arith)
 
--- one that is due begins before the act ends, or the key was so before all; and one ends after the act begins, or the key is left otherwise
+-- A counted act begins before the act ends, or the key was in the state at first. A counted act ends after the act begins, or the final state
+-- is the other state.
 abbrev Earlier : Option ℕ → List ℕ → List Act → Act → Type 0
 Earlier o us ys t = ((a : Act) × In a ys × (has_key a.until us ≡ true) × (a.until ≢ t.until) × (a.begun < t.until)) ⊎ (o ≡ None)
 
@@ -149,7 +150,7 @@ module _ (b left : Bool) (c : Option ℕ) where
         | inr q ↦ inr q
       ]
 
-  -- one that is due stands later, or none does
+  -- a counted act comes later, or none does
   later_or_last : (p : Option ℕ) (us vs : List ℕ) (a : Act) (ys : List Act) → AllByRecursion (Apart a) ys → Due b left p c (take_out a.until us) vs ys
       → Later c us (a ∷ ys) a ⊎ ((take_out a.until us ≡ []) × (also c ≡ 0))
   later_or_last p us vs a ys apart d = by c refl
@@ -162,7 +163,7 @@ module _ (b left : Bool) (c : Option ℕ) where
             inl (inl (i.0, inr i.1, left_in i.0.until a.until us (subst (λ v. has_key v (take_out a.until us) ≡ true) (sym i.2) u.1), r.other, r.in_time)))
       ]
 
-  -- where the key was so before, or one that is due
+  -- the key was in the state at first, or a counted act came before
   count_on : (s : Bool) (o : Option ℕ) (us zs : List ℕ) (ys : List Act) → o ≡ None → TakeTurns left s ys → Pairs Apart ys → Due b left o c us zs ys
       → length us + also c ≤ length zs + against b s
   count_on s o (u ∷ us) zs [] none turns pairs d = absurd (d.stand u (has_head u us)).1
@@ -460,7 +461,7 @@ module _ (threads : ℕ) (calls : List CallRecord) (history : IsHistory threads 
           let from = count_from b finally til (is_there there) since us zs ys turns pairs due in
           let f = c.fewer in let zero_more : also since ≡ 0 = ap also e in let m = long in let s = short in omega (arith, from, f, zero_more, m, s)
 
--- A COUNT EXCLUDES EVERY ORDER of a history, under its quota, with these keys left
+-- A COUNT EXCLUDES EVERY ORDER of a history, under its quota and with these final keys
 pub count_refutes : (h : HistoryValue) (keys : List ℕ) (k : ℕ) (there : Presence) (left : Option Presence) (was : Presence) (since til : Option ℕ)
     (counted : List CallRecord) → IsHistory h.opening.threads h.calls → has_key k h.opening.keys ≡ is_there there
     → IfSome left (λ (l : Presence). has_key k keys ≡ is_there l) → IsCountOf h.calls k there left was since til counted → IsUnexplained h keys
@@ -474,9 +475,9 @@ count_refutes h keys k there left was since til counted history opens leaves c o
     (subst (λ b. TakeTurns (has_key k keys) b acts) opens r.take_turns) r.pairs r.acts
     (stands h.opening.threads h.calls history last upto k h.opening.quota (opening_set h.opening) order ex.linearizes) was since til counted c
 
--- ---- what the code asks of the calls
+-- ---- the tests of the code
 
--- one more of a list
+-- one more item of a list
 pub one_more : {X : Type 0} (P : X → Type 0) (xs : List X) (n : ℕ) (e : X) → ((i : ℕ) (d : X) → i < n → P (get_or xs i d)) → n < length xs
     → P (get_or xs n e) → (i : ℕ) (d : X) → i < n + 1 → P (get_or xs i d)
 one_more P xs n e before long here i d l = elim (below_or_not i n) [
@@ -484,7 +485,7 @@ one_more P xs n e before long here i d l = elim (below_or_not i n) [
   | inr high ↦ (let at : i ≡ n = omega arith in rw (at, get_or_default xs n d e long) here)
 ]
 
--- the first and the others
+-- the first item and the others
 rest_is : {X : Type 0} (x : X) (xs : List X) → take (length (x ∷ xs) - 1) xs ≡ xs
 rest_is x xs = grind (arith, common_steps)
 
@@ -505,7 +506,7 @@ filter_as_records p (x ∷ xs) = let r = filter_as_records p xs in elim (cases_B
   | inr f ↦ rw f r
 ]
 
--- what the test finds
+-- the result of the test
 pub is_count_if : (calls : List StreamCall) (there : Presence) (left : Option Presence) (c : Count) (counted : List StreamCall) → counted ≡ c.calls.items
     → c.backs.items ≡ filter (λ (x : StreamCall). turns_in c.key.0 (other c.was) c.since c.until (record_of x)) calls
     → All (λ (x : StreamCall). IsOf (records calls) c.key.0 (record_of x)) counted

@@ -1,4 +1,4 @@
--- The events of a key, and the calls that they tell of.
+-- The events of a key, and the calls to which they belong.
 use Rattle.std.proofs.Common.{◌≡◌, ◌≢◌, ◌⊎◌, ℕ, zero, suc, ◌<◌, ◌≤◌, List, [], ◌∷◌, Bool, true, false, inl, inr, refl, sym, ap, ◌∙◌, arith}
 use Rattle.std.proofs.Common.{subst, length, get_or}
 use Rattle.std.specs.Prelude.{◌==◌, if◌then◌else◌, Option, Some, None, AllPairs, IfSome, filter}
@@ -106,14 +106,14 @@ pub opens_so : (there : Bool) (k : ℕ) → has_key k (if there then k ∷ [] el
 opens_so true k = rw (equal_test k k refl) refl
 opens_so false k = refl
 
--- a call tells nothing of a key at a moment
+-- a call has no event of a key at a moment
 abbrev pub IsSilent : ℕ → ℕ → CallRecord → Type 0
 IsSilent k m x = ((key_of x.call).0 == k) ≡ true → ((x.begun == m) ≡ false) × (ends_at m x.ended ≡ false)
 
 pub passed_over : (last k m : ℕ) (x : CallRecord) (xs : List CallRecord) → IsSilent k m x → event_at last k (x ∷ xs) m ≡ event_at last k xs m
 passed_over last k m x xs s = elim (cases_Bool ((key_of x.call).0 == k)) [ inl t ↦ (let n = s t in rw (t, n.0, n.1) refl) | inr f ↦ rw f refl ]
 
--- one more call, before calls of which the same happens
+-- one more call before two lists of calls with the same events
 pub one_before : (last k m : ℕ) (x : CallRecord) (xs ys : List CallRecord) → event_at last k xs m ≡ event_at last k ys m
     → event_at last k (x ∷ xs) m ≡ event_at last k (x ∷ ys) m
 one_before last k m x xs ys e =
@@ -125,7 +125,7 @@ pub event_none : (last k m : ℕ) (xs : List CallRecord) → AllByRecursion (IsS
 event_none last k m [] a = refl
 event_none last k m (x ∷ xs) a = passed_over last k m x xs a.0 ∙ event_none last k m xs a.1
 
--- of the calls that a test takes the same happens, if those that it does not tell nothing
+-- calls selected by a test have the same events as all calls, if the other calls have none
 pub event_filter : (last k m : ℕ) (test : CallRecord → Bool) (xs : List CallRecord)
     → AllByRecursion (λ (x : CallRecord). test x ≡ false → IsSilent k m x) xs → event_at last k (filter test xs) m ≡ event_at last k xs m
 event_filter last k m test [] a = refl
@@ -141,7 +141,7 @@ latest_filter test [] = omega arith
 latest_filter test (x ∷ xs) =
     let rest = latest_filter test xs in elim (cases_Bool (test x)) [ inl t ↦ rw t (omega (arith, rest)) | inr t ↦ rw t (omega (arith, rest)) ]
 
--- nothing happens behind the moments of all
+-- there is no event after the last moment
 pub event_idle : (k m last : ℕ) (xs : List CallRecord) → latest_moment xs < m → event_at last k xs m ≡ idle
 event_idle k m last xs late = event_none last k m xs (recursion_from_All (IsSilent k m) xs (λ i d low own. (
   unequal_test (get_or xs i d).begun m (λ e. let b = begun_below xs i d low in omega (arith, b, e, late)),

@@ -1,4 +1,4 @@
--- The facts about the calls of the keys go on: at first, where a call ends, and where one begins; and what they find is a clash.
+-- The facts about the calls of the keys are right at first, and stay right when a call begins or ends. What they show is a clash.
 use Rattle.std.proofs.Common.{inl, inr, ◌≡◌, ◌≢◌, ◌⊎◌, ℕ, suc, ◌-◌, ◌<◌, ◌≤◌, true, false, List, [], ◌∷◌, ◌++◌, refl, sym, ap, ◌∙◌, arith, subst, length, get_or}
 use Rattle.std.proofs.Common.{append_assoc, append-nil}
 use Rattle.std.specs.Prelude.{Option, Some, None, IfSome, IsSomeAnd, All, Contains, is_some, nat_lt}
@@ -51,7 +51,7 @@ first_facts opening k f e = subst (AreFacts opening [] k) (sym e) (record {
     none Present = tt
     none Absent = tt
 
--- ---- what the facts find
+-- ---- what the facts show is a clash
 
 ended_since : (since begun : ℕ) (o : Option (ℕ × Reply)) → until_if behind_all begun o ≤ since → since < behind_all → has_ended since o ≡ true
 ended_since since begun None low bound = absurd (omega (arith, low, bound))
@@ -163,7 +163,7 @@ module _ (opening : List ℕ) (calls : List CallRecord) (key : ℕ) (f : Facts) 
       in_order None = tt
       in_order (Some x) = tt
 
--- ---- where a call ends
+-- ---- a call ends
 
 pub ended_facts : (opening : List ℕ) (calls : List CallRecord) (key : ℕ) (call : StreamCall) (old new : Facts) → AreFacts opening calls key old
     → IsEnded call old new → IsOf calls key (record_of call) → AreFacts opening calls key new
@@ -183,7 +183,7 @@ ended_facts opening calls key call old new facts ended is = record { opened = en
     over Present = subst (AreOverBy calls key Present) (sym ended.until.0) (facts.over Present)
     over Absent = subst (AreOverBy calls key Absent) (sym ended.until.1) (facts.over Absent)
 
--- an end is no begin
+-- an end changes no moment of the facts
 pub end_begins_nothing : (k : Kind) (begun : ℕ) (f : Facts) → begun_by (end_event k begun) f ≡ f
 end_begins_nothing (changes w) begun f = refl
 end_begins_nothing (sees w) begun f = refl
@@ -245,7 +245,7 @@ module _ (threads : ℕ) (opening : List ℕ) (calls : List CallRecord) (s t : S
       → AreKnownBy opening calls s.moment s.states s.failed s.clash → AreKnownBy opening calls t.moment t.states t.failed t.clash
   end_known kept met known = failed_at s.failed t.failed t.clash met kept known
 
--- ---- where a call begins
+-- ---- a call begins
 
 kept_still : (v : Event) (was : Presence) (f : Facts) → kept_of was (begun_by v f) ≡ kept_of was f
 kept_still (begins w u) Present f = refl

@@ -1,4 +1,4 @@
--- An order that explains the calls explains the calls as read, with the replies as read.
+-- An order that explains the calls explains the calls as read, with their replies as read.
 use Rattle.std.proofs.Common.{◌≡◌, ◌≢◌, ℕ, ◌<◌, ◌≤◌, true, List, [], ◌∷◌, ◌++◌, refl, sym, arith, subst, length, get_or, ap, ◌∙◌, map, take, drop}
 use Rattle.std.proofs.Common.{◌+◌, inl, inr, ◌⊎◌, Bool, false}
 use Rattle.std.specs.Prelude.{Option, Some, None, IfSome, IsSomeAnd, ◌==◌, nat_lt, if◌then◌else◌, All, Contains as Has}
@@ -28,9 +28,9 @@ use Rattle.lset_judge.specs.Verdict.{is_plain}
 use Rattle.lset_judge.proofs.EventLemmas.{if_some, for_some, none_or_some}
 use Rattle.lset_judge.specs.Reading.{call_as, reply_as, call_if, end_as, read_as}
 
--- ---- the next call of a history may come next in a stream of the calls before it
+-- ---- the next call of a history can come next in a stream of the calls before it
 
--- the end of an earlier call, that may be none, is neither moment of the call
+-- the end of an earlier call, if there is one, is neither the begin nor the end of the call
 apart_of : (y x : CallRecord) → IsBefore x → IfSome y.ended (λ (d : ℕ × Reply). d.0 ≢ x.begun) → (o : Option (ℕ × Reply)) → y.ended ≡ o
     → (until_if behind_all y.begun o ≢ x.begun)
 apart_of y x before alone None is q = let b = before.0 in omega (arith, b, q)
@@ -45,7 +45,7 @@ free_of : (y x : CallRecord) → (o : Option (ℕ × Reply)) → y.ended ≡ o �
 free_of y x None is h = absurd (subst (λ o. IsSomeAnd o (λ (e : ℕ × Reply). e.0 < x.begun)) is h)
 free_of y x (Some d) is h = let l : d.0 < x.begun = subst (λ o. IsSomeAnd o (λ (e : ℕ × Reply). e.0 < x.begun)) is h in omega (arith, l)
 
--- a call that follows each of those before it, and begins after the moment to which they have come
+-- a call that can follow each earlier call, and begins after the moment of the stream
 pub comes : (calls : List CallRecord) (moment : ℕ) (pending : List Pending) (x : CallRecord) → ArePending calls moment pending → moment < x.begun
     → IfSome x.ended (λ (e : ℕ × Reply). x.begun < e.0) → IsBefore x → IfSome x.ended (λ (e : ℕ × Reply). is_plain x.call e.1 ≡ true)
     → ((n : ℕ) → n < length calls → Follows (call_numbered calls n) x) → MayCome pending moment x
@@ -115,12 +115,12 @@ read_history threads calls history =
           (read_follows (get_or calls i no_call) (get_or calls j no_call) (history.pairs i j no_call low under)));
     }
 
--- so are the first of them
+-- the first calls of such a history are a history, and plain
 pub history_upto : (threads n : ℕ) (calls : List CallRecord) → IsHistory threads calls → IsHistory threads (take n calls)
 history_upto threads n calls history =
     history_front threads (take n calls) (drop n calls) (subst (IsHistory threads) (sym (take-append-drop n calls)) history)
 
--- each of them is plain
+-- each call as read is plain
 plain_as : (c : Call) (r : Reply) → is_plain (call_as c r) (reply_as c r) ≡ true
 plain_as (Add k) Full = refl
 plain_as (Remove k) Full = refl
@@ -135,7 +135,7 @@ read_plain x = of x.call x.ended
     of c None = tt
     of c (Some e) = plain_as c e.1
 
--- ---- so each of them may come in turn
+-- ---- each call as read can come in turn
 
 pub next_may : (threads : ℕ) (opening : List ℕ) (xs : List CallRecord) (i : ℕ) (d : CallRecord) (s : Stream) (x : CallRecord) → IsHistory threads xs
     → i < length xs → x ≡ read_as (get_or xs i d) → IsStreamOf threads opening (map read_as (take i xs)) s
@@ -199,7 +199,7 @@ ceiling_other k (y ∷ ys) e = elim (cases_Bool (nat_lt y k)) [
 abbrev Fits : ℕ → SetState → ℕ → Call → Reply → Type 0
 Fits quota s t c r = (reply_to quota s t (call_as c r) ≡ reply_as c r) × (after_call s t (call_as c r) (reply_as c r) ≡ after_call s t c r)
 
--- what the set replies, as it is read
+-- the replies of the set, as read
 add_fits : (quota : ℕ) (s : SetState) (t : ℕ) (k : Key) (b c : Bool) → has_key k.0 s.keys ≡ b → (count_of s t == quota) ≡ c
     → Fits quota s t (Add k) (reply_to quota s t (Add k))
 add_fits quota s t k true c h f = rw h (rw h refl, refl)

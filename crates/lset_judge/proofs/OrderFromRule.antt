@@ -1,4 +1,4 @@
--- From the rule's success on each key to an order of the calls: what is placed so far, and a call placed next.
+-- If the rule succeeds on each key, some order explains the calls. The proof places the calls one by one.
 use Rattle.std.proofs.Common.{◌≡◌, ◌≢◌, ℕ, zero, suc, ◌<◌, ◌≤◌, ◌⊎◌, List, [], ◌∷◌, ◌++◌, Bool, true, false, inl, inr, refl, sym, ap, ◌∙◌, arith}
 use Rattle.std.proofs.Common.{subst, length, get_or, map}
 use Rattle.std.specs.Prelude.{◌==◌, not, nat_lt, Option, Some, None, is_some, All, AllPairs, Contains, IfSome, IsSomeAnd}
@@ -134,7 +134,7 @@ module _ (threads : ℕ) (calls : List CallRecord) (history : IsHistory threads 
     now = l.now;
   }
 
-  -- A LOOK IS PLACED
+  -- A READ IS PLACED
   pub record Moved (k m : ℕ) (s : State) (o : List Placed) : Type 0 where
     pub order : List Placed
     pub built : Built m order
@@ -173,7 +173,7 @@ module _ (threads : ℕ) (calls : List CallRecord) (history : IsHistory threads 
         ))
   ]
 
-  -- ALL LOOKS of a key that the state fits
+  -- ALL READS of a key that fit its state are placed
   sweepable : (k m n : ℕ) (s : State) (o : List Placed)
       → ((w : Bool) × (key n ≡ k) × (kind (x_ n) ≡ sees w) × ((x_ n).begun ≤ m) × (IsPlaced n o → ⊥) × (same w s.there ≡ true))
       ⊎ ((w : Bool) → key n ≡ k → kind (x_ n) ≡ sees w → (x_ n).begun ≤ m → (IsPlaced n o → ⊥) → same w s.there ≡ false)
@@ -227,7 +227,7 @@ module _ (threads : ℕ) (calls : List CallRecord) (history : IsHistory threads 
         )
       ]
 
-  -- A TURN
+  -- A CHANGE TAKES EFFECT
   list_taken : (w : Bool) (k m u : ℕ) (xs : List ℕ) (o : List Placed) (n : ℕ) (r : Reply) → n < length calls → until last (x_ n) ≡ u
       → OpenList w k m xs o → OpenList w k m (take_out u xs) (o ++ put n r ∷ [])
   list_taken w k m u xs o n r low at_end l = record {
@@ -328,7 +328,7 @@ module _ (threads : ℕ) (calls : List CallRecord) (history : IsHistory threads 
   none_at_zero : (m : ℕ) (v : Event) (g : State) → fits (suc m) v g ≡ false → settled 0 m v (Some g) ≡ None
   none_at_zero m v g f = rw f refl
 
-  -- the rule turns a key, once all looks that its state fits are placed
+  -- the rule changes a key, after all reads that fit its state are placed
   turn_now : (k m : ℕ) (g t : State) (o : List Placed) → turned_if m g (options g) ≡ Some t → Built m o → Link k m g o → Moved k m t o
   turn_now k m g t o is built l = by (options g) refl is
     where
@@ -356,9 +356,9 @@ module _ (threads : ℕ) (calls : List CallRecord) (history : IsHistory threads 
     ]
   ]
 
-  -- EACH KEY at a moment: the event that it meets next, and the state in which it was
+  -- EACH KEY at a moment: its next event, and its state before the event
   module _ (m : ℕ) (v : ℕ → Event) (was : ℕ → State) (live : (k : ℕ) → is_some (stepped m (v k) (Some (was k))) ≡ true) where
-    -- the state is on the way to the one that the event finds
+    -- the rule gets from the state to the one that fits the event
     abbrev Lives : ℕ → State → Type 0
     Lives k s = found m (v k) s ≡ found m (v k) (was k)
 
@@ -410,7 +410,7 @@ module _ (threads : ℕ) (calls : List CallRecord) (history : IsHistory threads 
           ],
         )
 
-    -- a key that no call has finds what it asks, too
+    -- a key without calls fits each event, too
     calm_at_all : (k : ℕ) (o : List Placed) (s : State) → Link k m s o → Lives k s → ((n : ℕ) → n < length calls → key n ≡ k → Calm k o s)
         → fits (suc m) (v k) s ≡ true
     calm_at_all k o s l lives calm = true_from_ne_false (fits (suc m) (v k) s) (λ f. by (options s) refl f)
@@ -527,7 +527,7 @@ module _ (threads : ℕ) (calls : List CallRecord) (history : IsHistory threads 
       lists true = list_past true k m v s.puts o e built (l.lists true)
       lists false = list_past false k m v s.takes o e built (l.lists false)
 
-  -- a call that ends at the next moment has its place, where its key finds what the event asks
+  -- a call that ends at the next moment is placed, if the state of its key fits the event
   ended_placed : (k m : ℕ) (s : State) (o : List Placed) → Link k m s o → fits (suc m) (ev k (suc m)) s ≡ true
       → Swept (length calls) k m s o → (n : ℕ) (e : ℕ × Reply) → n < length calls → key n ≡ k → (x_ n).ended ≡ Some e → e.0 ≡ suc m
       → (IsPlaced n o → ⊥) → ⊥
@@ -651,7 +651,7 @@ module _ (threads : ℕ) (calls : List CallRecord) (history : IsHistory threads 
         let all = meet last (λ k. leaves (left k)) was live first.0 first.1 (λ k. (first.2 k).1) in
         (all.order, all.built, λ k. let a = all.each k in a.1.there ∙ same_is (left k) a.0.there a.2)
 
-  -- an order in which each ended call has its place linearizes
+  -- an order in which each ended call is placed linearizes the history
   contains_placed : (n : ℕ) (r : Reply) (ps : List Placed) → All (λ (p : Placed). p.call ≡ n → p.reply ≡ r) ps → IsPlaced n ps
       → Contains ps (put n r)
   contains_placed n r [] h i = absurd i

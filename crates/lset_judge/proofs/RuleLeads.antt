@@ -1,4 +1,4 @@
--- The rule falls behind no right timeline: what it has left to turn is never less, nor ends earlier, than what a timeline has left.
+-- The rule is never behind a right timeline: it never has fewer pending changes than a timeline, and they never end earlier.
 use Rattle.std.proofs.Common.{◌≡◌, ℕ, suc, ◌+◌, ◌<◌, ◌≤◌, List, [], ◌∷◌, true, inl, inr, refl, arith, length, zero, sym, ap, ◌⊎◌, Bool, false, ◌∙◌, subst}
 use Rattle.std.specs.Prelude.{◌==◌, nat_lt, if◌then◌else◌, Option, Some, None, is_some, not}
 use Rattle.std.proofs.lemmas.Bool.{cases_Bool, true≢false, not-true, not-false, or_cases, or_parts}
@@ -8,7 +8,7 @@ use Rattle.lset_words.proofs.Numbers.{same_number, below_or_not, if_below, if_no
 use Rattle.lset_judge.specs.Rule.{not_before, put_in, take_out, nearest, Event, State, settled, begins, ends, looks, leaves, same, changes_to, options, fits}
 use Rattle.lset_judge.specs.Rule.{entering, enters, turned_by, turned_if, open_changes, opened}
 
--- ---- how many moments of a list are not before one, where one of them is taken out
+-- ---- how many moments of a list are at or after a moment, without one moment of the list
 
 -- one number, counted or not
 abbrev pub counts : ℕ → ℕ → ℕ
@@ -34,7 +34,7 @@ pub at_most_all : (d : ℕ) (xs : List ℕ) → not_before d xs ≤ length xs
 at_most_all d [] = omega arith
 at_most_all d (x ∷ xs) = let e = counts_most d x in let rest = at_most_all d xs in omega (arith, e, rest)
 
--- one more
+-- one more moment
 pub counted_in : (d e : ℕ) (xs : List ℕ) → not_before d (put_in e xs) ≡ counts d e + not_before d xs
 counted_in d e [] = refl
 counted_in d e (x ∷ xs) = elim (cases_Bool (nat_lt e x)) [
@@ -47,7 +47,7 @@ length_in e xs =
     let a = counted_in 0 e xs in let b = all_from_zero (put_in e xs) in let c = all_from_zero xs in let o = counts_one 0 e (omega arith) in
     omega (arith, a, b, c, o)
 
--- one is taken out
+-- without one moment
 pub taken : (d e : ℕ) (xs : List ℕ) → has_key e xs ≡ true → not_before d xs ≡ not_before d (take_out e xs) + counts d e
 taken d e [] h = grind arith
 taken d e (x ∷ xs) h = elim (cases_Bool (x == e)) [
@@ -60,7 +60,7 @@ taken_length e xs h =
     let a = taken 0 e xs h in let b = all_from_zero xs in let c = all_from_zero (take_out e xs) in
     let o = counts_one 0 e (omega arith) in omega (arith, a, b, c, o)
 
--- the nearest
+-- the nearest moment
 pub nearest_stands : (x : ℕ) (xs : List ℕ) → has_key (nearest x xs) (x ∷ xs) ≡ true
 nearest_stands x [] = grind (arith, nat_tests)
 nearest_stands x (y ∷ ys) = let rest = nearest_stands y ys in grind (arith, nat_tests)
@@ -71,7 +71,7 @@ none_nearer d x (y ∷ ys) l =
     let o = counts_one d x (omega (arith, l)) in
     let rest = none_nearer d y ys (omega (arith, l)) in omega (arith, o, rest)
 
--- A list that has no fewer late moments than another, and is longer, still has no fewer where it loses its nearest.
+-- A list that has no fewer late moments than another list, and is longer, still has no fewer without its nearest moment.
 pub still_no_fewer : (ss : List ℕ) (x : ℕ) (xs : List ℕ) → ((d : ℕ) → not_before d ss ≤ not_before d (x ∷ xs))
     → length ss < length (x ∷ xs) → (d : ℕ) → not_before d ss ≤ not_before d (take_out (nearest x xs) (x ∷ xs))
 still_no_fewer ss x xs less longer d =
@@ -83,7 +83,7 @@ still_no_fewer ss x xs less longer d =
           omega (arith, t, o, all, most, longer))
     ]
 
--- ---- where the rule has failed, it stays so
+-- ---- after the rule has failed, it stays failed
 
 pub settled_none : (n m : ℕ) (v : Event) → settled n m v None ≡ None
 settled_none zero m v = refl
@@ -102,7 +102,7 @@ once b = if b then 1 else 0
 abbrev pub at : Bool → ℕ → List ℕ → List ℕ → State
 at b t ps ks = record { there = b; turned = t; puts = ps; takes = ks }
 
--- the timeline has fewer left of the changes by which the rule's key can turn
+-- the timeline has fewer pending changes of the kind that can change the rule's key
 abbrev pub IsFurther : State → State → Type 0
 IsFurther g s = length (changes_to (not g.there) s) < length (options g)
 
@@ -122,7 +122,7 @@ fewer ss gs h = let a = h 0 in let b = all_from_zero ss in let c = all_from_zero
 less_taken : (e : ℕ) (ss gs : List ℕ) → has_key e ss ≡ true → NoFewer ss gs → NoFewer (take_out e ss) gs
 less_taken e ss gs h f d = let t = taken d e ss h in let a = f d in omega (arith, t, a)
 
--- A TURN OF THE TIMELINE
+-- A CHANGE OF THE TIMELINE
 pub timeline_turns : (b c : Bool) (m gt st e : ℕ) (gp gk sp sk : List ℕ) → Leads m (at b gt gp gk) (at c st sp sk)
     → has_key e (options (at c st sp sk)) ≡ true → Leads m (at b gt gp gk) (turned_by m e (at c st sp sk))
 timeline_turns b true m gt st e gp gk sp sk l h =
@@ -156,7 +156,7 @@ timeline_turns b false m gt st e gp gk sp sk l h =
     further true y = let f = fewer sp gp (l.lists true) in omega (arith, y, f)
     further false y = let t = taken_length e sp h in let f = fewer sp gp (l.lists true) in omega (arith, t, f)
 
--- A TURN OF THE RULE, where the timeline is further
+-- A CHANGE OF THE RULE, if the timeline is further
 pub record Turns (m : ℕ) (g s : State) : Type 0 where
   pub state : State
   pub is : turned_if m g (options g) ≡ Some state
@@ -188,7 +188,7 @@ rule_turns false m t (x ∷ xs) gk s l f =
     lists false = l.lists false
 rule_turns b m t gp gk s l f = absurd (omega (arith, f))
 
--- WHERE THE EVENT FINDS IN THE TIMELINE'S STATE WHAT IT ASKS, and not in the rule's, the timeline is further.
+-- IF THE TIMELINE'S STATE FITS THE EVENT, and the rule's state does not, the timeline is further.
 apart : (b c : Bool) (m gt st : ℕ) (gp gk sp sk : List ℕ) → Leads m (at b gt gp gk) (at c st sp sk) → (b ≡ c → ⊥)
     → IsFurther (at b gt gp gk) (at c st sp sk)
 apart true false m gt st gp gk sp sk l n = let y = l.balance in let f = fewer sp gp (l.lists true) in omega (arith, y, f)
@@ -260,7 +260,7 @@ more w (begins u end) ss gs h = elim (cases_Bool (same w u)) [
 ]
 more w v ss gs h = h
 
--- what begins is one more in both
+-- a change that begins is one more in both
 alike : (w : Bool) (v : Event) (ss gs : List ℕ) → length (entering w v gs) + length ss ≡ length (entering w v ss) + length gs
 alike w (begins u end) ss gs = elim (cases_Bool (same w u)) [
   | inl t ↦ rw t (let a = length_in end ss in let b = length_in end gs in omega (arith, a, b))

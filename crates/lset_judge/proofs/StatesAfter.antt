@@ -14,7 +14,7 @@ idle_step m None = refl
 idle_step m (Some s) = ap (entered idle) (at_once (open_changes s) m idle s refl)
 
 module _ (ev : ℕ → Event) (b : Bool) where
-  -- moments at which nothing happens
+  -- moments without an event
   pub quiet_until : (d m n : ℕ) → m + d ≡ n → ((j : ℕ) → m < j → j ≤ n → ev j ≡ idle) → state_after ev b n ≡ state_after ev b m
   quiet_until zero m n e q = let f : n ≡ m = omega arith in ap (state_after ev b) f
   quiet_until (suc d) m zero e q = absurd (omega (arith, e))
@@ -28,7 +28,7 @@ same_after ev other b (suc m) same =
     ap (λ (v : Event). stepped m v (state_after ev b m)) (same (suc m) (omega arith))
     ∙ ap (stepped m (other (suc m))) (same_after ev other b m (λ j l. same j (omega (arith, l))))
 
--- a key of which nothing happens is left as it was
+-- a key without events keeps its state
 pub idle_key : (ev : ℕ → Event) (was left : Bool) (last : ℕ) → ((m : ℕ) → 0 < m → ev m ≡ idle) → may_leave ev was left last ≡ same left was
 idle_key ev was left last quiet =
     ap (λ (o : Option State). is_some (stepped last (leaves left) o)) (quiet_until ev was last 0 last (omega arith) (λ j l h. quiet j l)) ∙ as_was left was
@@ -39,22 +39,22 @@ idle_key ev was left last quiet =
     as_was false true = refl
     as_was false false = refl
 
--- a key of which the same happens is left the same way
+-- keys with the same events get the same states
 pub left_alike : (ev other : ℕ → Event) (b left : Bool) (last : ℕ) → ((j : ℕ) → j ≤ last → ev j ≡ other j)
     → may_leave ev b left last ≡ may_leave other b left last
 left_alike ev other b left last same = ap (λ (o : Option State). is_some (stepped last (leaves left) o)) (same_after ev other b last same)
 
--- ---- THE CALLS OF A KEY, with a moment behind all moments
+-- ---- the calls of a key, with a moment after all moments
 
 module _ (calls : List CallRecord) (T : ℕ) (behind : latest_moment calls ≤ T) (k : ℕ) (opens : Bool) where
   abbrev event : ℕ → Event
   event = event_at T k calls
 
-  -- a moment that is not before theirs finds the key as it stays
+  -- after the last moment of the calls the state of the key stays the same
   pub stays_after : (G : ℕ) → latest_moment calls ≤ G → G ≤ T → state_after event opens T ≡ state_after event opens G
   stays_after G low high = quiet_until event opens (T - G) G T (omega (arith, high)) (λ j l m. event_idle k j T calls (omega (arith, low, l)))
 
-  -- where the rule has failed, it fails
+  -- after the rule has failed, it stays failed
   pub failed_by : (left : Bool) (m : ℕ) → state_after event opens m ≡ None → may_leave event opens left T ≡ false
   failed_by left m none = ap (λ (o : Option State). is_some (stepped T (leaves left) o)) (elim (below_or_not T m) [
     | inr low ↦ still (T - m) T (omega (arith, low))

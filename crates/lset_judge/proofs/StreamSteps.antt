@@ -1,4 +1,4 @@
--- The calls of a stream: what happens up to the next pending end, at it, and at the next begin.
+-- The events of a stream's calls up to the next pending end, at this end, and at the next begin.
 use Rattle.std.proofs.Common.{◌≡◌, ◌≢◌, ℕ, suc, ◌+◌, ◌-◌, ◌<◌, ◌≤◌, List, [], ◌∷◌, ◌++◌, refl, sym, ap, ◌∙◌, arith, subst}
 use Rattle.std.proofs.Common.{◌⊎◌, Bool, zero, inl, inr, length, get_or}
 use Rattle.std.specs.Prelude.{◌==◌, if◌then◌else◌, Option, Some, None, IfSome, All, AllPairs, Contains}
@@ -35,7 +35,7 @@ until_end last begun o e s = ap (until_if last begun) s
 
 -- ---- one more call
 
--- what happens before it begins
+-- the events before the begin of the call
 pub event_before : (last k j : ℕ) (xs : List CallRecord) (x : CallRecord) → j < x.begun → IfSome x.ended (λ (e : ℕ × Reply). x.begun < e.0)
     → event_at last k (xs ++ x ∷ []) j ≡ event_at last k xs j
 event_before last k j [] x low later = passed_over last k j x [] (λ t. (
@@ -45,7 +45,7 @@ event_before last k j [] x low later = passed_over last k j x [] (λ t. (
 ))
 event_before last k j (y ∷ ys) x low later = one_before last k j y (ys ++ x ∷ []) ys (event_before last k j ys x low later)
 
--- and where it begins
+-- the event at the begin of the call
 pub event_begun : (last k : ℕ) (xs : List CallRecord) (x : CallRecord)
     → AllByRecursion (λ (y : CallRecord). (y.begun ≢ x.begun) × IfSome y.ended (λ (e : ℕ × Reply). e.0 ≢ x.begun)) xs
     → event_at last k (xs ++ x ∷ []) x.begun
@@ -57,7 +57,7 @@ event_begun last k [] x a = elim (cases_Bool ((key_of x.call).0 == k)) [
 event_begun last k (y ∷ ys) x a =
     passed_over last k x.begun y (ys ++ x ∷ []) (λ t. (unequal_test y.begun x.begun a.0.0, ends_not x.begun y.ended a.0.1)) ∙ event_begun last k ys x a.1
 
--- ---- the rule goes on by the event of a moment
+-- ---- the rule meets the event of a moment
 
 module _ (opening : List ℕ) (calls : List CallRecord) where
   abbrev event : ℕ → ℕ → Event
@@ -103,7 +103,7 @@ module _ (opening : List ℕ) (calls : List CallRecord) where
     goes_to j e before after was failed met so = subst (λ (i : ℕ). IsJudgedTo opening calls i after failed) (sym e)
         (goes before after was failed (subst (λ (i : ℕ). IsMetBy before key i v after was failed) e met) so)
 
--- ---- the ends of pending calls in another order, and of one more
+-- ---- the ends of pending calls in another order, and with one more call
 
 abbrev same : Pending → Pending → Bool
 same p q = p.end == q.end
@@ -134,14 +134,14 @@ module _ (threads : ℕ) (calls : List CallRecord) (history : IsHistory threads 
   abbrev call : ℕ → CallRecord
   call n = get_or calls n no_call
 
-  -- a call that ends after the moment is among them
+  -- a call that ends after the moment is pending
   among : (n : ℕ) (e : ℕ × Reply) → n < length calls → (call n).ended ≡ Some e → m < e.0 → Contains pending (pending_of (call n))
   among n e low s later = elim (are.kept n low) [
     | inl over ↦ absurd (let u = over.2 in let same = ap (λ (d : ℕ × Reply). d.0) (same_some (call n).ended e over.0 s over.1) in omega (arith, u, same, later))
     | inr c ↦ c
   ]
 
-  -- nothing happens before the next of their ends
+  -- there is no event before the next end of a pending call
   pub quiet_before : (j : ℕ) → m < j → All (λ (p : Pending). j < p.end) pending → (k : ℕ) → event_at behind_all k calls j ≡ idle
   quiet_before j low far k = by (event_at behind_all k calls j) (told behind_all k j calls)
     where
@@ -157,7 +157,7 @@ module _ (threads : ℕ) (calls : List CallRecord) (history : IsHistory threads 
           let u : d.end ≡ e.end.0 = until_end behind_all (call e.number).begun (call e.number).ended e.end e.ended in
           omega (arith, f, g, u, a))
 
-  -- one that ends before the moment behind all has an end
+  -- a pending call whose end is a moment has an end
   ended_at : (n : ℕ) → n < length calls → (pending_of (call n)).end < behind_all → (e : ℕ × Reply) × ((call n).ended ≡ Some e) × (e.0 ≡ (pending_of (call n)).end)
   ended_at n low early = elim (none_or_some (call n).ended) [
     | inl e ↦ absurd (let u : (pending_of (call n)).end ≡ behind_all + (call n).begun = ap (until_if behind_all (call n).begun) e in omega (arith, u, early))
@@ -180,7 +180,7 @@ module _ (threads : ℕ) (calls : List CallRecord) (history : IsHistory threads 
     end_of : (e : ℕ × Reply) × ((call number).ended ≡ Some e) × (e.0 ≡ (pending_of (call number)).end)
     end_of = let u = ap (λ (p : Pending). p.end) is_next in ended_at number of_number (omega (arith, u, early))
 
-    -- at an equal end there is no other
+    -- no other pending call has the same end
     same_place : (c : ℕ) (d : Pending) → c < length pending → (get_or pending c d).end ≡ next.end → get_or pending c d ≡ next
     same_place c d inside e =
         let here : get_or pending c d ≡ get_or pending c no_pending = get_or_default pending c d no_pending inside in
@@ -227,7 +227,7 @@ module _ (threads : ℕ) (calls : List CallRecord) (history : IsHistory threads 
       all_apart : AllPairs (λ (p q : Pending). p.end ≢ q.end) (next ∷ rest)
       all_apart = ends_moved pending (next ∷ rest) is are.apart
 
-      -- without the next one they are those after its end
+      -- without the next call, the pending calls are those after its end
       pub without_next : ArePending calls next.end rest
       without_next = record {
         known = rest_of (λ (p : Pending). (n : ℕ) × (n < length calls) × (p ≡ pending_of (call_numbered calls n))) are.known;
@@ -248,7 +248,7 @@ module _ (threads : ℕ) (calls : List CallRecord) (history : IsHistory threads 
             omega (arith, up, differs);
       }
 
--- a call that may come still may, when some of the pending calls have ended
+-- a call that can come next still can after some pending calls have ended
 pub may_still : (old new : List Pending) (m n : ℕ) (x : CallRecord) → MayCome old m x → All (Contains old) new → n < x.begun → MayCome new n x
 may_still old new m n x may some begins = record {
   begins = begins;

@@ -1,4 +1,4 @@
--- From an order of calls that explains a history, to a right timeline of each key.
+-- If an order explains a history, each key has a right timeline.
 use Rattle.std.proofs.Common.{◌≡◌, ◌≢◌, ℕ, zero, suc, ◌+◌, ◌<◌, ◌≤◌, List, [], ◌∷◌, Bool, true, false, inl, inr, refl, sym, ap, ◌∙◌, arith}
 use Rattle.std.proofs.Common.{subst, length, get_or, map}
 use Rattle.std.specs.Prelude.{◌==◌, if◌then◌else◌, Option, Some, None, All, AllPairs, Contains, IfSome, IsSomeAnd}
@@ -27,7 +27,7 @@ use Rattle.lset_judge.proofs.EventLemmas.{kind, until, begun_below, end_below, B
 use Rattle.lset_history.proofs.Keys.{has_with, has_with_other, has_without, has_without_other}
 use Rattle.lset_judge.proofs.TimelineOfKey.{In, Act, act, suits, becomes, TakeTurns, Apart, IsAct, AreEvents, Lists, Ready, succeeds, one_of}
 
--- ---- what an answered call does to a key
+-- ---- the effect of a call with its reply on a key
 
 abbrev pub does : ℕ → Call → Reply → Kind
 does k c r = if (key_of c).0 == k then kind_of c r else nothing
@@ -170,7 +170,7 @@ module _ (threads : ℕ) (calls : List CallRecord) (history : IsHistory threads 
     abbrev act_of : Placed → Act
     act_of p = act (x_ p.call).begun (until last (x_ p.call)) (does k (x_ p.call).call p.reply)
 
-    -- what the events tell
+    -- the events of the key
     pub begins_told : (v : Event) (m : ℕ) (w : Bool) (u : ℕ) → v ≡ begins w u → Told last k m calls v
         → (b : Begins last k m calls v) × (kind (x_ b.number) ≡ changes w) × (until last (x_ b.number) ≡ u)
     begins_told v m w u e (of_nothing f) = absurd (let g : begins w u ≡ idle = sym e ∙ f in cc)
@@ -262,7 +262,7 @@ module _ (threads : ℕ) (calls : List CallRecord) (history : IsHistory threads 
         (one.0, subst (λ b. TakeTurns left b (map act_of ps)) one.1 (turns_map quota left ps next l.1 e))
 
     module _ (quota : ℕ) (start : SetState) (order : List Placed) (l : Linearizes quota start calls order) where
-      -- an ended call stands with its reply alone
+      -- a call that ended has one place, with its reply
       same_reply : (i : ℕ) (d : Placed) (e : ℕ × Reply) → i < length order → (x_ (get_or order i d).call).ended ≡ Some e
           → (get_or order i d).reply ≡ e.1
       same_reply i d e low s =
@@ -356,7 +356,7 @@ module _ (threads : ℕ) (calls : List CallRecord) (history : IsHistory threads 
             once = tt;
           })
 
--- THE RULE SUCCEEDS on each key where an order explains the history.
+-- THE RULE SUCCEEDS on each key if an order explains the history.
 pub rule_refutes : (last : ℕ) (h : HistoryValue) (keys : List ℕ) (order : List Placed) → latest_moment h.calls ≤ last
     → IsHistory h.opening.threads h.calls → Explains h order keys → RulePasses last h keys
 rule_refutes last h keys order upto history e k =

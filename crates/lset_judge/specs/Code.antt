@@ -1,4 +1,4 @@
--- What the code keeps of the state of a key, and what it says of a moment.
+-- The code's key state and event, as the state and event of the rule.
 use Rattle.lset_words.specs.Effects.{is_there}
 use Rattle.lset_judge.specs.declared.rule.KeyState.{KeyState}
 use Rattle.lset_judge.specs.declared.event.Event.{Event as MomentEvent}

@@ -1,4 +1,4 @@
--- A COUNT: calls of a key between which the key has to turn back more often than it could.
+-- A COUNT: calls of a key between which the key must change back more often than it can.
 use Rattle.std.specs.Prelude.{◌≡◌, ℕ, ◌+◌, ◌-◌, ◌<◌, ◌≤◌, ◌==◌, ◌⊎◌, ◌&&◌, not, nat_lt, Bool, true, List, length, filter, Option, Some, None, All, AllPairs, IfSome}
 use Rattle.lset_words.specs.declared.Reply.{Reply}
 use Rattle.lset_words.specs.declared.history.CallRecord.{CallRecord}
@@ -14,8 +14,9 @@ use Rattle.lset_judge.specs.Events.{kind_if}
 use Rattle.lset_judge.specs.Rest.{has_ended, turns_to}
 use Rattle.lset_judge.specs.Clash.{records, other, leaves_if, needs_if, IsOf}
 
--- The stretch of time of a count is from a moment on, or from before all calls: then the key was so at first, which counts like a call.
--- It is up to a moment, or to the end: then the key is left otherwise, which counts like a call.
+-- A count has a stretch of time. It begins at the moment `since`, or before all calls if `since` is None: then the key is in the state `was` at
+-- first, which counts like a call. It ends at the moment `until`, or after all calls if `until` is None: then the final state is the other
+-- state, which counts like a call.
 abbrev pub also : Option ℕ → ℕ
 also None = 1
 also (Some moment) = 0
@@ -28,24 +29,24 @@ abbrev pub LeftOtherwise : Option Presence → Presence → Option ℕ → Type 
 LeftOtherwise left was None = left ≡ Some (other was)
 LeftOtherwise left was (Some until) = Unit {0}
 
--- the call begins no earlier; if the key was so before all calls, the call needs it otherwise
+-- the call begins in the stretch. If the stretch begins before all calls, the call needs the other state
 abbrev pub BeginsIn : Presence → Option ℕ → CallRecord → Type 0
 BeginsIn was None x = needs_if x.call x.ended ≡ Some (other was)
 BeginsIn was (Some since) x = since ≤ x.begun
 
--- the call ended no later; if the key is left otherwise, the call leaves it so
+-- the call has ended in the stretch. If the stretch ends after all calls, the call leaves the key in the state `was`
 abbrev pub EndsIn : Presence → Option ℕ → CallRecord → Type 0
 EndsIn was None x = leaves_if x.call x.ended ≡ Some was
 EndsIn was (Some until) x = has_ended until x.ended ≡ true
 
--- whichever of the two calls comes first leaves the key so, and the other needs it otherwise: between them the key has to turn back
+-- The key must change back between two calls: the call that comes first leaves the key in the state `was`, and the other needs the other state.
 pub record NeedTurn (was : Presence) (x y : CallRecord) : Type 0 where
   pub later : x.begun < y.begun
   pub leaves : leaves_if x.call x.ended ≡ Some was
   pub needs : needs_if y.call y.ended ≡ Some (other was)
   pub either : Precedes x y ⊎ ((leaves_if y.call y.ended ≡ Some was) × (needs_if x.call x.ended ≡ Some (other was)))
 
--- a change of the key that could turn it so in the stretch: it answered true, or is pending, and overlaps the stretch
+-- whether a call can change the key to the state `there` in the stretch: it returned true or is pending, and overlaps the stretch
 abbrev pub begins_by : ℕ → Option ℕ → Bool
 begins_by begun None = true
 begins_by begun (Some until) = nat_lt begun until
@@ -61,12 +62,12 @@ turns_in key there since until x =
 abbrev pub turning_in : ℕ → Presence → Option ℕ → Option ℕ → List CallRecord → List CallRecord
 turning_in key there since until calls = filter (turns_in key there since until) calls
 
--- how often the key has to turn back
+-- how often the key must change back
 abbrev pub turns_of : ℕ → Option ℕ → Option ℕ → ℕ
 turns_of counted since until = counted + also since + also until - 1
 
--- THE COUNT of some calls of a key that lie in a stretch: between each two of them, and before the first if the key was so at first, and after
--- the last if it is left otherwise, the key has to turn back; and fewer changes could turn it back in the stretch
+-- A COUNT of calls of a key in a stretch. The key must change back between each two of them. Also before the first call if the stretch begins
+-- before all calls, and after the last call if the stretch ends after all calls. Fewer calls can change it back in the stretch.
 pub record IsCountOf (calls : List CallRecord) (key : ℕ) (there : Presence) (left : Option Presence) (was : Presence) (since until : Option ℕ)
     (counted : List CallRecord) : Type 0 where
   pub known : All (IsOf calls key) counted
@@ -77,13 +78,13 @@ pub record IsCountOf (calls : List CallRecord) (key : ℕ) (there : Presence) (l
   pub turns : AllPairs (NeedTurn was) counted
   pub fewer : length (turning_in key (other was) since until calls) < turns_of (length counted) since until
 
--- no order explains a history of such calls, whatever all its other calls did, and leaves the keys so
+-- If calls of a history are a count, no order explains the history and leaves these keys, whatever all other calls did.
 abbrev pub CountsExcludeOrders : Type 0
 CountsExcludeOrders = (h : HistoryValue) (keys : List ℕ) (key : ℕ) (there : Presence) (left : Option Presence) (was : Presence)
     (since until : Option ℕ) (counted : List CallRecord) → IsHistory h.opening.threads h.calls → has_key key h.opening.keys ≡ is_there there
     → IfSome left (λ (l : Presence). has_key key keys ≡ is_there l) → IsCountOf h.calls key there left was since until counted → IsUnexplained h keys
 
--- of a count as it is told: its calls, and all changes that could turn the key back
+-- A returned count is a count, and `backs` are all calls that can change the key back in the stretch.
 pub record IsCount (calls : List CallRecord) (there : Presence) (left : Option Presence) (c : Count) : Type 0 where
   pub count : IsCountOf calls c.key.0 there left c.was c.since c.until (records c.calls.items)
   pub backs : records c.backs.items ≡ turning_in c.key.0 (other c.was) c.since c.until calls

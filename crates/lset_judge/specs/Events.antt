@@ -1,4 +1,4 @@
--- What a history tells of one key: the events of the key at its moments.
+-- The events of one key at the moments of a history.
 use Rattle.std.specs.Prelude.{◌≡◌, ℕ, ◌+◌, ◌==◌, Bool, true, false, if◌then◌else◌, List, [], ◌∷◌, Option, Some, None}
 use Rattle.lset_words.specs.declared.Call.{Call}
 use Rattle.lset_words.specs.declared.Call.TheVariants.{Add, Remove}
@@ -12,7 +12,7 @@ use Rattle.lset_words.specs.Words.{key_of}
 use Rattle.lset_history.specs.History.{HistoryValue}
 use Rattle.lset_judge.specs.Rule.{Event, begins, ends, looks, idle, may_leave}
 
--- WHAT A CALL DOES to its key: it turns it, to there or not there; it sees it there or not there; or nothing is told
+-- THE KIND OF A CALL: it changes its key to present (`true`) or absent, it sees the key present or absent, or nothing is known of the key
 pub data Kind : Type 0 where
   changes : Bool → Kind
   sees : Bool → Kind
@@ -26,7 +26,7 @@ kind_as Other = nothing
 abbrev pub kind_of : Call → Reply → Kind
 kind_of c r = kind_as (effect_of c r)
 
--- an open call may still turn the key; and no look is asked of it
+-- a pending call can change its key, and saw nothing
 abbrev pub open_kind : Call → Kind
 open_kind (Add k) = changes true
 open_kind (Remove k) = changes false
@@ -36,7 +36,7 @@ abbrev pub kind_if : Call → Option (ℕ × Reply) → Kind
 kind_if c None = open_kind c
 kind_if c (Some e) = kind_of c e.1
 
--- before which moment a call turns the key: its end; of an open call one behind all moments, by the moment at which it began
+-- The moment before which a call changes its key: its end. A pending call gets a moment after all moments, a different one for each begin.
 abbrev pub until_if : ℕ → ℕ → Option (ℕ × Reply) → ℕ
 until_if last begun None = last + begun
 until_if last begun (Some e) = e.0
@@ -64,10 +64,10 @@ event_at last k (x ∷ xs) m =
     else (if ends_at m x.ended then end_event (kind_if x.call x.ended) x.begun else event_at last k xs m)
     ) else event_at last k xs m
 
--- THE RULE, for a key of a history and of the keys left; where the moments end
+-- THE RULE SUCCEEDS on a key of a history with its final state. `last` is the last moment
 abbrev pub rule_explains : ℕ → HistoryValue → List ℕ → ℕ → Bool
 rule_explains last h keys k = may_leave (event_at last k h.calls) (has_key k h.opening.keys) (has_key k keys) last
 
--- THE RULE FAILS ON NO KEY
+-- THE RULE SUCCEEDS ON EACH KEY
 abbrev pub RulePasses : ℕ → HistoryValue → List ℕ → Type 0
 RulePasses last h keys = (k : ℕ) → rule_explains last h keys k ≡ true

@@ -1,4 +1,4 @@
--- WHAT IS KEPT OF THE CALLS OF A KEY to find two of them that clash.
+-- The facts about the calls of a key from which a clash is found.
 use Rattle.std.specs.Prelude.{◌≡◌, ◌≢◌, ℕ, ◌<◌, ◌≤◌, ◌⊎◌, max, if◌then◌else◌, true, List, ◌++◌, All, Option, Some, None, IfSome, IsSomeAnd}
 use Rattle.std.specs.Bool.{nat_eq}
 use Rattle.std.specs.HashMap.{get}
@@ -23,12 +23,12 @@ use Rattle.lset_judge.specs.Rest.{turns_to}
 use Rattle.lset_judge.specs.Stream.{States, behind_all, record_of, IsStreamOf}
 use Rattle.lset_judge.specs.Clash.{record_if, other, leaves_if, needs_if, since_of, WasSo, IsClash}
 
--- a call that leaves the key so
+-- the stored call that leaves the key in a state
 abbrev pub kept_of : Presence → Facts → Option StreamCall
 kept_of Present f = f.present
 kept_of Absent f = f.absent
 
--- the moment by which the changes of the key to a state have ended
+-- the moment by which all changes of the key to a state have ended
 abbrev pub until_of : Presence → Facts → ℕ
 until_of Present f = f.puts_until
 until_of Absent f = f.takes_until
@@ -43,7 +43,7 @@ facts_or (Some s) = s.facts
 abbrev pub facts_for : States → ℕ → Facts
 facts_for states k = facts_or (get nat_eq states k)
 
--- a change of the key begins
+-- the facts after an event of the key
 abbrev pub begun_by : Event → Facts → Facts
 begun_by (begins w end) f = record {
   opened = f.opened;
@@ -57,59 +57,60 @@ begun_by (looks w since) f = f
 begun_by (leaves w) f = f
 begun_by idle f = f
 
--- a call of the key ends
+-- the facts change from `old` to `new` when a call of the key ends
 pub record IsEnded (call : StreamCall) (old new : Facts) : Type 0 where
   pub opened : new.opened ≡ old.opened
   pub present : (new.present ≡ old.present) ⊎ ((new.present ≡ Some call) × (leaves_if call.call call.ended ≡ Some Present))
   pub absent : (new.absent ≡ old.absent) ⊎ ((new.absent ≡ Some call) × (leaves_if call.call call.ended ≡ Some Absent))
   pub until : (new.puts_until ≡ old.puts_until) × (new.takes_until ≡ old.takes_until)
 
--- ---- WHAT IS SO OF THEM
+-- ---- the meaning of the facts
 
--- each change of the key to a state that has begun has ended by a moment
+-- each change of the key to a state has ended by a moment
 abbrev pub AreOverBy : List CallRecord → ℕ → Presence → ℕ → Type 0
 AreOverBy calls key there moment = All (λ (x : CallRecord). (key_of x.call).0 ≡ key → turns_to there (kind_if x.call x.ended) ≡ true
     → until_if behind_all x.begun x.ended ≤ moment) calls
 
--- the facts about the calls of the key: how it was at first; calls that leave it so; and by when the changes have ended
+-- THE FACTS ARE RIGHT for the calls of a key: its state at first, a call that leaves it in each state, and when its changes have ended
 pub record AreFacts (opening : List ℕ) (calls : List CallRecord) (key : ℕ) (f : Facts) : Type 0 where
   pub opened : f.opened ≡ presence (has_key key opening)
   pub kept : (was : Presence) → IfSome (kept_of was f) (λ (x : StreamCall). WasSo calls key f.opened was (Some (record_of x)))
   pub over : (there : Presence) → AreOverBy calls key there (until_of there f)
 
--- a clash of the calls of a key, whatever calls begin after a moment
+-- a clash of the calls of a key, whichever calls begin after a moment
 abbrev pub IsClashBy : List ℕ → List CallRecord → ℕ → ℕ → Clash → Type 0
 IsClashBy opening calls moment key c = (later : List CallRecord) → All (λ (z : CallRecord). moment < z.begun) later
     → IsClash (calls ++ later) key (presence (has_key key opening)) None c.was (record_if c.first) (record_if c.second)
 
--- the facts about each key; or of the key on which the rule has failed the facts, until a clash is found
+-- The facts about each key are right. After the rule has failed on a key, only the facts about this key are right, until a clash is found.
+-- Then the clash is one of this key.
 abbrev pub AreKnownBy : List ℕ → List CallRecord → ℕ → States → Option Failed → Option Clash → Type 0
 AreKnownBy opening calls moment states None clash = (k : ℕ) → AreFacts opening calls k (facts_for states k)
 AreKnownBy opening calls moment states (Some f) None = AreFacts opening calls f.key.0 (facts_for states f.key.0)
 AreKnownBy opening calls moment states (Some f) (Some c) = IsClashBy opening calls moment f.key.0 c
 
--- THE CALLS OF THE STREAM so far are these, and of each key the facts are kept that find a clash
+-- THE STREAM HAS JUDGED these calls, and its facts are right
 pub record IsStreamKept (threads : ℕ) (opening : List ℕ) (calls : List CallRecord) (s : Stream) : Type 0 where
   pub stream : IsStreamOf threads opening calls s
   pub known : AreKnownBy opening calls s.moment s.states s.failed s.clash
 
--- ---- what the functions on the way say
+-- ---- words of single contracts
 
--- a call that leaves the key so; or the key was so at first
+-- the stored call leaves the key in the state `was`; without a call, the key has this state at first
 abbrev pub IsFirst : Facts → Presence → Option StreamCall → Type 0
 IsFirst f was None = f.opened ≡ was
 IsFirst f was (Some x) = kept_of was f ≡ Some x
 
--- and no change of it has been pending since
+-- no call that can change the key to the other state has been pending since the begin of this call
 pub record IsStanding (f : Facts) (was : Presence) (first : Option StreamCall) : Type 0 where
   pub is : IsFirst f was first
   pub since : until_of (other was) f ≤ since_of (record_if first)
 
--- a call ends no later than another one
+-- both calls have ended, the first no later than the second
 abbrev pub EndsBy : Option (ℕ × Reply) → Option (ℕ × Reply) → Type 0
 EndsBy first second = IsSomeAnd first (λ (d : ℕ × Reply). IsSomeAnd second (λ (e : ℕ × Reply). d.0 ≤ e.0))
 
--- two calls that overlap clash in the other order too
+-- two calls clash in the other order too
 pub record ClashTurned (f : Facts) (x y : StreamCall) : Type 0 where
   pub apart : x.begun ≢ y.begun
   pub left : Presence
@@ -122,20 +123,20 @@ abbrev pub ComesAfter : Facts → Option StreamCall → StreamCall → Type 0
 ComesAfter f None second = Unit {0}
 ComesAfter f (Some x) second = Precedes (record_of x) (record_of second) ⊎ ClashTurned f x second
 
--- a clash of a call
+-- a clash whose second call is `call`
 pub record IsFound (f : Facts) (call : StreamCall) (c : Clash) : Type 0 where
   pub second : c.second ≡ Some call
   pub needs : needs_if call.call call.ended ≡ Some (other c.was)
   pub standing : IsStanding f c.was c.first
   pub order : ComesAfter f c.first call
 
--- a clash of a final state
+-- a clash with the final state of the key
 pub record IsFoundLeft (f : Facts) (left : Presence) (c : Clash) : Type 0 where
   pub second : c.second ≡ None
   pub is_other : left ≡ other c.was
   pub standing : IsStanding f c.was c.first
 
--- a call begins, of which the facts are kept
+-- the facts after the begin of a call
 abbrev pub BeginIsKnown : States → ℕ → Event → States → Option Failed → Option Clash → Type 0
 BeginIsKnown before key event after None clash = (facts_for after key ≡ begun_by event (facts_for before key))
     × ((k : ℕ) → k ≢ key → facts_for after k ≡ facts_for before k)
@@ -143,7 +144,7 @@ BeginIsKnown before key event after (Some f) None = (facts_for after f.key.0 ≡
     ⊎ ((facts_for after f.key.0 ≡ facts_for before f.key.0) × (f.key.0 ≢ key))
 BeginIsKnown before key event after (Some f) (Some c) = Unit {0}
 
--- a call ends, of which the facts are kept, with a clash if one is found
+-- the facts after the end of a call, and the clash of this call if one is found
 pub record EndIsKept (before : States) (call : StreamCall) (after : States) (clash : Option Clash) : Type 0 where
   pub facts : IsEnded call (facts_for before (key_of call.call).0) (facts_for after (key_of call.call).0)
   pub found : IfSome clash (IsFound (facts_for before (key_of call.call).0) call)
@@ -159,7 +160,7 @@ abbrev pub clash_met : Option Failed → Option Clash → Option Clash
 clash_met None clash = None
 clash_met (Some f) clash = clash
 
--- a clash of the calls of the stream, of the key of a refusal
+-- a clash of the stream's calls of the key of a refusal
 abbrev pub ClashesStream : List ℕ → Refusal → Option Presence → Stream → Clash → Type 0
 ClashesStream opening refusal left s c = (threads : ℕ) (calls : List CallRecord) → IsStreamKept threads opening calls s
     → IsClash calls refusal.key.0 (presence (has_key refusal.key.0 opening)) left c.was (record_if c.first) (record_if c.second)

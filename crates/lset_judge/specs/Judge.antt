@@ -1,4 +1,4 @@
--- WHAT THE JUDGE KEEPS, and what its answer says.
+-- The state of the judge, and the meaning of its verdict.
 use Rattle.std.specs.Prelude.{ℕ, List, Option, Some, None, IfSome}
 use Rattle.lset_words.specs.declared.effect.Presence.{Presence}
 use Rattle.lset_words.specs.Effects.{presence}
@@ -6,30 +6,30 @@ use Rattle.lset_words.specs.SequentialSet.{has_key}
 use Rattle.lset_words.specs.declared.history.CallRecord.{CallRecord}
 use Rattle.lset_judge.specs.declared.stream.StreamVerdict.TheVariants.{Linearizable, NotLinearizable}
 use Rattle.lset_judge.specs.Stream.{stream_history, IsStreamVerdict, IsStreamVerdictCutOff}
-use Rattle.lset_judge.specs.declared.judging.Verdict.{Verdict}
-use Rattle.lset_judge.specs.declared.judging.Verdict.TheVariants as verdict
-use Rattle.lset_judge.specs.declared.judging.Judge.{Judge}
+use Rattle.lset_judge.specs.declared.set_judge.Verdict.{Verdict}
+use Rattle.lset_judge.specs.declared.set_judge.Verdict.TheVariants as verdict
+use Rattle.lset_judge.specs.declared.set_judge.Judge.{Judge}
 use Rattle.lset_judge.specs.declared.clash.Clash.{Clash}
 use Rattle.lset_judge.specs.Clash.{record_if, IsClash}
 use Rattle.lset_judge.specs.Facts.{IsStreamKept}
 
--- THE CALLS OF THE JUDGE so far are these, of a set that opens with these keys
+-- THE JUDGE HAS JUDGED these calls, of a set that opens with these keys
 abbrev pub IsJudgeOf : ℕ → List ℕ → List CallRecord → Judge → Type 0
 IsJudgeOf threads opening calls j = IsStreamKept threads opening calls j.stream
 
--- ---- WHAT THE ANSWER SAYS
+-- ---- the verdict
 
--- how the key of a refusal is left, if that is what has no order
+-- the final presence of the key of a refusal, if the refusal is about the final keys
 abbrev pub left_by : List ℕ → ℕ → Option ℕ → Option Presence
 left_by keys key (Some moment) = None
 left_by keys key None = Some (presence (has_key key keys))
 
--- two calls of the recording and of the key clash; one of them may be how the key was at first, or how it is left
+-- two calls of a key clash, or a call clashes with the opening or the final state of the key
 abbrev pub ClashesIn : List ℕ → List CallRecord → ℕ → Option Presence → Clash → Type 0
 ClashesIn opening calls key left c =
     IsClash calls key (presence (has_key key opening)) left c.was (record_if c.first) (record_if c.second)
 
--- the answer is that of the stream; and a clash is one of the refusal's key, and of how the key is left, if that is what has no order
+-- THE VERDICT is right. A clash is one of the refusal's key. It is about the final state of the key if the refusal is.
 abbrev pub IsVerdict : ℕ → List ℕ → List CallRecord → List ℕ → Verdict → Type 0
 IsVerdict threads opening calls keys verdict.Linearizable = IsStreamVerdict (stream_history threads opening calls) keys Linearizable
 IsVerdict threads opening calls keys (verdict.NotLinearizable refusal clash) =

@@ -1,12 +1,12 @@
--- How a key may be left.
+-- The final states that a key can have.
 use Rattle.std.specs.Prelude.{ℕ, ◌||◌, Bool, true, false, List, [], ◌∷◌}
 use Rattle.lset_judge.specs.Rule.{State, same, options}
 
--- whether there is one
+-- whether the list has an item
 abbrev pub has_any : List ℕ → Bool
 has_any [] = false
 has_any (x ∷ xs) = true
 
--- whether a key may be left there, or not there: it is so, or turns once more
+-- whether the key can have a final state: it has the state, or a pending change can take effect
 abbrev pub may_be_left : Bool → State → Bool
 may_be_left there s = same there s.there || has_any (options s)

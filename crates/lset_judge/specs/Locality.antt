@@ -1,4 +1,4 @@
--- A recording in parts by its keys: each key goes to one part, and each part has the calls of its keys.
+-- The parts of a recording: each key belongs to one part, and a part has the calls of its keys.
 use Rattle.std.specs.Prelude.{◌↔◌, ℕ, ◌<◌, ◌==◌, List, filter}
 use Rattle.std.specs.List.Sorted.{IsStrictlyIncreasing}
 use Rattle.lset_words.specs.declared.history.CallRecord.{CallRecord}
@@ -7,29 +7,29 @@ use Rattle.lset_words.specs.Words.{key_of}
 use Rattle.lset_history.specs.History.{HistoryValue}
 use Rattle.lset_judge.specs.Verdict.{IsExplained, IsJudged}
 
--- the keys of a part, where `part` is the number of the part to which a key goes
+-- the keys of part `i`: `part` returns the number of a key's part
 abbrev pub keys_in : (ℕ → ℕ) → ℕ → List ℕ → List ℕ
 keys_in part i keys = filter (λ (k : ℕ). part k == i) keys
 
--- the calls of those keys
+-- the calls of the keys of part `i`
 abbrev pub calls_in : (ℕ → ℕ) → ℕ → List CallRecord → List CallRecord
 calls_in part i calls = filter (λ (x : CallRecord). part (key_of x.call).0 == i) calls
 
--- the part of a history: it opens with those of the opening keys
+-- part `i` of a history: its calls and its opening keys
 abbrev pub part_of : (ℕ → ℕ) → ℕ → HistoryValue → HistoryValue
 part_of part i h = record {
   opening = record { threads = h.opening.threads; quota = h.opening.quota; keys = keys_in part i h.opening.keys };
   calls = calls_in part i h.calls;
 }
 
--- LOCALITY: some order explains a history and the keys left exactly if, of each part, some order explains its calls and its keys.
+-- LOCALITY: some order explains a history and its final keys exactly if some order explains each part and its final keys.
 abbrev pub KeysAreApart : Type 0
 KeysAreApart = (h : HistoryValue) (keys : List ℕ) (part : ℕ → ℕ) (parts : ℕ)
     → IsHistory h.opening.threads h.calls → IsStrictlyIncreasing h.opening.keys → IsStrictlyIncreasing keys → IsJudged h
     → ((key : ℕ) → part key < parts)
     → IsExplained h keys ↔ ((i : ℕ) → i < parts → IsExplained (part_of part i h) (keys_in part i keys))
 
--- A JUDGED HISTORY HAS NO NEED OF ITS QUOTA: if some order explains it under another quota, some order does under its own.
+-- A JUDGED HISTORY NEEDS NO QUOTA: if some order explains it under another quota, some order explains it under its own.
 abbrev pub QuotasDoNotMatter : Type 0
 QuotasDoNotMatter = (h : HistoryValue) (keys : List ℕ) (quota : ℕ)
     → IsHistory h.opening.threads h.calls → IsStrictlyIncreasing h.opening.keys → IsStrictlyIncreasing keys → IsJudged h

@@ -1,5 +1,6 @@
--- CALLS READ AS PLAIN ONES: a `ceiling` that answered a key saw this key there; one that found none, and an `add` that answered full, saw their
--- own key absent. Each of these calls tells more than that; so if no order explains the calls as read, none explains the calls.
+-- CALLS READ AS PLAIN CALLS. A `ceiling` that returned a key is read as a `contains` of this key that returned true. A `ceiling` that found no
+-- key, and an `add` that returned full, are read as a `contains` of their own key that returned false. A plain call says less than the call it
+-- replaces. So if no order explains the calls as read, no order explains the calls.
 use Rattle.std.specs.Prelude.{ℕ, List, map, Option, Some, None}
 use Rattle.lset_words.specs.declared.Call.{Call}
 use Rattle.lset_words.specs.declared.Call.TheVariants.{Add, Contains, Ceiling}
@@ -8,9 +9,9 @@ use Rattle.lset_words.specs.declared.Reply.TheVariants.{True, False, Full, At}
 use Rattle.lset_words.specs.declared.history.CallRecord.{CallRecord}
 use Rattle.lset_history.specs.History.{HistoryValue}
 use Rattle.lset_judge.specs.Verdict.{IsPlain, IsExplained, IsUnexplained, with_quota, without_quota}
-use Rattle.lset_judge.specs.declared.judging.Verdict.TheVariants as verdict
-use Rattle.lset_judge.specs.declared.history.Judged.{Judged}
-use Rattle.lset_judge.specs.declared.history.Judged.TheVariants as judged
+use Rattle.lset_judge.specs.declared.set_judge.Verdict.TheVariants as verdict
+use Rattle.lset_judge.specs.declared.judged_history.Judged.{Judged}
+use Rattle.lset_judge.specs.declared.judged_history.Judged.TheVariants as judged
 use Rattle.lset_judge.specs.Judge.{IsVerdict}
 
 abbrev pub call_as : Call → Reply → Call
@@ -35,12 +36,12 @@ end_as c (Some e) = Some (e.0, reply_as c e.1)
 abbrev pub read_as : CallRecord → CallRecord
 read_as x = record { thread = x.thread; call = call_if x.call x.ended; begun = x.begun; ended = end_as x.call x.ended }
 
--- THE VERDICT on a history, of a set without a quota: some order explains it and leaves the keys; none does, under any quota, with the answer
--- on the calls as read; or it is not one of which each ended call answered true or false, and none is a `ceiling`, and some order explains the
--- calls as read
+-- THE VERDICT on a history is right. Linearizable: some order explains it without a quota and leaves the keys. NotLinearizable: no order does,
+-- under any quota, and the refusal is that of the calls as read. Undecided: a call that ended is a `ceiling` or returned neither true nor
+-- false, and some order explains the calls as read.
 abbrev pub IsJudged : HistoryValue → List ℕ → Judged → Type 0
 IsJudged h keys judged.Linearizable = IsExplained (without_quota h) keys
-IsJudged h keys (judged.NotLinearizable refusal window) = ((quota : ℕ) → IsUnexplained (with_quota quota h) keys)
-    × IsVerdict h.opening.threads h.opening.keys (map read_as h.calls) keys (verdict.NotLinearizable refusal window)
+IsJudged h keys (judged.NotLinearizable refusal clash) = ((quota : ℕ) → IsUnexplained (with_quota quota h) keys)
+    × IsVerdict h.opening.threads h.opening.keys (map read_as h.calls) keys (verdict.NotLinearizable refusal clash)
 IsJudged h keys judged.Undecided = (IsPlain h.calls → ⊥)
     × IsVerdict h.opening.threads h.opening.keys (map read_as h.calls) keys verdict.Linearizable

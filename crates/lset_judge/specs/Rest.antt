@@ -1,4 +1,4 @@
--- The calls of a key: which of them turn it, and a history of them alone.
+-- The calls of one key: which of them can change it, and a history of these calls alone.
 use Rattle.std.specs.Prelude.{ℕ, nat_le, if◌then◌else◌, Bool, false, List, [], ◌∷◌}
 use Rattle.std.specs.Prelude.{Option, Some, None}
 use Rattle.lset_words.specs.declared.Reply.{Reply}
@@ -9,7 +9,7 @@ use Rattle.lset_history.specs.History.{HistoryValue}
 use Rattle.lset_judge.specs.Events.{Kind, changes, sees, nothing}
 use Rattle.lset_judge.specs.Rule.{same}
 
--- a change that turns its key so
+-- whether a call changes its key to the state `there`
 abbrev pub turns_to : Presence → Kind → Bool
 turns_to there (changes w) = same w (is_there there)
 turns_to there (sees w) = false
@@ -19,11 +19,11 @@ abbrev pub has_ended : ℕ → Option (ℕ × Reply) → Bool
 has_ended moment None = false
 has_ended moment (Some e) = nat_le e.0 moment
 
--- the key, if it is there
+-- the list of the key, if it is present
 abbrev pub key_if : Bool → ℕ → List ℕ
 key_if there key = if there then key ∷ [] else []
 
--- calls of a key alone, of a set that opens with the key, or without it
+-- the history of one key's calls; the set opens with the key if it is present at first
 abbrev pub alone : ℕ → ℕ → Bool → ℕ → List CallRecord → HistoryValue
 alone threads quota there key calls = record {
   opening = record { threads = threads; quota = quota; keys = key_if there key };

@@ -1,9 +1,9 @@
--- The rule of the judge, on the calls of one key: what happens at each moment, and which pending change takes effect.
+-- The rule of the judge for the calls of one key: the event at each moment, and which pending change takes effect.
 use Rattle.std.specs.Prelude.{ℕ, zero, suc, ◌+◌, ◌==◌, ◌||◌, min, nat_lt, Bool, true, false, not, if◌then◌else◌, List, [], ◌∷◌}
 use Rattle.std.specs.Prelude.{length, Option, Some, None, is_some}
 
--- WHAT HAPPENS AT A MOMENT: a change begins, to there (`true`) or to not there, and the moment at which it ends; such a change ends;
--- a look ends, what it saw and the moment at which it began; the key is left there or not; or nothing of the key.
+-- THE EVENT OF A KEY AT A MOMENT. `true` means present. A change begins: the state to which it changes the key, and the moment at which it
+-- ends. A change ends. A read ends: the state it saw, and when it began. The final state of the key. No event of the key.
 pub data Event : Type 0 where
   begins : Bool → ℕ → Event
   ends : Bool → Event
@@ -11,15 +11,15 @@ pub data Event : Type 0 where
   leaves : Bool → Event
   idle : Event
 
--- THE STATE of the key: whether it is there, the moment of the last turn, and the ends of the changes that have begun and may still
--- turn it, to there and to not there
+-- THE STATE of a key: whether it is present, the moment of its last change, and the ends of the pending changes that have not taken effect:
+-- `puts` of those that add the key, `takes` of those that remove it
 pub record State : Type 0 where
   pub there : Bool
   pub turned : ℕ
   pub puts : List ℕ
   pub takes : List ℕ
 
--- before all moments
+-- the state before all moments
 abbrev pub opened : Bool → State
 opened b = record { there = b; turned = 0; puts = []; takes = [] }
 
@@ -30,17 +30,17 @@ same false b = not b
 abbrev pub changes_to : Bool → State → List ℕ
 changes_to w s = if w then s.puts else s.takes
 
--- the changes by which the key can turn now
+-- the ends of the changes that can take effect now
 abbrev pub options : State → List ℕ
 options s = changes_to (not s.there) s
 
--- how many of these moments are not before one
+-- how many of these moments are at a moment or after it
 abbrev pub not_before : ℕ → List ℕ → ℕ
 not_before d [] = 0
 not_before d (x ∷ xs) = (if nat_lt x d then 0 else 1) + not_before d xs
 
--- What is asked of the state at a moment: no change that ends by now has yet to turn; the state was seen since the look began, as it
--- is now, or as the key has turned since, and so was in both; the key is left as it is.
+-- Whether the state fits the event of a moment. If a change ends, each change of its kind that ends by now has taken effect. If a read
+-- ends, the key has the state that was seen, or has changed since the read began, and so was in both states. The final state is the state.
 abbrev pub fits : ℕ → Event → State → Bool
 fits m (begins w end) s = true
 fits m (ends w) s = not_before (suc m) (changes_to w s) == length (changes_to w s)
@@ -48,12 +48,12 @@ fits m (looks w since) s = same w s.there || not (nat_lt s.turned since)
 fits m (leaves w) s = same w s.there
 fits m idle s = true
 
--- one more moment in its place
+-- adds a moment to increasing moments
 abbrev pub put_in : ℕ → List ℕ → List ℕ
 put_in e [] = e ∷ []
 put_in e (x ∷ xs) = if nat_lt e x then e ∷ x ∷ xs else x ∷ put_in e xs
 
--- the changes to there, or to not there, where one may begin
+-- the pending changes to a state after an event
 abbrev pub entering : Bool → Event → List ℕ → List ℕ
 entering w (begins v end) xs = if same w v then put_in end xs else xs
 entering w (ends v) xs = xs
@@ -68,7 +68,7 @@ abbrev pub take_out : ℕ → List ℕ → List ℕ
 take_out e [] = []
 take_out e (x ∷ xs) = if x == e then xs else x ∷ take_out e xs
 
--- the key turns by the change with that end, after the event of a moment
+-- the state after the change with the end `e` has taken effect, after the event of the moment `m`
 abbrev pub turned_by : ℕ → ℕ → State → State
 turned_by m e s = record {
   there = not s.there;
@@ -77,7 +77,7 @@ turned_by m e s = record {
   takes = if s.there then take_out e s.takes else s.takes;
 }
 
--- THE RULE: nothing turns before an event asks for it; then turns that change whose end is nearest.
+-- THE RULE: a change takes effect only when an event needs it. Then the change whose end is nearest takes effect.
 abbrev pub nearest : ℕ → List ℕ → ℕ
 nearest x [] = x
 nearest x (y ∷ ys) = min x (nearest y ys)
@@ -86,7 +86,7 @@ abbrev pub turned_if : ℕ → State → List ℕ → Option State
 turned_if m s [] = None
 turned_if m s (x ∷ xs) = Some (turned_by m (nearest x xs) s)
 
--- the state that the event finds, by so many turns at most
+-- the state that fits the event, after at most `n` changes
 abbrev pub settled : ℕ → ℕ → Event → Option State → Option State
 settled n m v None = None
 settled zero m v (Some s) = if fits (suc m) v s then Some s else None
@@ -102,16 +102,16 @@ abbrev pub entered : Event → Option State → Option State
 entered v None = None
 entered v (Some t) = Some (enters v t)
 
--- what happens at the moment after one, to the state up to it; none if the rule has failed
+-- the state after the event of the moment after `m`. None if the rule has failed
 abbrev pub stepped : ℕ → Event → Option State → Option State
 stepped m v None = None
 stepped m v (Some s) = entered v (found m v s)
 
--- the state after a moment
+-- the state after a moment, None if the rule has failed by then
 abbrev pub state_after : (ℕ → Event) → Bool → ℕ → Option State
 state_after ev opening zero = Some (opened opening)
 state_after ev opening (suc m) = stepped m (ev (suc m)) (state_after ev opening m)
 
--- whether the key may be left so after a moment
+-- whether the key can have the final state `left` after a moment
 abbrev pub may_leave : (ℕ → Event) → Bool → Bool → ℕ → Bool
 may_leave ev opening left last = is_some (stepped last (leaves left) (state_after ev opening last))

@@ -1,4 +1,4 @@
--- A STREAM OF CALLS, judged as they come: what is kept of the calls so far, and what the verdict says of them.
+-- A stream of calls, judged call by call: its state, and the meaning of its verdict.
 use Rattle.std.specs.Prelude.{◌≡◌, ◌≢◌, ℕ, ◌<◌, ◌≤◌, ◌^◌, ◌⊎◌, true, false, List, length, Option, Some, None, All}
 use Rattle.std.specs.Prelude.{AllPairs, Contains, IfSome, ◌-◌}
 use Rattle.std.specs.List.Sorted.{IsStrictlyIncreasing}
@@ -24,32 +24,32 @@ use Rattle.lset_judge.specs.Code.{state_of}
 use Rattle.lset_judge.specs.Events.{kind_if, until_if, end_event, event_at}
 use Rattle.lset_judge.specs.Verdict.{IsPlain, IsExplained, IsUnexplained, IsRefusedBy, is_plain, with_quota}
 
--- a call of a stream as one of a history
+-- a call of a stream as a call of a history
 abbrev pub record_of : StreamCall → CallRecord
 record_of x = record { thread = x.thread; call = x.call; begun = x.begun; ended = x.ended }
 
--- and back
+-- a call of a history as a call of a stream
 abbrev pub call_of : CallRecord → StreamCall
 call_of x = record { thread = x.thread; call = x.call; begun = x.begun; ended = x.ended }
 
--- the calls of a stream, of a set without a quota
+-- the history of a stream's calls, of a set without a quota
 abbrev pub stream_history : ℕ → List ℕ → List CallRecord → HistoryValue
 stream_history threads opening calls = record {
   opening = record { threads = threads; quota = length calls; keys = opening };
   calls = calls;
 }
 
--- ---- what is kept
+-- ---- the state of a stream
 
--- the moment behind all moments
+-- the first number after all moments
 abbrev pub behind_all : ℕ
 behind_all = 2 ^ 63
 
--- the states of the keys
+-- the states of the keys, by the keys
 abbrev pub States : Type 0
 States = HashMap ℕ KeyState (BuildHasherDefault FoldHasher)
 
--- of a key without a state, the key is not there
+-- a key without a state is absent
 abbrev pub state_or : Option KeyState → State
 state_or None = opened false
 state_or (Some s) = state_of s
@@ -57,7 +57,7 @@ state_or (Some s) = state_of s
 abbrev pub state_for : States → ℕ → State
 state_for states k = state_or (get nat_eq states k)
 
--- of a call that has not ended
+-- the call as a pending call
 abbrev pub pending_of : CallRecord → Pending
 pending_of x = record {
   end = until_if behind_all x.begun x.ended;
@@ -67,7 +67,7 @@ pending_of x = record {
 abbrev pub key_in : Pending → ℕ
 key_in p = (key_of p.call.call).0
 
--- what its end is to its key
+-- the event of the call's end
 abbrev pub event_of : Pending → Event
 event_of p = end_event (kind_if p.call.call p.call.ended) p.call.begun
 
@@ -75,26 +75,25 @@ event_of p = end_event (kind_if p.call.call p.call.ended) p.call.begun
 abbrev pub IsOver : ℕ → CallRecord → Type 0
 IsOver moment x = (end : ℕ × Reply) × (x.ended ≡ Some end) × (end.0 ≤ moment)
 
--- its moments are before the moment behind all
+-- the moments of the call are moments
 abbrev pub IsBefore : CallRecord → Type 0
 IsBefore x = (x.begun < behind_all) × IfSome x.ended (λ (end : ℕ × Reply). end.0 < behind_all)
 
--- the pending calls up to a moment
+-- THE PENDING CALLS after a moment are right: they are the calls that have not ended by then, and no two have the same end
 pub record ArePending (calls : List CallRecord) (moment : ℕ) (pending : List Pending) : Type 0 where
   pub known : All (λ (p : Pending). (n : ℕ) × (n < length calls) × (p ≡ pending_of (call_numbered calls n))) pending
   pub kept : (n : ℕ) → n < length calls → IsOver moment (call_numbered calls n) ⊎ Contains pending (pending_of (call_numbered calls n))
   pub apart : AllPairs (λ (p q : Pending). p.end ≢ q.end) pending
   pub later : All (λ (p : Pending). moment < p.end) pending
 
--- the state of each key after a moment, or a key and a moment by which the rule has failed on it
+-- the states of the keys after a moment are those of the rule; if the rule has failed, it has failed on the key at the moment of `f`
 abbrev pub IsJudgedTo : List ℕ → List CallRecord → ℕ → States → Option Failed → Type 0
 IsJudgedTo opening calls moment states None =
     (k : ℕ) → state_after (event_at behind_all k calls) (has_key k opening) moment ≡ Some (state_for states k)
 IsJudgedTo opening calls moment states (Some f) = (f.moment ≤ moment)
     × (state_after (event_at behind_all f.key.0 calls) (has_key f.key.0 opening) f.moment ≡ None)
 
--- THE CALLS OF THE STREAM so far are these, of a set that opens with these keys, and this is kept of them: the state of each key after a
--- moment before which they all began, and the calls pending; or a key and a moment by which the rule has failed on it
+-- THE STREAM HAS JUDGED these calls, of a set that opens with these keys. Its moment is at or after the begin of each call.
 pub record IsStreamOf (threads : ℕ) (opening : List ℕ) (calls : List CallRecord) (s : Stream) : Type 0 where
   pub opens : IsStrictlyIncreasing opening
   pub history : IsHistory threads calls
@@ -105,44 +104,45 @@ pub record IsStreamOf (threads : ℕ) (opening : List ℕ) (calls : List CallRec
   pub pending : ArePending calls s.moment s.pending
   pub judged : IsJudgedTo opening calls s.moment s.states s.failed
 
--- what a stream keeps, by words that other crates may say
+-- fields of a stream, for the specs of other crates
 abbrev pub moment_of : Stream → ℕ
 moment_of s = s.moment
 
 abbrev pub pending_in : Stream → List Pending
 pending_in s = s.pending
 
--- ---- WHAT A CALL HAS TO BE to come next
+-- ---- a call can come next
 
 pub record MayCome (pending : List Pending) (moment : ℕ) (x : CallRecord) : Type 0 where
   pub begins : moment < x.begun
   pub ends : IfSome x.ended (λ (end : ℕ × Reply). x.begun < end.0)
   pub before : IsBefore x
   pub plain : IfSome x.ended (λ (end : ℕ × Reply). is_plain x.call end.1 ≡ true)
-  -- no pending call ends at its begin or its end,
+  -- no pending call ends at the begin or the end of the call
   pub apart : All (λ (p : Pending). (p.end ≢ x.begun) × IfSome x.ended (λ (end : ℕ × Reply). p.end ≢ end.0)) pending
-  -- and none of its thread is pending then
+  -- no call of its thread is pending at its begin
   pub free : All (λ (p : Pending). p.call.thread ≡ x.thread → p.end ≤ x.begun) pending
 
--- ---- WHAT THE VERDICT SAYS
+-- ---- the verdict
 
--- some order explains the calls and leaves the keys; or none does under any quota, since those of one key have none
+-- Linearizable: some order explains the calls and leaves the keys. NotLinearizable: no order does, under any quota, because no order explains
+-- the calls of the refusal's key.
 abbrev pub IsStreamVerdict : HistoryValue → List ℕ → StreamVerdict → Type 0
 IsStreamVerdict h keys Linearizable = IsExplained h keys
 IsStreamVerdict h keys (NotLinearizable refusal) =
     ((quota : ℕ) → IsUnexplained (with_quota quota h) keys) × IsRefusedBy h keys refusal.key.0 refusal.moment
 
--- of a recording that was cut off: with some keys left, or whatever keys are left
+-- the verdict on a recording that was cut off: for some final keys, or for all
 abbrev pub IsStreamVerdictCutOff : HistoryValue → StreamVerdict → Type 0
 IsStreamVerdictCutOff h Linearizable = (keys : List ℕ) × IsStreamVerdict h keys Linearizable
 IsStreamVerdictCutOff h (NotLinearizable refusal) = (keys : List ℕ) → IsStreamVerdict h keys (NotLinearizable refusal)
 
--- ---- what the functions on the way say
+-- ---- words of single contracts
 
 abbrev pub no_pending : Pending
 no_pending = record { end = 0; call = call_of no_call }
 
--- what happens of a key at a moment has happened
+-- the states after the event of a key at a moment
 abbrev pub IsMetBy : States → ℕ → ℕ → Event → States → Option Failed → Option Failed → Type 0
 IsMetBy before key moment event after (Some f) failed = failed ≡ Some f
 IsMetBy before key moment event after None None =
@@ -163,7 +163,7 @@ abbrev pub verdict_of_key : Option ℕ → StreamVerdict
 verdict_of_key None = Linearizable
 verdict_of_key (Some k) = NotLinearizable (record { key = record { 0 = k }; moment = None })
 
--- a refusal is that of the rule, if it has failed, and else has no moment
+-- if the rule has failed, the verdict is its failure; otherwise a refusal has no moment
 abbrev pub IsToldBy : Option Failed → StreamVerdict → Type 0
 IsToldBy None Linearizable = Unit {0}
 IsToldBy None (NotLinearizable refusal) = refusal.moment ≡ None

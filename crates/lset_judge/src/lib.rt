@@ -15,22 +15,22 @@ mod count;
 mod ends;
 mod event;
 mod facts;
-mod history;
 mod judged;
-mod judging;
+mod judged_history;
 mod keys;
 mod many;
 mod overlaps;
 mod pending;
 mod rule;
+mod set_judge;
 mod stream;
 mod stretch;
 
 pub use clash::{Clash, clashes_exclude_orders, find_clash};
 pub use count::{Count, counts_exclude_orders, find_count};
-pub use history::{Judged, judge};
 pub use judged::{is_judged, is_plain};
-pub use judging::{Judge, Verdict};
+pub use judged_history::{Judged, judge};
+pub use set_judge::{Judge, Verdict};
 pub use stream::{LAST_MOMENT, Refusal, StreamCall, StreamFault};
 
 /// Locality, a lemma: put each key of a recording into one of several parts, and into each part the calls, the opening keys and the final

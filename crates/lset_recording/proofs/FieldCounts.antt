@@ -1,4 +1,4 @@
--- Which kinds of lines have how many pieces.
+-- How many pieces the lines of each kind have.
 use Rattle.std.proofs.Common.{◌≡◌, ℕ, ◌<◌, ◌&&◌, Bool, true, false, cond, List, [], ◌∷◌, length, Result, Err, refl, ap, ◌∙◌, arith, codes}
 use Rattle.std.specs.Str.{bytes_eq}
 use Rattle.std.proofs.lemmas.Bool.{and_right}
@@ -7,8 +7,8 @@ use Rattle.lset_text.specs.Forms.{Form, have_form}
 use Rattle.lset_text.specs.Kinds.{first_of}
 use Rattle.lset_text.proofs.WordLaws.{same_bytes}
 use Rattle.lset_text.proofs.KindLaws.{first_many}
-use Rattle.lset_recording.specs.declared.lines.Section.{Section}
-use Rattle.lset_recording.specs.declared.lines.Section.TheVariants as section
+use Rattle.lset_recording.specs.declared.recording_lines.Section.{Section}
+use Rattle.lset_recording.specs.declared.recording_lines.Section.TheVariants as section
 use Rattle.lset_text.specs.declared.causes.Cause.TheVariants as wrong
 use Rattle.lset_recording.specs.Reading.{call_kinds, kinds, takes_calls, open_kind, true_kind, false_kind}
 

@@ -1,4 +1,4 @@
--- What is kept goes on from line to line.
+-- The state stays right from line to line.
 use Rattle.std.proofs.Common.{◌≡◌, ℕ, ◌+◌, ◌-◌, ◌<◌, ◌^◌, true, List, [], ◌∷◌, ◌++◌, length, min, Option, Some, None, refl, sym, ap, subst, ◌∙◌}
 use Rattle.std.proofs.Common.{arith}
 use Rattle.std.specs.Prelude.{nat_lt, slice_get}
@@ -8,12 +8,12 @@ use Rattle.std.proofs.lemmas.Option.{slice_get-get_or}
 use Rattle.lset_words.specs.declared.history.CallRecord.{CallRecord}
 use Rattle.lset_text.specs.Openings.{above_last, is_above}
 use Rattle.lset_text.proofs.OpeningLaws.{increases_more}
-use Rattle.lset_judge.specs.declared.judging.Judge.{Judge}
+use Rattle.lset_judge.specs.declared.set_judge.Judge.{Judge}
 use Rattle.lset_judge.specs.Stream.{behind_all}
 use Rattle.lset_recording.specs.declared.kept.Judging.{Judging}
-use Rattle.lset_recording.specs.declared.lines.Line.TheVariants as told
-use Rattle.lset_recording.specs.declared.lines.Section.{Section}
-use Rattle.lset_recording.specs.declared.lines.Section.TheVariants as part
+use Rattle.lset_recording.specs.declared.recording_lines.Line.TheVariants as told
+use Rattle.lset_recording.specs.declared.recording_lines.Section.{Section}
+use Rattle.lset_recording.specs.declared.recording_lines.Section.TheVariants as part
 use Rattle.lset_recording.specs.Texts.{Recording}
 use Rattle.lset_recording.specs.Reading.{SoFar, Comes}
 use Rattle.lset_recording.specs.Kept.{AreKeys, IsFirst, IsJudging, IsKept, IsJudgeKept}
@@ -48,7 +48,7 @@ no_calls : (opening more : List ℕ) (calls : List CallRecord) (o : Option Judge
 no_calls opening more calls None none kept = kept
 no_calls opening more calls (Some s) none kept = absurd cc
 
--- in a text of opening keys alone
+-- a text with opening keys alone
 pub opening_parts : (s : SoFar) (k : ℕ) (j : Judging) → IsJudging s j → Comes s.section (told.Opening k) → k < 2 ^ 32
     → is_above j.opening.items k ≡ true
     → (is_above s.told.opening k ≡ true) × AreKeys (s.told.opening ++ k ∷ [])

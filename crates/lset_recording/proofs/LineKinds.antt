@@ -1,4 +1,4 @@
--- What the kinds of lines make.
+-- The lines of each kind.
 use Rattle.std.proofs.Common.{◌≡◌, subst, ℕ, ◌<◌, ◌≤◌, ◌^◌, Bool, true, false, Result, length, List, [], ◌∷◌, Option, Some, None, Ok, Err, refl, arith, codes, cond}
 use Rattle.std.specs.Prelude.{IfSome, nat_lt}
 use Rattle.std.specs.Fmt.{decimal}
@@ -22,11 +22,11 @@ use Rattle.lset_judge.specs.declared.stream.TheConstants.{LAST_MOMENT}
 use Rattle.lset_judge.specs.Verdict.{is_plain, is_truth}
 use Rattle.lset_judge.specs.Stream.{record_of, behind_all}
 use Rattle.lset_text.specs.declared.causes.Cause.TheVariants as wrong
-use Rattle.lset_recording.specs.declared.lines.Line.{Line}
-use Rattle.lset_recording.specs.declared.lines.Line.TheVariants as told
-use Rattle.lset_recording.specs.declared.lines.Section.{Section}
-use Rattle.lset_recording.specs.declared.lines.Section.TheVariants as section
-use Rattle.lset_recording.specs.declared.lines.TheConstants.{LONGEST_LINE}
+use Rattle.lset_recording.specs.declared.recording_lines.Line.{Line}
+use Rattle.lset_recording.specs.declared.recording_lines.Line.TheVariants as told
+use Rattle.lset_recording.specs.declared.recording_lines.Section.{Section}
+use Rattle.lset_recording.specs.declared.recording_lines.Section.TheVariants as section
+use Rattle.lset_recording.specs.declared.recording_lines.TheConstants.{LONGEST_LINE}
 use Rattle.lset_recording.specs.Texts.{end_pieces, call_pieces, title}
 use Rattle.lset_recording.specs.Reading.{kinds, from_calls, opening_kind, open_kind, true_kind, false_kind, key_kind, end_kind, cut_kind}
 use Rattle.lset_recording.specs.Reading.{Comes, IsFormed, line_told, line_behind_title}
@@ -43,7 +43,7 @@ line_pieces told.Cut = codes "cut" ∷ []
 abbrev pub IsMoment : ℕ → Type 0
 IsMoment m = (1 ≤ m) × (m ≤ LAST_MOMENT)
 
--- what its numbers and words are
+-- the numbers and words of a line
 pub record IsNumbered (x : StreamCall) : Type 0 where
   pub thread : x.thread < 2 ^ 32
   pub key : (key_of x.call).0 < 2 ^ 32
@@ -59,7 +59,7 @@ IsLine (told.Key k) = k < 2 ^ 32
 IsLine told.End = Unit {0}
 IsLine told.Cut = Unit {0}
 
--- ---- what they make
+-- ---- the values of the lines
 
 abbrev call_of : ℕ → Call → ℕ → Option (ℕ × Reply) → StreamCall
 call_of n c b e = record { thread = n; call = c; begun = b; ended = e }

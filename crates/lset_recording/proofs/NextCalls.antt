@@ -1,4 +1,4 @@
--- A call that may follow those so far may come next, and one that came may follow them.
+-- A call that can follow the earlier calls can come next, and a call that came next can follow them.
 use Rattle.std.proofs.Common.{◌≡◌, ℕ, ◌+◌, ◌<◌, ◌≤◌, inl, inr, true, Result, Ok, Err, List, [], ◌∷◌, ◌++◌, length, Option, Some, None, sym, ap, subst}
 use Rattle.std.proofs.Common.{arith, length-append}
 use Rattle.std.specs.Prelude.{IfSome, IfOk}
@@ -8,7 +8,7 @@ use Rattle.lset_words.specs.declared.history.CallRecord.{CallRecord}
 use Rattle.lset_words.specs.History.{MayFollow, no_call}
 use Rattle.lset_history.proofs.CallByCall.{may_follow_at}
 use Rattle.lset_judge.specs.declared.stream.Pending.{Pending}
-use Rattle.lset_judge.specs.declared.judging.Judge.{Judge}
+use Rattle.lset_judge.specs.declared.set_judge.Judge.{Judge}
 use Rattle.lset_judge.specs.Verdict.{is_plain}
 use Rattle.lset_judge.specs.Stream.{IsBefore, ArePending, MayCome, moment_of}
 use Rattle.lset_judge.specs.Judge.{IsJudgeOf}
@@ -16,7 +16,7 @@ use Rattle.lset_judge.proofs.OrderAsRead.{comes}
 use Rattle.lset_recording.specs.Texts.{all_threads}
 use Rattle.lset_recording.specs.Kept.{IsLatest, IsJudgeKept}
 
--- ---- a call that may follow may come
+-- ---- a call that can follow can come next
 
 begun_after : (calls : List CallRecord) (moment : ℕ) → IsLatest calls moment → (x : CallRecord) → MayFollow all_threads calls x → moment < x.begun
 begun_after calls moment (inl none) x follows = let some = follows.call.counted in omega (arith, none, some)
@@ -35,7 +35,7 @@ may_come calls moment pending are latest x before plain follows =
 
 -- ---- the judge of the calls so far
 
--- one more call, to whose begin it has come
+-- one more call; the judge has reached its begin
 pub one_more : (opening : List ℕ) (calls : List CallRecord) (x : CallRecord) (s t : Judge) → IsJudgeKept opening calls (Some s)
     → (x.thread < all_threads → IsJudgeOf all_threads opening calls s → IsJudgeOf all_threads opening (calls ++ x ∷ []) t)
     → x.thread < all_threads → moment_of t.stream ≡ x.begun
@@ -53,7 +53,7 @@ one_more opening calls x s t kept added of_thread at =
         let low = begun_after calls (moment_of s.stream) kept.1 x follows in
         omega (arith, long, so_far, low, at)
 
--- a judge of no calls
+-- a judge without calls
 pub opened : {E : Type 0} (opening : List ℕ) (o : Option Judge) (r : Result Judge E) → o ≡ None
     → IfOk r (λ s. (threads : ℕ) → IsJudgeOf threads opening [] s) → IfOk r (λ s. moment_of s.stream ≡ 0)
     → IfOk r (λ s. (calls : List CallRecord) → IsJudgeKept opening calls o → IsJudgeKept opening calls (Some s))

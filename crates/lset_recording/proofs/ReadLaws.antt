@@ -1,4 +1,4 @@
--- How a text goes on from byte to byte and from line to line.
+-- Reading a text byte by byte and line by line.
 use Rattle.std.proofs.Common.{◌≡◌, ◌≢◌, ℕ, zero, suc, ◌+◌, ◌<◌, ◌≤◌, inl, inr, Bool, true, false, eqb, List, [], ◌∷◌, ◌++◌, length, refl, sym, ap, subst, ◌∙◌}
 use Rattle.std.proofs.Common.{append_assoc, append-nil, arith, length-append, Result, Ok, Err, cond}
 use Rattle.std.specs.Prelude.{◌==◌, IfOk, IfErr, Option, Some, None}
@@ -17,13 +17,13 @@ use Rattle.lset_text.specs.declared.causes.Cause.{Cause}
 use Rattle.lset_text.specs.declared.causes.Cause.TheVariants as wrong
 use Rattle.lset_text.specs.declared.causes.LineFault.{LineFault}
 use Rattle.lset_text.specs.Causes.{fault}
-use Rattle.lset_recording.specs.declared.lines.Line.{Line}
-use Rattle.lset_recording.specs.declared.lines.Line.TheVariants as told
-use Rattle.lset_recording.specs.declared.lines.Section.{Section}
-use Rattle.lset_recording.specs.declared.lines.Section.TheVariants as part
-use Rattle.lset_recording.specs.declared.lines.TheConstants.{LONGEST_LINE}
+use Rattle.lset_recording.specs.declared.recording_lines.Line.{Line}
+use Rattle.lset_recording.specs.declared.recording_lines.Line.TheVariants as told
+use Rattle.lset_recording.specs.declared.recording_lines.Section.{Section}
+use Rattle.lset_recording.specs.declared.recording_lines.Section.TheVariants as part
+use Rattle.lset_recording.specs.declared.recording_lines.TheConstants.{LONGEST_LINE}
 use Rattle.lset_recording.specs.declared.reader.RecordingReader.{RecordingReader}
-use Rattle.lset_recording.specs.declared.judging.RecordingAnswer.{RecordingAnswer}
+use Rattle.lset_recording.specs.declared.recording_judge.RecordingAnswer.{RecordingAnswer}
 use Rattle.lset_recording.specs.Texts.{Recording, title}
 use Rattle.lset_recording.specs.Reading.{SoFar, IsTaken, IsRefused, Reads, Says, cause_if_long, ending, first_line, kinds, line_behind_title, line_told}
 use Rattle.lset_recording.specs.Kept.{IsAnswered, IsJudging, IsHeld, IsLineOf, IsRead, IsRefusedAt, newlines}
@@ -85,7 +85,7 @@ line_of_piece bytes done line more n at =
 
 -- ---- the bytes so far
 
--- where a text stands: what the lines above say is told, and some bytes of the next line are held
+-- the state in a text: what the lines above say, and the stored bytes of the next line
 pub record StandsAt (bytes held : List ℕ) (n : ℕ) (s : SoFar) : Type 0 where
   pub lacks : Lacks 10 held
   pub goes : (more : List ℕ) (read : Result Recording LineFault) → Reads n s (cut_at 10 (held ++ more)) read → Says (bytes ++ more) read
@@ -129,7 +129,7 @@ module _ (bytes held : List ℕ) (n : ℕ) (s : SoFar) (at : StandsAt bytes held
       subst (λ (t : List ℕ). Says t read) (sym (append_assoc bytes (10 ∷ []) more))
       (at.goes (10 ∷ more) read (subst (λ (ps : List (List ℕ)). Reads n s ps read) (sym (line_and held more at.lacks)) h))
 
-  -- a line that is taken
+  -- a line that is accepted
   line_taken : (t : SoFar) → IsTaken s held t → StandsAt (bytes ++ 10 ∷ []) [] (n + 1) t
   line_taken t taken = record {
     lacks = All-nil (λ b. eqb b 10 ≡ false);
@@ -141,7 +141,7 @@ module _ (bytes held : List ℕ) (n : ℕ) (s : SoFar) (at : StandsAt bytes held
         omega (arith, and, one, was);
   }
 
-  -- and one that is refused
+  -- a line that is refused
   pub line_refused : (cause : Cause) → IsRefused s held cause → (more : List ℕ)
       → Says ((bytes ++ 10 ∷ []) ++ more) (Err (fault n cause))
   line_refused cause refused more =
@@ -161,7 +161,7 @@ module _ (bytes held : List ℕ) (n : ℕ) (s : SoFar) (at : StandsAt bytes held
       (subst (λ (ps : List (List ℕ)). Reads n s ps read)
       (sym (ap (cut_at 10) (append-nil held) ∙ slice_split_none (λ b. eqb b 10) held at.lacks)) ends))
 
--- bytes that are kept, and bytes for which there is no room
+-- bytes that are stored, and bytes for which there is no room
 pub held_on : (long : Bool) (held kept new more : List ℕ) → IsHeld held kept long → new ≡ kept ++ more → IsHeld (held ++ more) new long
 held_on true held kept new more is now = omega (arith, is, length-append held more)
 held_on false held kept new more is now = ap (λ (t : List ℕ). t ++ more) is ∙ sym now
@@ -171,7 +171,7 @@ pub held_full : (long : Bool) (held kept more : List ℕ) → IsHeld held kept l
 held_full true held kept more is full = omega (arith, is, length-append held more)
 held_full false held kept more is full = let long = ap length is in omega (arith, long, full, length-append held more)
 
--- ---- a line that lies whole in a piece
+-- ---- a whole line in a piece
 
 pub nothing_held : (bytes : List ℕ) (r : RecordingReader) (is : IsRead bytes r) → r.is_long ≡ false → r.line.items ≡ [] → [] ≡ is.held
 nothing_held bytes r is short none = sym (subst (IsHeld is.held r.line.items) short is.line ∙ none)
@@ -220,7 +220,7 @@ module _ (r : RecordingReader) where
 
 -- ---- the lines of a piece
 
--- a text that has a fault has it whatever comes
+-- a text with an error has this error, whatever bytes come
 pub refused_on : (bytes done line more : List ℕ) (e : LineFault) → IsRefusedAt (bytes ++ done ++ line ++ 10 ∷ []) e
     → IsRefusedAt (bytes ++ (done ++ (line ++ 10 ∷ more))) e
 refused_on bytes done line more e refused other rest =
@@ -229,7 +229,7 @@ refused_on bytes done line more e refused other rest =
     regrouped : (bytes ++ done ++ line ++ 10 ∷ []) ++ (more ++ rest) ≡ (bytes ++ (done ++ (line ++ 10 ∷ more))) ++ rest
     regrouped = simp append_assoc
 
--- ---- after a fault
+-- ---- after an error
 
 pub none_failed : (failed : Option LineFault) (e : LineFault) → failed ≡ None → failed ≡ Some e → ⊥
 none_failed failed e none some = cc

@@ -1,4 +1,4 @@
--- What is read is the text of what it says.
+-- If bytes say a recording, they are its text.
 use Rattle.std.proofs.Common.{◌≡◌, ℕ, ◌+◌, inl, inr, Bool, true, false, cond, List, [], ◌∷◌, ◌++◌, map, Ok, refl, sym, ap, subst, ◌∙◌}
 use Rattle.std.proofs.Common.{append_assoc, append-nil}
 use Rattle.std.proofs.lemmas.List.{map_push}
@@ -6,10 +6,10 @@ use Rattle.lset_text.specs.Parts.{cut_at, line_of}
 use Rattle.lset_text.specs.Openings.{opening_line, opening_lines}
 use Rattle.lset_text.proofs.PartLaws.{text_from_lines}
 use Rattle.lset_judge.specs.Stream.{record_of}
-use Rattle.lset_recording.specs.declared.lines.Line.{Line}
-use Rattle.lset_recording.specs.declared.lines.Line.TheVariants as told
-use Rattle.lset_recording.specs.declared.lines.Section.{Section}
-use Rattle.lset_recording.specs.declared.lines.Section.TheVariants as part
+use Rattle.lset_recording.specs.declared.recording_lines.Line.{Line}
+use Rattle.lset_recording.specs.declared.recording_lines.Line.TheVariants as told
+use Rattle.lset_recording.specs.declared.recording_lines.Section.{Section}
+use Rattle.lset_recording.specs.declared.recording_lines.Section.TheVariants as part
 use Rattle.lset_recording.specs.Texts.{Recording, call_line, key_line, end_line, lines, recording_text, title}
 use Rattle.lset_recording.specs.Reading.{SoFar, Comes, IsTaken, Reads, Says, ending, first_line, is_done, is_title, nothing_told, section_after, with_line, with_told}
 use Rattle.lset_recording.proofs.LineKinds.{line_pieces, line_found_in}
@@ -22,7 +22,7 @@ so_far c = title ∷ opening_lines c.opening ++ map call_line c.calls ++ map key
 abbrev lines_at : SoFar → List (List ℕ)
 lines_at s = cond (is_title s.section) [] (cond (is_done s.section) (lines s.told) (so_far s.told))
 
--- what has not come yet where a section is reached
+-- what has not come yet in a section
 abbrev Reaches : Section → Recording → Type 0
 Reaches part.Title c = (c.opening ≡ []) × (c.calls ≡ []) × (c.keys ≡ []) × (c.cut_off ≡ false)
 Reaches part.Opening c = (c.calls ≡ []) × (c.keys ≡ []) × (c.cut_off ≡ false)
@@ -30,7 +30,7 @@ Reaches part.Calls c = (c.keys ≡ []) × (c.cut_off ≡ false)
 Reaches part.Keys c = c.cut_off ≡ false
 Reaches part.Done c = Unit {0}
 
--- and where a line comes
+-- what has not come yet before a line
 abbrev Finds : Line → Recording → Type 0
 Finds told.Title c = Reaches part.Title c
 Finds (told.Opening k) c = Reaches part.Opening c
@@ -56,7 +56,7 @@ abbrev above : Line → Recording → List (List ℕ)
 above told.Title c = []
 above l c = so_far c
 
--- one more line stands after those above it
+-- one more line after those above it
 more_lines : (c : Recording) (l : Line) → Finds l c
     → lines_at (record { section = section_after l; told = with_line c l }) ≡ above l c ++ line_of (line_pieces l) ∷ []
 more_lines c told.Title next = rw (next.0, next.1, next.2) refl
@@ -107,7 +107,7 @@ lines_above part.Keys c told.Title comes = absurd comes
 lines_above part.Done c l comes = absurd comes
 lines_above s c l comes = refl
 
--- a line that is taken
+-- a line that is accepted
 one_line : (s t : SoFar) (x : List ℕ) → Reaches s.section s.told → IsTaken s x t → Reaches t.section t.told × (lines_at t ≡ lines_at s ++ x ∷ [])
 one_line s t x reached taken =
     let l = taken.0 in

@@ -1,35 +1,35 @@
--- What a reader of a recording keeps of the bytes so far.
+-- The state of a reader after some bytes of a recording.
 use Rattle.std.specs.Prelude.{◌≡◌, ◌≢◌, ℕ, ◌+◌, ◌<◌, ◌≤◌, ◌^◌, ◌⊎◌, Bool, true, false, List, [], ◌++◌, length, Option, Some, None, Contains, ◌==◌, not, count_by}
 use Rattle.std.specs.Prelude.{Result, Err}
 use Rattle.std.specs.List.Sorted.{IsStrictlyIncreasing}
 use Rattle.lset_words.specs.declared.history.CallRecord.{CallRecord}
 use Rattle.lset_text.specs.Parts.{cut_at, Lacks}
 use Rattle.lset_text.specs.Openings.{is_above}
-use Rattle.lset_judge.specs.declared.judging.Judge.{Judge}
+use Rattle.lset_judge.specs.declared.set_judge.Judge.{Judge}
 use Rattle.lset_judge.specs.Judge.{IsJudgeOf}
 use Rattle.lset_judge.specs.Stream.{moment_of}
 use Rattle.lset_text.specs.declared.causes.Cause.TheVariants as wrong
 use Rattle.lset_text.specs.declared.causes.LineFault.{LineFault}
-use Rattle.lset_recording.specs.declared.lines.Section.{Section}
-use Rattle.lset_recording.specs.declared.lines.Section.TheVariants as part
-use Rattle.lset_recording.specs.declared.lines.TheConstants.{LONGEST_LINE}
+use Rattle.lset_recording.specs.declared.recording_lines.Section.{Section}
+use Rattle.lset_recording.specs.declared.recording_lines.Section.TheVariants as part
+use Rattle.lset_recording.specs.declared.recording_lines.TheConstants.{LONGEST_LINE}
 use Rattle.lset_recording.specs.declared.kept.Judging.{Judging}
-use Rattle.lset_recording.specs.declared.judging.RecordingAnswer.{RecordingAnswer}
+use Rattle.lset_recording.specs.declared.recording_judge.RecordingAnswer.{RecordingAnswer}
 use Rattle.lset_recording.specs.declared.reader.RecordingReader.{RecordingReader}
 use Rattle.lset_recording.specs.Texts.{Recording, IsRecording, all_threads}
 use Rattle.lset_recording.specs.Reading.{SoFar, Reads, Says, first_line, is_done, is_title, IsVerdictOnRecording}
 
--- it is the begin of the last call, or 0 if there is none
+-- the moment is the begin of one of the calls, or 0
 abbrev pub IsLatest : List CallRecord → ℕ → Type 0
 IsLatest calls moment = (moment ≡ 0) ⊎ ((x : CallRecord) × Contains calls x × (moment ≡ x.begun))
 
--- the judge of the calls so far, once there is a call
+-- THE JUDGE has judged the calls. There is none before the first call
 abbrev pub IsJudgeKept : List ℕ → List CallRecord → Option Judge → Type 0
 IsJudgeKept opening calls None = calls ≡ []
 IsJudgeKept opening calls (Some j) =
     IsJudgeOf all_threads opening calls j × IsLatest calls (moment_of j.stream) × (length calls ≤ moment_of j.stream)
 
--- keys that increase; there are no more than numbers below the next one, and so few enough to be counted
+-- keys increase. So there are no more keys than numbers below the next key, and their count is a number of the machine
 pub record AreKeys (keys : List ℕ) : Type 0 where
   pub increase : IsStrictlyIncreasing keys
   pub below : (k : ℕ) → is_above keys k ≡ true → length keys ≤ k
@@ -39,11 +39,11 @@ abbrev pub count_if : Bool → ℕ
 count_if true = 1
 count_if false = 0
 
--- how many lines have said so much
+-- how many lines have been read
 abbrev pub lines_of : SoFar → ℕ
 lines_of s = count_if (not (is_title s.section)) + length s.told.opening + length s.told.calls + length s.told.keys + count_if (is_done s.section)
 
--- what the lines so far say is kept
+-- the fields of the state are those of the recording so far
 pub record IsKept (c : Recording) (j : Judging) : Type 0 where
   pub opening : j.opening.items ≡ c.opening
   pub opens : AreKeys c.opening
@@ -53,7 +53,7 @@ pub record IsKept (c : Recording) (j : Judging) : Type 0 where
   pub left : AreKeys c.keys
   pub cut_off : j.cut_off ≡ c.cut_off
 
--- there is no judge before the first line behind the opening keys
+-- there is no judge before the first call
 abbrev pub IsFirst : Section → Option Judge → Type 0
 IsFirst part.Title judge = judge ≡ None
 IsFirst part.Opening judge = judge ≡ None
@@ -61,23 +61,23 @@ IsFirst part.Calls judge = Unit {0}
 IsFirst part.Keys judge = Unit {0}
 IsFirst part.Done judge = Unit {0}
 
--- WHAT IS KEPT OF THE LINES so far
+-- THE STATE AFTER SOME LINES is right
 pub record IsJudging (s : SoFar) (j : Judging) : Type 0 where
   pub kept : IsKept s.told j
   pub section : j.section ≡ s.section
   pub first : IsFirst s.section j.judge
   pub number : j.number ≡ first_line + lines_of s
 
--- the bytes of a line that has not ended are kept, unless there are too many of them
+-- the bytes of a line without its newline are stored, unless there are too many
 abbrev pub IsHeld : List ℕ → List ℕ → Bool → Type 0
 IsHeld held kept false = held ≡ kept
 IsHeld held kept true = LONGEST_LINE < length held
 
--- how many newlines bytes have
+-- the number of newlines in the bytes
 abbrev pub newlines : List ℕ → ℕ
 newlines bytes = count_by (λ (b : ℕ). b == 10) bytes
 
--- WHAT IS KEPT OF THE BYTES so far: whatever comes after them, the whole says what the rest says from here
+-- THE STATE AFTER SOME BYTES is right: with any further bytes, the whole text says what the rest says from this state
 pub record IsRead (bytes : List ℕ) (r : RecordingReader) : Type 0 where
   pub told : SoFar
   pub judging : IsJudging told r.judging
@@ -89,19 +89,19 @@ pub record IsRead (bytes : List ℕ) (r : RecordingReader) : Type 0 where
   pub counted : r.judging.number ≡ first_line + newlines bytes
   pub sound : r.failed ≡ None
 
--- the newline of a line is among the bytes of a piece, which come after others
+-- the newline of the line is among the bytes of a piece, which comes after `bytes`
 abbrev pub IsLineOf : List ℕ → List ℕ → ℕ → Type 0
 IsLineOf bytes piece line = (first_line + newlines bytes ≤ line) × (line < first_line + newlines (bytes ++ piece))
 
--- the reader has returned a fault
+-- the reader has returned an error
 abbrev pub HasFailed : RecordingReader → LineFault → Type 0
 HasFailed r e = r.failed ≡ Some e
 
--- a text that begins so has the fault
+-- each text that begins with these bytes has the error
 abbrev pub IsRefusedAt : List ℕ → LineFault → Type 0
 IsRefusedAt bytes e = e.cause ≢ wrong.Memory → (more : List ℕ) → Says (bytes ++ more) (Err e)
 
--- THE ANSWER on a recording
+-- THE ANSWER on a recording is right
 pub record IsAnswered (c : Recording) (answer : RecordingAnswer) : Type 0 where
   pub recording : IsRecording c
   pub verdict : IsVerdictOnRecording c answer.verdict

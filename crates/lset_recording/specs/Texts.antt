@@ -1,4 +1,4 @@
--- [Recording], as a value, and its text: the calls of a set, in the order of their begins.
+-- [Recording] and its text: the calls of a set, in the order of their begins.
 use Rattle.std.specs.Prelude.{ℕ, ◌^◌, Bool, if◌then◌else◌, List, [], ◌∷◌, ◌++◌, map, codes, Option, Some, None, All}
 use Rattle.std.specs.Fmt.{decimal}
 use Rattle.std.specs.List.Sorted.{IsStrictlyIncreasing}
@@ -14,18 +14,18 @@ use Rattle.lset_judge.specs.Verdict.{IsPlain}
 use Rattle.lset_judge.specs.Stream.{IsBefore}
 
 pub record Recording : Type 0 where
-  -- the keys with which the set opens, the calls, and the keys that it left
+  -- the opening keys, the calls, and the final keys
   pub opening : List ℕ
   pub calls : List CallRecord
   pub keys : List ℕ
-  -- the recording was cut off: the keys left are not known
+  -- whether the recording was cut off, so that its final keys are unknown
   pub cut_off : Bool
 
--- the threads are numbers below this
+-- threads are numbers below 2^32
 abbrev pub all_threads : ℕ
 all_threads = 2 ^ 32
 
--- WHAT A RECORDING IS: keys that increase, and a history of calls that ended with true or false, with moments below 2^63
+-- A RECORDING: its keys increase. Its calls are a history with moments below 2^63, and each call that ended returned true or false
 pub record IsRecording (c : Recording) : Type 0 where
   pub opening : IsStrictlyIncreasing c.opening
   pub calls : IsHistory all_threads c.calls
@@ -33,17 +33,17 @@ pub record IsRecording (c : Recording) : Type 0 where
   pub before : All IsBefore c.calls
   pub keys : IsStrictlyIncreasing c.keys
 
--- ---- its text
+-- ---- the text of a recording
 
--- the first line
+-- the first line of the text
 abbrev pub title : List ℕ
 title = codes "listset-calls 1"
 
--- what is not there
+-- the mark of a missing end or reply
 abbrev pub dash : List ℕ
 dash = codes "-"
 
--- the end and the reply of a call, or that it is pending
+-- the end and the reply of a call, two marks if the call is pending
 abbrev pub end_pieces : Option (ℕ × Reply) → List (List ℕ)
 end_pieces None = dash ∷ dash ∷ []
 end_pieces (Some end) = decimal end.0 ∷ reply_text end.1 ∷ []
@@ -57,13 +57,13 @@ call_line x = line_of (call_pieces x)
 abbrev pub key_line : ℕ → List ℕ
 key_line key = number_line (codes "key") key
 
--- the last line
+-- the last line of the text
 abbrev pub end_line : Bool → List ℕ
 end_line cut_off = if cut_off then codes "cut" else codes "end"
 
 abbrev pub lines : Recording → List (List ℕ)
 lines c = title ∷ opening_lines c.opening ++ map call_line c.calls ++ map key_line c.keys ++ end_line c.cut_off ∷ []
 
--- [Recording text]: its lines, each with a newline
+-- [Recording text]: the lines of a recording, each with a newline
 abbrev pub recording_text : Recording → List ℕ
 recording_text c = text_of (lines c)

@@ -1,16 +1,16 @@
 ghost use Rattle.std.specs.List.Sorted.{IsStrictlyIncreasing};
 
-use crate::lines::Section;
+use crate::recording_lines::Section;
 use lset_judge::Judge;
 use std::alloc::Global;
 
-/// What is kept of the lines so far.
+/// The state after some lines.
 #[derive(Drop)]
 pub(crate) struct Judging {
     pub(crate) alloc: Global,
     pub(crate) section: Section,
     pub(crate) opening: Vec<u32>,
-    // (None before the first call)
+    // None before the first call
     pub(crate) judge: Option<Judge>,
     pub(crate) calls: u64,
     pub(crate) keys: Vec<u32>,

@@ -1,5 +1,5 @@
-//! The line of a call that has ended, read in one pass, as long recordings have one beside another. Any other line is left to the kinds of
-//! lines: `None` says nothing of it.
+//! Reads the line of a call that has ended in one pass. Most lines of a long recording are such lines. For any other line, and for an error, the
+//! result is `None`, and the line is read by the kinds of lines.
 
 ghost use Rattle.std.specs.Prelude.{◌≡◌, ◌≤◌, ◌++◌, ◌∷◌, IfSome, Ok, true, codes};
 ghost use Rattle.std.specs.Fmt.{decimal};
@@ -8,18 +8,18 @@ ghost use Rattle.lset_text.specs.Kinds.{line_in};
 ghost use Rattle.lset_text.specs.Numbers.{max_number};
 ghost use Rattle.lset_text.specs.Spellings.{call_word_text, reply_text, HasWord};
 ghost use Rattle.lset_judge.specs.Verdict.{is_truth};
-ghost use Rattle.lset_recording.specs.declared.lines.Section.{Section};
-ghost use Rattle.lset_recording.specs.declared.lines.Line.TheVariants.{Call};
+ghost use Rattle.lset_recording.specs.declared.recording_lines.Section.{Section};
+ghost use Rattle.lset_recording.specs.declared.recording_lines.Line.TheVariants.{Call};
 ghost use Rattle.lset_recording.specs.Reading.{kinds, takes_calls};
 
 use lset_judge::{LAST_MOMENT, StreamCall};
 use lset_text::{CallWord, Cause};
 use lset_words::{Key, Reply};
 
-/// The last value that a further digit can follow here: ten times it and nine is a moment.
+/// The largest value to which a digit can be appended without overflow: 10 * value + 9 is still a moment.
 const LAST_WITH_A_DIGIT: u64 = 922_337_203_685_477_579;
 
-/// The digits before a space, as a number, and what is behind that space. `None` also for the last ten moments or so.
+/// Returns the number before the first space, and the bytes after the space. Returns `None` also for the last eight moments.
 fn digits_before(text: &[u8]) -> Option<(u64, &[u8])>
     ensures { IfSome result (λ p. (text.now ≡ decimal p.0 ++ 32 ∷ p.1.now) × (p.0 ≤ LAST_MOMENT)) }
 {
@@ -46,7 +46,7 @@ fn digits_before(text: &[u8]) -> Option<(u64, &[u8])>
     None
 }
 
-/// A thread or a key before a space, and what is behind that space.
+/// Returns the thread or key before the first space, and the bytes after the space.
 fn number_before(text: &[u8]) -> Option<(u32, &[u8])>
     ensures { IfSome result (λ p. (text.now ≡ decimal p.0 ++ 32 ∷ p.1.now) × (p.0 ≤ max_number)) }
 {
@@ -57,7 +57,7 @@ fn number_before(text: &[u8]) -> Option<(u32, &[u8])>
     Some((value as u32, rest))
 }
 
-/// A moment before a space, and what is behind that space.
+/// Returns the moment before the first space, and the bytes after the space.
 fn moment_before(text: &[u8]) -> Option<(u64, &[u8])>
     ensures { IfSome result (λ p. (text.now ≡ decimal p.0 ++ 32 ∷ p.1.now) × (1 ≤ p.0) × (p.0 ≤ LAST_MOMENT)) }
 {
@@ -68,7 +68,7 @@ fn moment_before(text: &[u8]) -> Option<(u64, &[u8])>
     Some((value, rest))
 }
 
-/// The word of a call before a space, and what is behind that space.
+/// Returns the word of a call before the first space, and the bytes after the space.
 fn word_before(text: &[u8]) -> Option<(CallWord, &[u8])>
     ensures { IfSome result (λ p. (text.now ≡ call_word_text p.0 ++ 32 ∷ p.1.now) × HasWord One p.0) }
 {
@@ -91,7 +91,7 @@ fn word_before(text: &[u8]) -> Option<(CallWord, &[u8])>
     }
 }
 
-/// The reply that is spelled so, if it is true or false.
+/// Returns the reply true or false, if the text is its word.
 fn reply_in(text: &[u8]) -> Option<Reply>
     ensures { IfSome result (λ reply. (text.now ≡ reply_text reply) × (is_truth reply ≡ true)) }
 {
@@ -102,7 +102,7 @@ fn reply_in(text: &[u8]) -> Option<Reply>
     }
 }
 
-/// What is behind the first word of the line of a call.
+/// Returns the bytes after the first word of a call's line.
 fn behind_call(line: &[u8]) -> Option<&[u8]>
     ensures { IfSome result (λ rest. line.now ≡ codes "call " ++ rest.now) }
 {
@@ -112,7 +112,7 @@ fn behind_call(line: &[u8]) -> Option<&[u8]>
     }
 }
 
-/// The call that a line tells where calls may come, if it is one that has ended.
+/// Returns the call of a line in a section that can have calls, if the call has ended. `None` says nothing about the line.
 pub(crate) fn quick_call(line: &[u8]) -> Option<StreamCall>
     ensures { IfSome result (λ call. (section : Section) → takes_calls section ≡ true
         → line_in One Cause.Line (kinds section) line.now ≡ Ok (Call call)) }

@@ -5,15 +5,15 @@ ghost use Rattle.lset_recording.specs.Reading.{RecordingsAreRead, Says, first_li
 ghost use Rattle.lset_recording.specs.Texts.{Recording};
 ghost use Rattle.lset_recording.specs.Kept.{HasFailed, IsAnswered, IsLineOf, IsRead, IsRefusedAt, newlines};
 
-use crate::judging::RecordingAnswer;
 use crate::kept::Judging;
-use crate::lines::LONGEST_LINE;
+use crate::recording_judge::RecordingAnswer;
+use crate::recording_lines::LONGEST_LINE;
 use arrayvec::ArrayVec;
 use lset_text::{Cause, LineFault};
 use memchr::memchr;
 use std::alloc::Global;
 
-/// The bytes before the first newline, and those behind it. `None` if there is no newline.
+/// Returns the bytes before the first newline, and the bytes after it. `None` if there is no newline.
 fn next_line(bytes: &[u8]) -> Option<(&[u8], &[u8])>
     ensures { MatchOption result (Lacks 10 bytes.now) (λ p. (bytes.now ≡ p.0.now ++ 10 ∷ p.1.now) × Lacks 10 p.0.now) }
 {
@@ -21,16 +21,16 @@ fn next_line(bytes: &[u8]) -> Option<(&[u8], &[u8])>
     Some((&bytes[..at], &bytes[at + 1..]))
 }
 
-/// A reader of a recording. It takes the bytes of the text, of which the first line is `listset-calls 1`, in pieces of any length, and judges
-/// the calls as they come. It keeps the keys, the pending calls, at most two calls of each key, and at most `LONGEST_LINE` bytes of a line,
-/// so memory does not grow with the number of calls. (This project's own.)
+/// A reader of a recording. The bytes of the text come in pieces of any length. The calls are judged as they come. The reader stores the keys,
+/// the pending calls, at most two calls of each key, and at most `LONGEST_LINE` bytes of a line, so memory does not grow with the number of
+/// calls. The first line of a recording is `listset-calls 1`. (This project's own format.)
 #[derive(Drop)]
 pub struct RecordingReader {
     judging: Judging,
     line: ArrayVec<u8, LONGEST_LINE>,
-    // (the line has more bytes than that)
+    // whether the line has more bytes than that
     is_long: bool,
-    // (what `feed` returned, once it was an error)
+    // the error that `feed` has returned
     failed: Option<LineFault>,
 }
 
@@ -53,14 +53,14 @@ impl RecordingReader {
         LineFault::at(self.judging.number(), cause)
     }
 
-    /// Whether no byte is held.
+    /// Whether no byte of a line is stored.
     fn holds_none(&self) -> bool
         ensures { IsTrue result → (self.now.line.items ≡ []) × (self.now.is_long ≡ false) }
     {
         !self.is_long && self.line.as_slice().is_empty()
     }
 
-    /// Holds bytes of a line that has not ended.
+    /// Stores bytes of a line that has not ended.
     fn hold(&mut self, bytes: &[u8])
         requires { Lacks 10 bytes.now }
         ensures read { (before : List ℕ) → IsRead before self.old → IsRead (before ++ bytes.now) self.new }
@@ -72,7 +72,7 @@ impl RecordingReader {
         }
     }
 
-    /// Takes the newline of the line that is held.
+    /// Reads the stored line, which ends here.
     fn newline_in(&mut self) -> Result<(), LineFault>
         ensures taken { OnOk result ((bytes : List ℕ) → IsRead bytes self.old → IsRead (bytes ++ 10 ∷ []) self.new) }
         ensures refused { IfErr result (λ fault. (bytes : List ℕ) → IsRead bytes self.old → IsRefusedAt (bytes ++ 10 ∷ []) fault) }
@@ -90,7 +90,7 @@ impl RecordingReader {
         }
     }
 
-    /// Takes a line of which no byte is held, and its newline. It is read where it lies.
+    /// Reads a line of which no byte is stored, and its newline, without a copy.
     fn whole_line_in(&mut self, line: &[u8]) -> Result<(), LineFault>
         requires lacks { Lacks 10 line.now }
         requires none { self.old.line.items ≡ [] }
@@ -106,7 +106,7 @@ impl RecordingReader {
         }
     }
 
-    /// Takes what comes of a line, and its newline.
+    /// Reads the rest of a line, and its newline.
     fn line_in(&mut self, line: &[u8]) -> Result<(), LineFault>
         requires { Lacks 10 line.now }
         ensures taken { OnOk result ((bytes : List ℕ) → IsRead bytes self.old → IsRead (bytes ++ line.now ++ 10 ∷ []) self.new) }
@@ -121,7 +121,7 @@ impl RecordingReader {
         self.newline_in()
     }
 
-    /// Takes the next bytes, if those before had no fault.
+    /// Reads the next bytes, if the bytes before had no error.
     fn bytes_in(&mut self, piece: &[u8]) -> Result<(), LineFault>
         ensures taken { OnOk result ((bytes : List ℕ) → IsRead bytes self.old → IsRead (bytes ++ piece.now) self.new) }
         ensures refused { IfErr result (λ fault. (bytes : List ℕ) → IsRead bytes self.old → IsRefusedAt (bytes ++ piece.now) fault) }
@@ -138,12 +138,12 @@ impl RecordingReader {
         Ok(())
     }
 
-    /// Takes the next bytes of the text, and judges the calls whose lines have ended with them. Allocates; does not block.
+    /// Reads the next bytes of the text, and judges the calls whose lines end in them. Allocates; does not block.
     ///
     /// # Errors
     ///
-    /// The first fault of the text, whatever comes after these bytes; `Cause::Memory` if an allocation fails. Its line is one whose
-    /// newline is in the piece. After an error each further call of `feed`, and `finish`, return that error.
+    /// The first error of the text, whatever comes after these bytes; `Cause::Memory` if an allocation fails. The newline of its line is in the
+    /// piece. After an error each further call of `feed`, and `finish`, return that error.
     #[tactic(auto, using(crate::proofs::ReadLaws::none_failed, crate::proofs::ReadLaws::one_failed))]
     pub fn feed(&mut self, piece: &[u8]) -> Result<(), LineFault>
         ensures taken { OnOk result ((bytes : List ℕ) → IsRead bytes self.old → IsRead (bytes ++ piece.now) self.new) }
@@ -164,7 +164,7 @@ impl RecordingReader {
         }
     }
 
-    /// What is said of the text, if it ends here and had no fault before.
+    /// Returns the answer on the text, if it ends here and has had no error.
     fn end(self) -> Result<RecordingAnswer, LineFault>
         ensures said { IfOk result (λ answer. (bytes : List ℕ) → IsRead bytes self
             → (c : Recording) × Says bytes (Ok c) × IsAnswered c answer) }
@@ -178,12 +178,12 @@ impl RecordingReader {
         self.judging.finish()
     }
 
-    /// Returns whether some order explains the calls of the text, which ends here, and leaves its keys; or, of a recording that was cut off,
-    /// whether one does with some keys left. Allocates; does not block.
+    /// Returns the verdict on the text, which ends here: whether some order explains its calls and leaves its final keys. If the recording was
+    /// cut off, any final keys count. Allocates; does not block.
     ///
     /// # Errors
     ///
-    /// The fault of the text, if it may not end here; `Cause::Memory` if an allocation fails; the error of `feed`, if it returned one.
+    /// The error of the text, if it cannot end here; `Cause::Memory` if an allocation fails; the error of `feed`, if it returned one.
     #[tactic(auto, using(crate::proofs::ReadLaws::none_failed, crate::proofs::ReadLaws::one_failed))]
     pub fn finish(self) -> Result<RecordingAnswer, LineFault>
         ensures said { IfOk result (λ answer. (bytes : List ℕ) → IsRead bytes self
@@ -200,7 +200,7 @@ impl RecordingReader {
     }
 }
 
-/// The bytes that say a recording are the one text of it.
+/// A lemma: if bytes say a recording, they are its text. So a recording has one text.
 #[tactic(auto, using(crate::proofs::TextFound::text_found))]
 pub fn recordings_are_read()
     ensures { RecordingsAreRead }

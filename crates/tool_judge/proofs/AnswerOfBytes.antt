@@ -5,7 +5,7 @@ use Rattle.std.specs.Io.KnownBytes.{Consumes}
 use Rattle.lset_text.specs.declared.causes.Cause.{Cause}
 use Rattle.lset_text.specs.declared.causes.Cause.TheVariants as wrong
 use Rattle.lset_text.specs.declared.causes.LineFault.{LineFault}
-use Rattle.lset_recording.specs.declared.judging.RecordingAnswer.{RecordingAnswer}
+use Rattle.lset_recording.specs.declared.recording_judge.RecordingAnswer.{RecordingAnswer}
 use Rattle.lset_text.specs.Causes.{fault}
 use Rattle.lset_recording.specs.Reading.{Says}
 use Rattle.lset_recording.specs.Texts.{Recording}

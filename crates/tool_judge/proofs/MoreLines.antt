@@ -1,8 +1,8 @@
 -- An answer on a recording stays one if lines are added to it.
 use Rattle.std.proofs.Common.{◌≡◌, ℕ, length, Bool, true, false, List, ◌++◌, Ok, ap, ◌∙◌, append_assoc}
 use Rattle.std.specs.Prelude.{if◌then◌else◌}
-use Rattle.lset_judge.specs.declared.judging.Verdict.{Verdict}
-use Rattle.lset_judge.specs.declared.judging.Verdict.TheVariants.{Linearizable, NotLinearizable}
+use Rattle.lset_judge.specs.declared.set_judge.Verdict.{Verdict}
+use Rattle.lset_judge.specs.declared.set_judge.Verdict.TheVariants.{Linearizable, NotLinearizable}
 use Rattle.tool_judge.specs.Judging.{Begins, IsAnswerTo, Judges, ok_line, refused_text}
 
 begins : (head text more : List ℕ) → Begins head text → Begins head (text ++ more)

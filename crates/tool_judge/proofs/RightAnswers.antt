@@ -2,8 +2,8 @@
 use Rattle.std.proofs.Common.{ℕ, inl, inr, Bool, true, false, Option, List, ◌++◌, length, codes, Result, Ok, Err, ◌∙◌}
 use Rattle.std.proofs.Common.{append_assoc}
 use Rattle.std.specs.Fmt.{decimal}
-use Rattle.lset_judge.specs.declared.judging.Verdict.{Verdict}
-use Rattle.lset_judge.specs.declared.judging.Verdict.TheVariants.{Linearizable, NotLinearizable}
+use Rattle.lset_judge.specs.declared.set_judge.Verdict.{Verdict}
+use Rattle.lset_judge.specs.declared.set_judge.Verdict.TheVariants.{Linearizable, NotLinearizable}
 use Rattle.lset_judge.specs.declared.stream.Refusal.{Refusal}
 use Rattle.lset_judge.specs.declared.clash.Clash.{Clash}
 use Rattle.lset_text.specs.declared.causes.LineFault.{LineFault}

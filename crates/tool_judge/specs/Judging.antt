@@ -2,8 +2,8 @@
 use Rattle.std.specs.Prelude.{◌≡◌, ℕ, ◌⊎◌, List, [], ◌++◌, codes, length, Option, Some, None, Ok, Err}
 use Rattle.std.specs.Fmt.{decimal}
 use Rattle.lset_judge.specs.declared.stream.Refusal.{Refusal}
-use Rattle.lset_judge.specs.declared.judging.Verdict.{Verdict}
-use Rattle.lset_judge.specs.declared.judging.Verdict.TheVariants.{Linearizable, NotLinearizable}
+use Rattle.lset_judge.specs.declared.set_judge.Verdict.{Verdict}
+use Rattle.lset_judge.specs.declared.set_judge.Verdict.TheVariants.{Linearizable, NotLinearizable}
 use Rattle.lset_text.specs.declared.causes.LineFault.{LineFault}
 use Rattle.lset_recording.specs.Texts.{Recording, IsRecording, recording_text}
 use Rattle.lset_recording.specs.Reading.{Says, IsVerdictOnRecording}

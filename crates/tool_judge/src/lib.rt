@@ -4,13 +4,13 @@
 
 mod clashes;
 mod counts;
-mod judging;
-mod lines;
+mod extra_lines;
+mod judge_answers;
 mod showing;
 mod texts;
 
 pub use clashes::put_call;
 pub use counts::{put_count, with_count};
-pub use judging::{answers_are_right, judge_briefly, judge_bytes, judge_input};
-pub use lines::with_lines;
+pub use extra_lines::with_lines;
+pub use judge_answers::{answers_are_right, judge_briefly, judge_bytes, judge_input};
 pub use showing::{Claim, ShowJudged, claim_on};

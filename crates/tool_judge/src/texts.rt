@@ -2,7 +2,7 @@ ghost use Rattle.std.specs.Prelude.{◌≡◌, IfOk};
 ghost use Rattle.tool_judge.specs.Judging.{Begins, calls_of_key, clash_text, extent, ok_line, refused_lines, refused_text};
 
 use crate::clashes::clash_lines;
-use crate::judging::Detail;
+use crate::judge_answers::Detail;
 use lset_judge::{Clash, Refusal};
 use std::alloc::{AllocError, Global};
 

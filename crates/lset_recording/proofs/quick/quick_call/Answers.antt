@@ -13,14 +13,14 @@ use Rattle.lset_text.proofs.KindLaws.{IsMade, line_made}
 use Rattle.lset_text.specs.declared.causes.Cause.TheVariants as wrong
 use Rattle.lset_judge.specs.declared.stream.StreamCall.{StreamCall}
 use Rattle.lset_judge.specs.Verdict.{is_truth}
-use Rattle.lset_recording.specs.declared.lines.Line.TheVariants as told
-use Rattle.lset_recording.specs.declared.lines.Section.{Section}
-use Rattle.lset_recording.specs.declared.lines.Section.TheVariants as section
+use Rattle.lset_recording.specs.declared.recording_lines.Line.TheVariants as told
+use Rattle.lset_recording.specs.declared.recording_lines.Section.{Section}
+use Rattle.lset_recording.specs.declared.recording_lines.Section.TheVariants as section
 use Rattle.lset_recording.specs.Reading.{kinds, from_calls, takes_calls}
 use Rattle.lset_recording.proofs.LineKinds.{IsMoment, IsLineIn, kinds_known, line_pieces}
 use Rattle.lset_recording.proofs.quick.quick_call.Goals as goal
 
--- a call of a word that has ended, and its line
+-- the line of a call that has ended
 module _ (n k b e : ℕ) (w : CallWord) (r : Reply) where
   abbrev pub ended_call : StreamCall
   ended_call = record { thread = n; call = with_key w (record { 0 = k }); begun = b; ended = Some (e, r) }

@@ -1,0 +1,112 @@
+//! Judges a whole history, call by call.
+
+ghost use Rattle.std.specs.Prelude.{◌≡◌, ◌<◌, ◌++◌, ◌∷◌, [], ℕ, IfOk, List, OnOk};
+ghost use Rattle.std.specs.List.Sorted.{IsStrictlyIncreasing};
+ghost use Rattle.lset_judge.specs.Stream.{record_of, moment_of, pending_in, IsBefore, MayCome};
+ghost use Rattle.lset_words.specs.declared.history.CallRecord.{CallRecord as RecordedCall};
+ghost use Rattle.lset_judge.specs.Judge.{IsJudgeOf};
+ghost use Rattle.lset_judge.specs.Reading.{IsJudged, read_as, call_as, reply_as};
+
+use crate::clash::Clash;
+use crate::judged::is_plain;
+use crate::set_judge::{Judge, Verdict};
+use crate::stream::{Refusal, StreamCall, StreamFault};
+use lset_history::History;
+use lset_words::{Call, CallRecord, Reply};
+use std::alloc::{AllocError, Global};
+
+/// The verdict of `judge` on a history.
+#[derive(Debug, Drop)]
+pub enum Judged {
+    /// Some order explains the calls, from the opening keys, and leaves the keys.
+    Linearizable,
+    /// No order does: the reason, and a clash, if one is found.
+    NotLinearizable(Refusal, Option<Clash>),
+    /// Not known: a call is a `ceiling` that ended, or answered other than true or false, and nothing else refutes the history.
+    Undecided,
+}
+
+fn call_as(call: Call, reply: Reply) -> Call
+    ensures { result ≡ call_as call reply }
+{
+    match (call, reply) {
+        (Call::Add(key), Reply::Full) => Call::Contains(key),
+        (Call::Ceiling(_), Reply::At(key)) => Call::Contains(key),
+        (Call::Ceiling(key), _) => Call::Contains(key),
+        (call, _) => call,
+    }
+}
+
+fn reply_as(call: Call, reply: Reply) -> Reply
+    ensures { result ≡ reply_as call reply }
+{
+    match (call, reply) {
+        (_, Reply::True) | (Call::Ceiling(_), Reply::At(_)) => Reply::True,
+        _ => Reply::False,
+    }
+}
+
+/// Returns the call that the judge is given for a call of a history.
+fn read_as(call: &CallRecord) -> StreamCall
+    ensures is { record_of result ≡ read_as call.now }
+    ensures before { IsBefore (record_of result) }
+{
+    match call.ended {
+        None => StreamCall {
+            thread: call.thread,
+            call: call.call,
+            begun: u64::from(call.begun),
+            ended: None,
+        },
+        Some((end, reply)) => StreamCall {
+            thread: call.thread,
+            call: call_as(call.call, reply),
+            begun: u64::from(call.begun),
+            ended: Some((u64::from(end), reply_as(call.call, reply))),
+        },
+    }
+}
+
+/// Adds a call that may come next. Fails only if an allocation fails.
+fn add_next(judge: &mut Judge, call: StreamCall) -> Result<(), AllocError>
+    requires { MayCome (pending_in judge.old.stream) (moment_of judge.old.stream) (record_of call) }
+    ensures added { OnOk result ((threads : ℕ) (opening : List ℕ) (calls : List RecordedCall) → call.thread < threads
+        → IsJudgeOf threads opening calls judge.old → IsJudgeOf threads opening (calls ++ record_of call ∷ []) judge.new) }
+    ensures moment { OnOk result (moment_of judge.new.stream ≡ call.begun) }
+{
+    match judge.add(call) {
+        Ok(()) => Ok(()),
+        Err(StreamFault::Memory) => Err(AllocError),
+        Err(
+            StreamFault::Early
+            | StreamFault::Ends
+            | StreamFault::NotPlain
+            | StreamFault::Taken
+            | StreamFault::Busy,
+        ) => {
+            prove!(false);
+            Err(AllocError)
+        }
+    }
+}
+
+/// Returns whether some order linearizes the calls of a history from its opening keys, and leaves `keys`, for a set without a quota. `keys`
+/// must increase. The answer is exact if each call that ended answered true or false, and none is a `ceiling`. For any other history the
+/// answer is `NotLinearizable` only if no order exists, and otherwise `Undecided`. Fails only if an allocation fails.
+pub fn judge(alloc: Global, history: &History, keys: &[u32]) -> Result<Judged, AllocError>
+    requires { IsStrictlyIncreasing keys.now }
+    ensures { IfOk result (IsJudged history.now keys.now) }
+{
+    let opening = history.opening();
+    let mut judge = Judge::new(alloc, opening)?;
+    let calls = history.calls();
+    for call in calls {
+        add_next(&mut judge, read_as(call))?;
+    }
+    let plain = is_plain(history);
+    match judge.close(keys)? {
+        Verdict::NotLinearizable(refusal, clash) => Ok(Judged::NotLinearizable(refusal, clash)),
+        Verdict::Linearizable if plain => Ok(Judged::Linearizable),
+        Verdict::Linearizable => Ok(Judged::Undecided),
+    }
+}
