@@ -206,7 +206,7 @@ def test_calls_of_a_renewed_set_are_linearizable(installed):
             well(made, installed.room / "calls", calls)
 
 
-@needs("cargo")
+@needs("cargo", "rustc")
 def test_programs_in_rust_use_sets_and_judge(installed):
     crate, target, cargo = installed.share / "rust", ["--target-dir", installed.room / "target"], [*QUICK_CARGO, "--offline"]
     how = {**os.environ, "LISTSET_EXAMPLES": str(EXAMPLES)}

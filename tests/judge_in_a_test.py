@@ -80,7 +80,7 @@ def built_go(folder):
 
 
 LANGUAGES = {"Rust": built_rust, "C++": built_cpp, "Python": built_python, "Java": built_java, "Go": built_go}
-TOOLS = {"Rust": ["cargo"], "C++": ["g++"], "GoogleTest": ["g++"], "Java": ["javac", "java"], "Go": ["go"]}
+TOOLS = {"Rust": ["cargo", "rustc"], "C++": ["g++"], "GoogleTest": ["g++"], "Java": ["javac", "java"], "Go": ["go"]}
 TEST_LIBRARIES = {"GoogleTest": ("Debian's package libgtest-dev", pathlib.Path("/usr/include/gtest/gtest.h").exists)}
 FEW = "threads=4 calls=250 runs=3 within=2"
 
@@ -370,7 +370,7 @@ def test_all_languages_have_the_messages_of_one_file():
     well(FORMS / "make_words", "--check")
 
 
-@pytest.mark.needs("cargo")
+@pytest.mark.needs("cargo", "rustc")
 def test_a_lock_that_another_test_holds_stops_no_test(room, once, program):
     tests, *_ = once(built_rust)
     assert "ok: " in well(tests, "another_test_holds_a_lock", "--exact", "--nocapture", env={**os.environ, "LISTSET": program, "TMPDIR": str(room)})
@@ -407,12 +407,12 @@ def test_a_python_set_that_returns_nothing_is_an_error(room, once, program):
     assert "the set could not be created: 'object' object has no attribute" in form.told(program, "object", FEW)[1]
 
 
-@pytest.mark.needs("java")
+@pytest.mark.needs("javac", "java")
 def test_a_set_that_cannot_be_sent_is_called_in_this_jvm(room, once, program):
     assert Form("Java", room, once(built_java)).told(program, "not passed on", FEW)[0] == "ok"
 
 
-@pytest.mark.needs("java")
+@pytest.mark.needs("javac", "java")
 def test_java_sets_that_inherit_their_calls_are_judged_by_them(room, once, program):
     """Java 17 reads the serialized `Second::contains` back as `First::contains` if both inherit it. The sets
     are then called in this JVM."""
@@ -493,7 +493,7 @@ def test_a_project_uses_the_package_of_go(room, program):
     assert Form("Go", room, [room / "own", "-test.run=^TestSet$"]).told(program, "right", FEW)[0] == "ok"
 
 
-@pytest.mark.needs("cargo")
+@pytest.mark.needs("cargo", "rustc")
 def test_a_project_uses_the_package_of_rust(room):
     well("cargo", "package", "--offline", "--allow-dirty", "--quiet", "--target-dir", room, "--manifest-path", FORMS / "rust/Cargo.toml")
     assert [*(room / "package").glob("*.crate")]

@@ -128,7 +128,7 @@ def test_the_program_needs_no_other_file(release, program):
         assert process.stdout.read().splitlines()[-1] == "key 5"
 
 
-OF_LANGUAGES = [pytest.param(it, marks=needs(tool)) for it, tool in {"c": "gcc", "cpp": "g++", "rust": "cargo", "python": "python3"}.items()]
+OF_LANGUAGES = [pytest.param(it, marks=needs(*tools.split())) for it, tools in {"c": "gcc", "cpp": "g++", "rust": "cargo rustc", "python": "python3"}.items()]
 
 
 @pytest.mark.parametrize("language", OF_LANGUAGES)
@@ -176,7 +176,7 @@ def test_the_wheel_is_installed(release, program, room):
     assert said.startswith(("ok: ", "few calls overlapped")) and said.endswith(f"; judge: liblistset, {proved}\n")
 
 
-@needs("cargo")
+@needs("cargo", "rustc")
 def test_the_crate_is_built_offline(release, program, room):
     own = room / "own"
     (own / "src").mkdir(parents=True)

@@ -243,7 +243,7 @@ public class OwnTest {
 }
 """
 PROJECTS = {"C++": lay_cpp, "Rust": lay_rust, "Java": lay_java, "Python": lay_python, "Go": lay_go}
-NEEDS = {"C++": ["cmake", "make", "g++", "node"], "Rust": ["cargo", "node"], "Java": ["mvn", "java", "node"], "Python": ["node"], "Go": ["go", "node"]}
+NEEDS = {"C++": ["cmake", "make", "g++", "node"], "Rust": ["cargo", "rustc", "node"], "Java": ["mvn", "java", "node"], "Python": ["node"], "Go": ["go", "node"]}
 
 
 def finds_all(text, found):
