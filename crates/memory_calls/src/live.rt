@@ -47,7 +47,7 @@ fn change_and_look<M: Running, R: Wait>(
     check(set.ceiling(rt, seat, Key(3)) == Reply::At(Key(4)))
 }
 
-/// Makes a call with no handle to block by, and expects this reply.
+/// Makes a call without a runtime, so that it cannot block, and expects this reply.
 fn call_within<M: Running>(
     alloc: Global,
     calls: &mut Calls,

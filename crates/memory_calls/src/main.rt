@@ -2,11 +2,12 @@
 //! results, and prints which call returned `Memory` (or `Spawn`, if no thread could be created). The program makes that call
 //! again: its result must be as if no allocation had failed.
 //!
-//! Run alone, no allocation fails. `tests/failed_allocations.py` lets each fail in turn: the allocation with a fixed number fails,
-//! and the number on the standard input says how many blocks this program allocates before its first call.
+//! If the program is run by hand, no allocation fails. `tests/failed_allocations.py` makes each allocation fail in turn. It fixes
+//! the number of the allocation that fails, and the number on the standard input is how many blocks this program allocates
+//! before its first call.
 #![tactic(auto)]
 
-/// Makes a call, and makes it again if it returns `Memory`. Returns its result.
+/// Makes a call, and makes it again if it returns `Memory`. Returns the result of the last attempt.
 macro_rules! answer {
     ($calls:ident, $name:expr, $memory:pat, $call:expr) => {{
         $calls.name = $name;
@@ -17,11 +18,11 @@ macro_rules! answer {
     }};
 }
 
-mod calls;
 mod live;
 mod prelude;
-mod sets;
+mod refused_calls;
 mod threads;
+mod worlds_and_oracles;
 
 use prelude::{AllocError, Calls, Global, Host, Net, Result, TcpListener, TcpStream};
 use std::io::{self, Read};
@@ -32,9 +33,9 @@ fn make_calls<R: Host + Net<Listener = TcpListener, Stream = TcpStream>>(
     alloc: Global,
     calls: &mut Calls,
 ) -> Result<()> {
-    sets::worlds(alloc, calls)?;
-    sets::oracles(alloc, calls)?;
-    sets::histories(alloc, calls)?;
+    worlds_and_oracles::worlds(alloc, calls)?;
+    worlds_and_oracles::oracles(alloc, calls)?;
+    worlds_and_oracles::histories(alloc, calls)?;
     live::running_sets(rt, alloc, calls)?;
     threads::programs_on_threads(rt, alloc, calls)?;
     threads::a_session(rt, alloc, calls)
@@ -56,7 +57,8 @@ fn take_blocks(alloc: Global, count: u32) -> Result<(), AllocError> {
     Ok(())
 }
 
-/// Makes all calls. Returns the text to print if each result is the expected one.
+/// Returns the two parts of the line to print after all calls had the expected results: the call that returned `Memory`, or that
+/// none did. If no call was refused, first allocates `blocks` blocks; if that fails, an allocation is still to be refused.
 fn told(alloc: Global, calls: &Calls, blocks: u32) -> (&'static str, &'static str) {
     match calls.refused {
         Some(name) => (name, " wanted memory"),

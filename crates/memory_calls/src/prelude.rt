@@ -1,5 +1,5 @@
 //! The imports of the groups of calls, and the bound on their runtime.
-pub use crate::calls::{Calls, check};
+pub use crate::refused_calls::{Calls, check};
 pub use anyhow::{Error, Result};
 pub use lset_lazy::LazyList;
 pub use lset_live::{LiveSet, OpenFault, Seat, open};
@@ -10,7 +10,7 @@ pub use std::sync::Wait;
 pub use std::thread::Threads;
 pub use std::time::Clock;
 
-/// A runtime with a clock and threads that may wait.
+/// A runtime with a clock, and with threads that can block.
 pub trait Host: Clock + Sync + Threads + Wait {}
 
 impl<R: Clock + Sync + Threads + Wait> Host for R {}

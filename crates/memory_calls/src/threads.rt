@@ -7,7 +7,7 @@ use lset_work::{Always, Outcome, WorkCause, WorkFault, work};
 use std::io::{self, Read, Write};
 use std::net::Shutdown;
 
-/// Opens a set, again if the first time fails. Returns the set and its seats.
+/// Opens a set, and tries again if the first attempt fails. Returns the set and its seats.
 fn open_seats(
     alloc: Global,
     calls: &mut Calls,
@@ -67,7 +67,7 @@ fn work_again<R: Host>(
     }
 }
 
-/// Runs two programs on two threads, again if the first run fails.
+/// Runs two programs on two threads, and runs them again if the first run fails.
 pub fn programs_on_threads<R: Host>(rt: &R, alloc: Global, calls: &mut Calls) -> Result<()> {
     let programs = answer!(calls, "Vec::push", AllocError, two_programs(alloc))?;
     let (set, seats) = open_seats(alloc, calls, 2)?;
@@ -120,7 +120,7 @@ fn serve_client<R: Host + Net<Listener = TcpListener, Stream = TcpStream>>(
     }
 }
 
-/// Serves one client, and another one by another server if the first fails.
+/// Serves one client. If the server fails, serves another client with another server.
 pub fn a_session<R: Host + Net<Listener = TcpListener, Stream = TcpStream>>(
     rt: &R,
     alloc: Global,

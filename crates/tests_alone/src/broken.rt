@@ -1,4 +1,4 @@
-//! Random schedules on each broken list: some run has an order that is refused.
+//! Random schedules on each broken list: at least one run has an order that is refused.
 
 use crate::prelude::*;
 use broken_lists::{ALL, BrokenList, BrokenWorld, broken_run};

@@ -1,6 +1,6 @@
 //! Inputs that arrive byte by byte, as from a slow recorder, and an output that accepts one byte at a time: tens of
 //! thousands of reads or writes.
-use crate::devices::{Plan, WHOLE, Writer};
+use crate::failing_devices::{Plan, WHOLE, Writer};
 use crate::prelude::*;
 use std::io::{self, Read};
 use tool_base::{Answer, deliver};
@@ -57,7 +57,7 @@ fn a_recording_comes_byte_by_byte(rt: HostRuntime) -> Result<(), Fail> {
     }
 }
 
-/// The report has no order, so its first call is missing in the order.
+/// The order of the report is empty, so `check` refuses it: call 0 is missing.
 #[test]
 fn a_report_comes_byte_by_byte(rt: HostRuntime) -> Result<(), Fail> {
     let alloc = rt.alloc();

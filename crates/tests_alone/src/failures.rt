@@ -1,6 +1,6 @@
 //! Runs of the program in which each read and each write fails in turn. The tests in `transcripts` check what the runs
 //! print.
-use crate::devices::{
+use crate::failing_devices::{
     CANNOT_READ, CANNOT_WRITE, Failure, Plan, Reader, WHOLE, Way, Writer, planned,
 };
 use crate::prelude::*;

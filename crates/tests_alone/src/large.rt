@@ -1,7 +1,7 @@
 //! The largest histories and recordings. A test has a minute; a search of all pairs of calls would take longer.
 
-use crate::made::{FIVE, in_turn, increasing_keys};
 use crate::prelude::*;
+use crate::test_histories::{FIVE, in_turn, increasing_keys};
 use lset_judge::{Judged, judge};
 use lset_recording::{RecordingAnswer, RecordingReader};
 
@@ -20,7 +20,7 @@ fn true_calls<F: Fn(u32) -> Call>(
     Ok(calls)
 }
 
-/// The threads take turns. Each call finds a key of its own in a set with the largest number of opening keys.
+/// The threads call in turn. Each call finds a key of its own in a set with the largest number of opening keys.
 #[test]
 fn a_million_calls_are_judged(rt: HostRuntime) -> Result<(), Fail> {
     let alloc = rt.alloc();
@@ -91,7 +91,7 @@ fn in_their_turn(alloc: Global, last: Reply) -> Result<Vec<Placed>, AllocError> 
     Ok(order)
 }
 
-/// An order of many calls has a fault at its end: the last call has a wrong reply, is missing, is there twice or is
+/// An order of many calls has an error at its end: the last call has a wrong reply, is missing, occurs twice or is
 /// unknown, or the keys are wrong.
 #[test]
 fn a_fault_at_the_end_of_a_long_order_is_found(rt: HostRuntime) -> Result<(), Fail> {

@@ -7,22 +7,22 @@ mod broken;
 #[cfg(test)]
 mod byte_by_byte;
 #[cfg(test)]
-mod calls;
+mod contradiction_counts;
 #[cfg(test)]
-mod counts;
-#[cfg(test)]
-mod devices;
+mod failing_devices;
 #[cfg(test)]
 mod failures;
 #[cfg(test)]
+mod hand_worked;
+#[cfg(test)]
+mod judged_calls;
+#[cfg(test)]
 mod large;
 #[cfg(test)]
-mod made;
+mod library_sizes;
 #[cfg(test)]
 mod prelude;
 #[cfg(test)]
-mod rows;
-#[cfg(test)]
 mod servers;
 #[cfg(test)]
-mod sizes;
+mod test_histories;

@@ -23,7 +23,7 @@ pub use std::test::Fail;
 use std::thread::Threads;
 use std::time::Clock;
 
-/// What the program needs of the runtime, and the right to fail a test.
+/// A runtime for the program `listset` that can also fail a test.
 pub trait Host: Abort
     + Clock
     + Files

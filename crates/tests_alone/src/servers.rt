@@ -1,6 +1,6 @@
 //! A server whose output fails. Its port differs between runs, so the first line is compared without the digits of the
 //! port.
-use crate::devices::{CANNOT_WRITE, Failure, Plan, Way, Writer, planned};
+use crate::failing_devices::{CANNOT_WRITE, Failure, Plan, Way, Writer, planned};
 use crate::prelude::*;
 use lset_dispatch::run_words;
 use std::io::{self, Read, Write};

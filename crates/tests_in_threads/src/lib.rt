@@ -14,13 +14,11 @@ macro_rules! at_each_list {
 }
 
 #[cfg(test)]
-mod buffered;
+mod bounded_rounds;
+#[cfg(test)]
+mod buffered_sessions;
 #[cfg(test)]
 mod clients;
-#[cfg(test)]
-mod devices;
-#[cfg(test)]
-mod faults;
 #[cfg(test)]
 mod limits;
 #[cfg(test)]
@@ -32,22 +30,24 @@ mod pauses;
 #[cfg(test)]
 mod prelude;
 #[cfg(test)]
+mod program_sizes;
+#[cfg(test)]
 mod programs;
 #[cfg(test)]
 mod renewal;
 #[cfg(test)]
-mod rounds;
-#[cfg(test)]
 mod seats;
 #[cfg(test)]
-mod serving;
+mod served_sessions;
 #[cfg(test)]
-mod sessions;
+mod session_devices;
 #[cfg(test)]
-mod sizes;
+mod session_faults;
+#[cfg(test)]
+mod session_lines;
 #[cfg(test)]
 mod stepped;
 #[cfg(test)]
 mod stopped;
 #[cfg(test)]
-mod typed;
+mod typed_results;

@@ -1,6 +1,6 @@
 //! The maximum number of lines of a session.
 use crate::prelude::*;
-use crate::sessions::{end, held, held_buffered, was_held};
+use crate::session_lines::{end, held, held_buffered, was_held};
 
 /// A source of empty lines, followed by the bytes `last`.
 #[derive(Drop)]

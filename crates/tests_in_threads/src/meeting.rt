@@ -39,8 +39,8 @@ pub fn calls<M: Running, R: Clock + Wait, P: Pause>(
     reply
 }
 
-/// A meeting of up to 64 threads. Each waits for all others when it arrives for the first time. `took` is whether one
-/// of them took a lock after it had waited for it.
+/// A meeting of up to 64 threads. Each thread waits for all others when it arrives for the first time. `took` is
+/// whether a thread took a lock after it had waited for the lock.
 #[derive(Drop)]
 pub struct Meeting<'a, R> {
     rt: &'a R,
@@ -52,7 +52,7 @@ pub struct Meeting<'a, R> {
 }
 
 impl<'a, R: Clock> Meeting<'a, R> {
-    /// Begins a meeting of `threads` threads. None has arrived.
+    /// Returns a meeting of `threads` threads. No thread has arrived.
     pub fn new(rt: &'a R, threads: u64) -> Meeting<'a, R> {
         Meeting {
             rt,

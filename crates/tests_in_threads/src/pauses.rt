@@ -1,4 +1,4 @@
-//! The number of steps of a call. A call reports each step to its `Pause`, except the step with its reply.
+//! The number of steps of a call. A call reports each of its steps to its `Pause`, except the step that has the reply.
 
 use crate::opened::two_seats;
 use crate::prelude::*;
@@ -13,7 +13,7 @@ pub struct Count {
 }
 
 impl Count {
-    /// Counts the steps of a thread whose exchanges should all succeed, so that it waits for no lock.
+    /// Returns a pause for a thread whose exchanges should all succeed and that should wait for no lock.
     pub fn new(thread: u32) -> Count {
         Count {
             thread,

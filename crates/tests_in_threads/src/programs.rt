@@ -142,8 +142,8 @@ fn a_program_can_be_empty(rt: HostRuntime) {
     assert!(rt; are_as_wanted(&outcome, &[&[Reply::True], &[]], &[5]));
 }
 
-/// A gate that refuses one call. It counts how often each of the first three calls of three seats asks, and in the last
-/// count all others.
+/// A gate that refuses one call. It counts how often each of the first three calls of three seats asks. The last count is
+/// for all other calls.
 #[derive(Drop)]
 struct Shut {
     seat: u32,
@@ -160,7 +160,7 @@ impl Shut {
         }
     }
 
-    /// Decides whether the calls asked this often.
+    /// Decides whether each count is as wanted.
     fn was_asked(&self, wanted: &[u32]) -> bool {
         self.counts
             .iter()
@@ -202,7 +202,7 @@ fn a_gate_that_refuses_a_call_ends_only_its_program(rt: HostRuntime) {
     }
 }
 
-/// Opens a set with three seats. Returns seat 2, which has gathered seat 1, and then seat 0.
+/// Opens a set with three seats. Returns two seats: seat 2, which has gathered seat 1, and seat 0.
 fn two_before_zero<M: Running, R: Abort>(rt: &R, alloc: Global) -> (LiveSet<M>, Vec<Seat<M>>) {
     let (set, mut seats) = in_a_row::<M, R>(rt, alloc, 3);
     let mut two = last_of(rt, &set, &mut seats);

@@ -2,7 +2,7 @@
 
 use crate::opened::{close_with, gathered, increasing_keys, keys_left, last_of, make_calls};
 use crate::prelude::*;
-use crate::sizes::{Draws, Sizes, runs_beside_models};
+use crate::program_sizes::{Draws, Sizes, runs_beside_models};
 
 /// Calls on a set with the opening key 9 and without a slot.
 const CALLS_ON_A_KEY: [(Call, Reply); 3] = [

@@ -89,8 +89,8 @@ fn close_with_a_missing_seat_returns_set_and_seat(rt: HostRuntime) {
     at_each_list!(comes_back, rt);
 }
 
-/// Copies a receipt three times. One is dropped, one is taken by the other seat, one by its own seat, and one still
-/// exists when the set is closed.
+/// Copies a receipt three times. Of the four receipts one is dropped, one is taken by the other seat, one by its own seat,
+/// and one still exists when the set is closed.
 fn are_passed_on<M: Running, R: Host>(rt: &R, alloc: Global) {
     let (set, mut zero, mut one) = two_seats::<M, R>(rt, alloc);
     make_calls(rt, &set, &mut one, &ADDS);
@@ -110,7 +110,8 @@ fn receipts_can_be_copied_dropped_and_taken(rt: HostRuntime) {
     at_each_list!(are_passed_on, rt);
 }
 
-/// A receipt of a seat that has seen less changes nothing. A receipt covers what its seat had seen when it was made.
+/// Asserts that a receipt of a seat that has seen less changes nothing. A receipt covers what its seat had seen when the
+/// receipt was made.
 fn may_be_old<M: Running, R: Host>(rt: &R, alloc: Global) {
     let (set, mut zero, mut one) = two_seats::<M, R>(rt, alloc);
     let early = set.receipt(&mut zero);

@@ -1,5 +1,5 @@
-//! Two calls on a running set. One stops between two of its steps until the other has ended or waits. Each case runs
-//! with the loops of the list and with the interpreter of its table.
+//! Two calls on a running set. One call stops between two of its steps until the other call has ended or waits. Each case
+//! runs with the loops of the list and with the interpreter of its table.
 
 use crate::meeting::{calls, comes};
 use crate::opened::two_seats_on;

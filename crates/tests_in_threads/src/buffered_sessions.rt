@@ -1,6 +1,6 @@
 //! Sessions whose answers are buffered: all lines that were read are answered before the next read.
 use crate::prelude::*;
-use crate::sessions::{end, held, held_buffered, one_seat, was_held};
+use crate::session_lines::{end, held, held_buffered, one_seat, was_held};
 use std::cell::Cell;
 
 /// How many bytes of answers were written, and whether at each read all lines before it had been answered.

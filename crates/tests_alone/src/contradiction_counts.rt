@@ -1,7 +1,7 @@
 //! Contradictions by counting: calls of a key between which the key has to change back more often than it can.
 
-use crate::made::{FIVE, reply_of};
 use crate::prelude::*;
+use crate::test_histories::{FIVE, reply_of};
 use lset_judge::{Count, find_count};
 use tool_judge::put_count;
 
@@ -15,7 +15,8 @@ fn ended(thread: u32, call: Call, begun: u64, end: u64, is_true: bool) -> Stream
     }
 }
 
-/// Returns an `add` that returned true between two calls of `contains`, and one `remove`, although two are needed.
+/// Returns calls that contradict each other: an `add` that returned true between two calls of `contains`, and one `remove`,
+/// although two are needed.
 fn two_looks() -> [StreamCall; 4] {
     [
         ended(3, Call::Contains(FIVE), 3176, 3177, true),

@@ -10,7 +10,7 @@ pub fn check(is_as_wanted: bool) -> Result<()> {
     }
 }
 
-/// The calls made so far.
+/// The progress of the program: its last call, and the call that returned `Memory`.
 #[derive(Drop)]
 pub struct Calls {
     /// The name of the last call.

@@ -13,7 +13,7 @@ pub const NEVER: usize = usize::MAX;
 /// A way in which a call of a device fails.
 #[derive(Clone, Copy)]
 pub enum Failure {
-    /// An error after which the loops of std call again.
+    /// An error after which the loops of std repeat the call.
     Interrupted,
     BrokenPipe,
     /// A write of no byte, or a flush that fails with `WriteZero`. Never used for readers: a read of no byte is the end

@@ -13,7 +13,7 @@ pub struct FailingReader<'a> {
 }
 
 impl<'a> FailingReader<'a> {
-    /// Starts at the begin of the text. If `fails_at` is 0, no read fails.
+    /// Returns a reader at the beginning of the text. If `fails_at` is 0, no read fails.
     pub fn new(text: &'a [u8], fails_at: u64) -> FailingReader<'a> {
         FailingReader {
             text,
@@ -49,7 +49,7 @@ pub struct FailingWriter {
 }
 
 impl FailingWriter {
-    /// Starts without bytes. If `fails_at` is 0, no write fails unless an allocation does.
+    /// Returns a writer that has accepted no bytes. If `fails_at` is 0, a write fails only if an allocation fails.
     pub fn new(alloc: Global, fails_at: u64) -> FailingWriter {
         FailingWriter {
             text: Vec::new(alloc),

@@ -1,7 +1,7 @@
 //! Functions of the libraries that allocate, at each size from 0 to 200: each succeeds, with the right answer.
 
-use crate::made::{in_turn, increasing_keys};
 use crate::prelude::*;
+use crate::test_histories::{in_turn, increasing_keys};
 use lset_judge::{Judged, judge};
 use lset_recording::RecordingReader;
 use lset_report::{read_report, write_report};

@@ -3,10 +3,10 @@
 use crate::clients::{all_meet, asks, leaves, meets};
 use crate::opened::last_of;
 use crate::prelude::*;
-use crate::sessions::{ANSWERS, CEILINGS, FOUND, LINES};
+use crate::session_lines::{ANSWERS, CEILINGS, FOUND, LINES};
 use lset_server::{ServeCause, Served, serve};
 
-/// The sets of these tests.
+/// The kind of set that the servers serve.
 type Set = LiveSet<LazyList>;
 
 /// Opens an empty set with a quota of 4 and `seats` seats.
@@ -107,7 +107,7 @@ fn meets_on_each_seat<R: Host + Net<Listener = TcpListener, Stream = TcpStream>>
     made(rt, &served, u64::from(sessions), u64::from(sessions), &[]);
 }
 
-/// Fewer sessions than seats, as many as seats, and more.
+/// Serves fewer sessions than seats, as many sessions as seats, and more.
 #[test]
 fn as_many_sessions_as_seats_are_served_at_once(rt: HostRuntime) {
     for (seats, sessions) in [(2, 1), (3, 3), (5, 7), (64, 65)] {

@@ -1,7 +1,9 @@
 //! Sessions in which one read or one write fails, each in turn.
-use crate::devices::{FailingReader, FailingWriter};
 use crate::prelude::*;
-use crate::sessions::{ANSWERS, CEILINGS, LINES, end, held, held_buffered, one_seat, was_held};
+use crate::session_devices::{FailingReader, FailingWriter};
+use crate::session_lines::{
+    ANSWERS, CEILINGS, LINES, end, held, held_buffered, one_seat, was_held,
+};
 
 /// Asserts that a session ends at write number `at`, after `calls` calls.
 fn write_fails<R: Host>(rt: &R, alloc: Global, lines: &[u8], answers: &[u8], at: u64, calls: u64) {

@@ -1,8 +1,8 @@
 //! Sessions on sets of their own: lines and their answers.
 
-use crate::devices::{FailingReader, GenerousReader, GreedyWriter};
 use crate::opened::{last_of, two_seats};
 use crate::prelude::*;
+use crate::session_devices::{FailingReader, GenerousReader, GreedyWriter};
 
 /// The six lines of a first session, and their answers.
 pub const LINES: &[u8] = b"ADD 7\nADD 7\nCONTAINS 7\nMOVE 7\nREMOVE 7\nQUIT\n";
@@ -21,7 +21,7 @@ pub fn one_seat<R: Abort>(rt: &R, alloc: Global) -> (LiveSet<LazyList>, Seat<Laz
     (set, seat)
 }
 
-/// Holds a session on a new set. Returns what it writes, and how it ends.
+/// Holds a session on a new set. Returns the written answers and the end of the session.
 pub fn held<R: Host, I: Source>(rt: &R, alloc: Global, reader: &mut I) -> (Vec<u8>, Ended) {
     let (set, mut seat) = one_seat(rt, alloc);
     let mut written = Vec::new(alloc);
@@ -29,7 +29,7 @@ pub fn held<R: Host, I: Source>(rt: &R, alloc: Global, reader: &mut I) -> (Vec<u
     (written, ended)
 }
 
-/// Holds a session with buffered answers on a new set. Returns what it writes, and how it ends.
+/// Holds a session with buffered answers on a new set. Returns the written answers and the end of the session.
 pub fn held_buffered<R: Host, I: Source + Drop>(
     rt: &R,
     alloc: Global,
@@ -55,8 +55,8 @@ pub fn was_held<R: Abort>(rt: &R, session: &(Vec<u8>, Ended), answers: &[u8], en
 /// A text, its answers, the reason of the end and the number of calls.
 type Row = (&'static [u8], &'static [u8], EndReason, u64);
 
-/// Asserts the answers to each text, each on a set of its own. They are the same for a buffered session, and for any
-/// pieces in which the text arrives.
+/// Asserts the answers to each text, each on a set of its own. The answers are the same for a buffered session, and if the
+/// text arrives in pieces of any size.
 fn are_answered<R: Host>(rt: &R, alloc: Global, rows: &[Row]) {
     for &(text, answers, why, calls) in rows {
         let ended = end(why, calls);
@@ -223,7 +223,7 @@ fn a_session_makes_few_reads_and_writes(rt: HostRuntime) {
     makes_few(&rt, rt.alloc(), &text, true);
 }
 
-/// A write of nothing succeeds.
+/// A write of an empty text succeeds. The next write still reaches the writer.
 #[test]
 fn a_write_of_nothing_succeeds(rt: HostRuntime) {
     let mut device = Device::new(GreedyWriter {

@@ -1,8 +1,8 @@
-//! Recorded calls: which fault is returned for a call that has several, and which two calls are named if no order
-//! exists.
+//! Judging recorded calls: the error that is returned for a call with several errors, and the two calls that are named if
+//! no order exists.
 
-use crate::made::{FIVE, reply_of};
 use crate::prelude::*;
+use crate::test_histories::{FIVE, reply_of};
 
 fn add_of_six(thread: u32, begun: u64, ended: Option<(u64, Reply)>) -> StreamCall {
     StreamCall {
@@ -33,8 +33,8 @@ fn not_plain(made: (Call, Reply), begun: u64, end: u64) -> StreamCall {
     }
 }
 
-/// Returns calls to add after a call of thread 3 from moment 2 to 7, each with the fault that must be returned. Each
-/// call also has the faults that are checked later, as far as one call can.
+/// Returns calls to add after a call of thread 3 from moment 2 to 7, each with the error that must be returned. Each
+/// call also has the errors that are checked later, if one call can have them.
 fn with_faults(made: (Call, Reply)) -> [(StreamCall, StreamFault); 10] {
     let late = LAST_MOMENT + 1;
     [
@@ -62,11 +62,11 @@ fn the_first_fault_of_a_call_is_named(rt: HostRuntime) -> Result<(), Fail> {
     }
     let taken = add_of_six(3, 5, Some((7, Reply::False)));
     assert_eq!(rt; judge.add(taken), Err(StreamFault::Taken));
-    // a later pending call has the same end, and an earlier call of the thread overlaps
+    // Two errors: another call has the same end, and an earlier call of the thread overlaps.
     judge.add(add_of_six(4, 3, Some((8, Reply::True))))?;
     let both = add_of_six(3, 5, Some((8, Reply::True)));
     assert!(rt; judge.add(both) == Err(StreamFault::Taken));
-    // an earlier call ends where this one begins, and a pending call of the thread overlaps
+    // Two errors: another call ends at the begin of this call, and an earlier call of the thread overlaps.
     judge.add(add_of_six(5, 4, Some((6, Reply::True))))?;
     let begins_taken = add_of_six(3, 6, Some((9, Reply::True)));
     assert!(rt; judge.add(begins_taken) == Err(StreamFault::Taken));

@@ -4,7 +4,8 @@ use lset_history::{History, HistoryFault, Oracle};
 use lset_steps::{Event, StepFault, World};
 use lset_words::layout;
 
-/// Adds a key, at most 5. The add of 5 takes 15 steps; a step after the end of a call is refused as `Idle`.
+/// Adds a key, at most 5, with 15 steps. The add of 5 needs 15; after the end of a shorter call the steps return `Idle`, which
+/// is ignored.
 fn add(world: &mut World<CoarseList>, key: u32) -> Result<(), StepFault> {
     world.step(Event::Begin(0, Call::Add(Key(key))))?;
     for _ in 0..15 {
