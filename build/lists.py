@@ -34,7 +34,7 @@ CODE = {
     "crates/lset_text/specs/Spellings.antt": ['kind_text kind.{kind} = codes "{word}"', "kind.{kind} ∷"],
     "crates/lset_lists/specs/Tables.antt": ["table_of kind.{kind} = {table}"],
     "crates/lset_lists/src/lib.rt": ["impl List for {type}", "Kind::{kind} => task.run::<{type}>()"],
-    "crates/lset_live/src/running.rt": ["impl Running for {type}"],
+    "crates/lset_live/src/running_machine.rt": ["impl Running for {type}"],
     "crates/tool_replay/src/trace/running.rt": ["Kind::{kind} => trace_on::<{type}"],
     "crates/tool_threads/src/running.rt": ["Kind::{kind} => run_rounds::<{type}"],
     "crates/tool_threads/src/serving.rt": ["Kind::{kind} => serve_list::<{type}"],

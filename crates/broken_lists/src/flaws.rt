@@ -10,7 +10,7 @@ use crate::lists::BrokenList::{
     HandOverHand, Lock, Mark, MarkAtKey, MarkInAdd, MarkInCeiling, MarkInContains, MarkInRemove,
     MarksInValidation, NewSlot, SameNode, SecondLock, SecondWalk,
 };
-use crate::{fine, lock_free, optimistic};
+use crate::{broken_fine, broken_lock_free, broken_optimistic};
 use lset_steps::reads::{begun_reading, continued};
 use lset_steps::rows::{begun as begun_at, lock_index};
 use lset_steps::{Action, Fed, Local};
@@ -50,7 +50,7 @@ pub(crate) fn next_action(broken: BrokenList, local: &Local) -> Action
         SecondLock | HandOverHand => lset_fine::next_action(local),
         SecondWalk | SameNode => lset_optimistic::next_action(local),
         MarksInValidation | MarkInContains | MarkInCeiling => lset_lazy::next_action(local),
-        MarkInAdd => lock_free::next_whatever_mark(local),
+        MarkInAdd => broken_lock_free::next_whatever_mark(local),
         NewSlot => lset_lock_free::next_action(&Local { used: 0, ..*local }),
         Mark | MarkInRemove | MarkAtKey => lset_lock_free::next_action(local),
     }
@@ -62,18 +62,18 @@ pub(crate) fn fed_by(broken: BrokenList, local: &Local, seen: u64) -> Fed
     match broken {
         Lock if local.pc == 1 => lset_coarse::fed_by(local, 0),
         Lock => lset_coarse::fed_by(local, seen),
-        SecondLock => fine::fed_with_one_lock(local, seen),
-        HandOverHand => fine::fed_pred_first(local, seen),
-        SecondWalk => optimistic::fed_without_walk(local, seen),
-        SameNode if local.pc == 7 => continued(optimistic::arrived_by_key(seen, local)),
+        SecondLock => broken_fine::fed_with_one_lock(local, seen),
+        HandOverHand => broken_fine::fed_pred_first(local, seen),
+        SecondWalk => broken_optimistic::fed_without_walk(local, seen),
+        SameNode if local.pc == 7 => continued(broken_optimistic::arrived_by_key(seen, local)),
         SameNode => lset_optimistic::fed_by(local, seen),
         MarksInValidation => {
             lset_lazy::fed_by(local, without_mark(6, local, without_mark(7, local, seen)))
         }
         MarkInContains => lset_lazy::fed_by(local, without_mark(22, local, seen)),
         MarkInCeiling => lset_lazy::fed_by(local, without_mark(25, local, seen)),
-        Mark => lock_free::fed_without_mark(local, seen),
-        MarkInAdd => lock_free::fed_whatever_mark(local, seen),
+        Mark => broken_lock_free::fed_without_mark(local, seen),
+        MarkInAdd => broken_lock_free::fed_whatever_mark(local, seen),
         MarkInRemove => lset_lock_free::fed_by(local, without_mark(9, local, seen)),
         MarkAtKey => lset_lock_free::fed_by(local, without_mark(22, local, seen)),
         NewSlot => lset_lock_free::fed_by(local, seen),
@@ -88,8 +88,8 @@ pub(crate) fn effect_of(broken: BrokenList, local: &Local, seen: u64) -> Option<
         SecondLock | HandOverHand => lset_fine::effect_of(local, seen),
         SecondWalk | SameNode => lset_optimistic::effect_of(local, seen),
         MarksInValidation | MarkInContains | MarkInCeiling => lset_lazy::effect_of(local, seen),
-        Mark => lock_free::effect_without_mark(local, seen),
-        MarkInAdd => lock_free::effect_whatever_mark(local, seen),
+        Mark => broken_lock_free::effect_without_mark(local, seen),
+        MarkInAdd => broken_lock_free::effect_whatever_mark(local, seen),
         MarkInRemove => lset_lock_free::effect_of(local, without_mark(9, local, seen)),
         MarkAtKey => lset_lock_free::effect_of(local, without_mark(22, local, seen)),
         NewSlot => lset_lock_free::effect_of(local, seen),

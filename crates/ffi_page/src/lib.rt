@@ -2,18 +2,18 @@
 //!
 //! Each function writes the output of the program (or a record of it), or the line about an error, to the front of `room`. It returns the
 //! length of the text in bytes, and sets `status` to the program's exit status: 0; 1 if something is wrong with the text; 2 if a name is wrong;
-//! 3 if an allocation failed. If `room` is too short, nothing is written to it: call again with a room of the returned length. No function
+//! 3 if an allocation failed. If `room` is too short, nothing is written to it: call again with a buffer of the returned length. No function
 //! keeps state. Only `listset_judge_from` and `listset_why_from` block.
 #![tactic(auto)]
 
 mod diagnosing;
-mod explaining;
-mod generating;
 mod handing;
 mod host;
+mod page_arguments;
+mod page_explanations;
+mod page_pictures;
+mod page_schedules;
 mod records;
-mod showing;
-mod words;
 
 ghost use Rattle.tool_replay.specs.Replaying.{ReplaysText};
 ghost use Rattle.tool_replay.specs.Checking.{ChecksText};
@@ -23,19 +23,19 @@ ghost use Rattle.tool_judge.specs.Judging.{Judges};
 ghost use Rattle.ffi_page.specs.Page.{Hands, OfText, OfWords};
 
 use diagnosing::{diagnose_file, diagnose_recording, diagnose_text};
-use explaining::{explain_by, fault_by};
-use generating::generate_by;
 use handing::hand;
 use host::HostInput;
+use page_explanations::{explain_by, fault_by};
+use page_pictures::{draw_text, example_by, run_broken};
+use page_schedules::generate_by;
 use records::{judge_recording, judge_report};
-use showing::{draw_text, example_by, run_broken};
 use std::alloc::Global;
 use tool_base::{answer_text, list_faults};
 use tool_judge::{judge_bytes, judge_input};
 use tool_replay::{Check, Expand, Replay, Trace};
 
-/// Replays a schedule: writes its report; or the line about the first error of the text, the first event that is not enabled,
-/// or a text of more than 67,108,864 bytes.
+/// Replays a schedule: writes its report. If the text has an error or more than 67,108,864 bytes, or an event is not enabled,
+/// writes the line about the first error.
 #[unsafe(no_mangle)]
 pub extern "C" fn listset_replay(
     alloc: Global,
@@ -48,8 +48,8 @@ pub extern "C" fn listset_replay(
     hand(answer_text(alloc, &Replay {}, text), room, status)
 }
 
-/// Judges a recording: writes `ok N calls` and lines about the recording if some order explains it; `not linearizable`, with the calls
-/// that show it and status 1, if no order does; or the line about the first error of the text.
+/// Judges a recording. If some order explains it, writes `ok N calls` and lines about the recording. If no order does, writes
+/// `not linearizable` and the calls that show it, with status 1. If the text has an error, writes the line about the first error.
 #[unsafe(no_mangle)]
 pub extern "C" fn listset_judge(
     alloc: Global,
@@ -72,7 +72,7 @@ pub extern "C" fn listset_judge_from(
     room: &mut [u8],
     status: &mut u8,
 ) -> usize
-    // (no contract says what a file has; that of `judge_input` says what is answered for all bytes that can be read)
+    // No contract states what a file contains. The contract of `judge_input` states the answer to any bytes that are read.
     ensures { Hands (λ _. Unit {0}) room.old room.new status.new result }
 {
     let mut input = HostInput { file };
@@ -139,8 +139,9 @@ pub extern "C" fn listset_why_from(
 
 /// Checks a report: writes the verdict as a record. The record is `verdict own` if the report's order explains it. Otherwise, with status 1, it
 /// is `order FAULT CALL ..` with the reply of the place, its number and the reply of the set, or the begin, the other call and its end; for
-/// `SetReply` and `WrongSet` `set K ..`; then the claim about all other orders: `verdict another`, `verdict unknown`, or `verdict none` with
-/// the lines of `listset_judge_record`. The error is a line as of `listset_check`.
+/// `SetReply` and `WrongSet` `set K ..`; then the claim about all other orders: `verdict another`, `verdict unknown` or `verdict none`. After
+/// `verdict none` comes `reply N` if no set returns the reply of call N, nothing if the report's keys do not increase, and otherwise the lines
+/// of `listset_judge_record`. The error is a line as of `listset_check`.
 #[unsafe(no_mangle)]
 pub extern "C" fn listset_check_record(
     alloc: Global,
@@ -153,8 +154,8 @@ pub extern "C" fn listset_check_record(
     hand(judge_report(alloc, text), room, status)
 }
 
-/// Checks a report: writes `ok`, or the first fault of its order with status 1; or the line about the first error of the text,
-/// or a text that is too long.
+/// Checks a report: writes `ok` or, with status 1, the first error of its order. If the text has an error or is too long, writes the
+/// line about the first error.
 #[unsafe(no_mangle)]
 pub extern "C" fn listset_check(
     alloc: Global,
@@ -167,8 +168,8 @@ pub extern "C" fn listset_check(
     hand(answer_text(alloc, &Check {}, text), room, status)
 }
 
-/// Traces a schedule: writes its trace up to the first event that is not enabled, if there is one with status 1; or the line
-/// about the first error of the text, or a text that is too long.
+/// Traces a schedule: writes its trace. If an event is not enabled, the trace ends before it and the status is 1. If the
+/// text has an error or is too long, writes the line about the first error.
 #[unsafe(no_mangle)]
 pub extern "C" fn listset_trace(
     alloc: Global,
@@ -202,9 +203,9 @@ pub extern "C" fn listset_trace_with_chains(
     hand(answer_text(alloc, &tool, text), room, status)
 }
 
-/// Draws a schedule or a report: writes the picture, with status 1 if the order of the report is refused or an event of the
-/// schedule is not enabled; or the line about the first error of the text, or a text that is too long. A schedule is drawn up
-/// to the event that is not enabled.
+/// Draws a schedule or a report: writes the picture. The status is 1 if the order of the report is refused or an event of the
+/// schedule is not enabled. A schedule is drawn up to the event that is not enabled. If the text has an error or is too long,
+/// writes the line about the first error.
 ///
 /// The options are the values of `--from`, `--to` and `--width`, in this order, with a zero byte between two. A value comes after
 /// `=`; an option that is empty, or missing at the end, is not given. For a wrong option the line is `listset: bad FROM` (or `TO`,
@@ -236,10 +237,11 @@ pub extern "C" fn listset_show_svg(
     hand(draw_text(alloc, text, true, options), room, status)
 }
 
-/// What a command prints of a schedule that is run on the broken list of this name (`--lacks NAME`). The words are, with a zero byte
-/// between two, the command, `replay`, `trace`, `trace_with_chains`, `show` or `show_svg`, and then options as those of `listset_show`. The
-/// report's order is judged by `show` alone, whose last lines say whether another order explains it. The error is a line as of the command
-/// on the whole list, `listset: bad NAME: ..` with status 2 if no list has the name, or the first error of a schedule of another list.
+/// Runs a schedule on the broken list with this name, as `--lacks NAME` does, and writes what the command prints. The words are the command
+/// (`replay`, `trace`, `trace_with_chains`, `show` or `show_svg`), then the options of `listset_show`, with a zero byte between two words. Only
+/// `show` and `show_svg` judge the report's order. If the order is refused, the last lines of `show` state whether another order explains the
+/// report. The errors are those of the command on the intact list; `listset: bad NAME: ..`, with status 2, if no list has the name; and
+/// `Kind` in line 2 if the schedule names another list.
 #[unsafe(no_mangle)]
 pub extern "C" fn listset_lacking(
     alloc: Global,
@@ -254,8 +256,8 @@ pub extern "C" fn listset_lacking(
     hand(run_broken(alloc, name, text, words), room, status)
 }
 
-/// Turns a draft into a schedule: writes the schedule; or the line about the first error of the text, the first line that does
-/// not become a line of a schedule, or a text that is too long.
+/// Turns a draft into a schedule: writes the schedule. If the text has an error or is too long, or a line does not become a line
+/// of a schedule, writes the line about the first error.
 #[unsafe(no_mangle)]
 pub extern "C" fn listset_draft(
     alloc: Global,
@@ -268,8 +270,8 @@ pub extern "C" fn listset_draft(
     hand(answer_text(alloc, &Expand {}, text), room, status)
 }
 
-/// Generates a random schedule for arguments with a zero byte between two: writes the schedule; or `listset: bad NAME`, with
-/// status 2, for the first argument that is missing or wrong.
+/// Generates a random schedule for arguments with a zero byte between two: writes the schedule. If an argument is missing or wrong,
+/// writes `listset: bad NAME` for the first one, with status 2.
 #[unsafe(no_mangle)]
 pub extern "C" fn listset_gen(
     alloc: Global,
@@ -290,8 +292,8 @@ pub extern "C" fn listset_faults(alloc: Global, room: &mut [u8], status: &mut u8
     hand(list_faults(alloc), room, status)
 }
 
-/// Explains a cause: writes the lines of `listset faults CAUSE`; or `listset: bad CAUSE`, with status 2, if no message has the
-/// cause.
+/// Explains a cause: writes the lines of `listset faults CAUSE`. If no message has the cause, writes `listset: bad CAUSE`, with
+/// status 2.
 #[unsafe(no_mangle)]
 pub extern "C" fn listset_fault(
     alloc: Global,
@@ -304,8 +306,8 @@ pub extern "C" fn listset_fault(
     hand(fault_by(alloc, cause), room, status)
 }
 
-/// Explains a text, as of a file with this name: writes its kind, its first line with an error, what is wrong there, and what to
-/// do.
+/// Explains the text of a file that has this name: writes the kind of the file, the first line with an error, the error, and how
+/// to correct it.
 #[unsafe(no_mangle)]
 pub extern "C" fn listset_explain(
     alloc: Global,
@@ -319,7 +321,7 @@ pub extern "C" fn listset_explain(
     hand(explain_by(alloc, file, text), room, status)
 }
 
-/// Writes the names of the examples, each with its list and a line about it.
+/// Writes the name of each example, with its list and a line that describes it.
 #[unsafe(no_mangle)]
 pub extern "C" fn listset_examples(alloc: Global, room: &mut [u8], status: &mut u8) -> usize
     ensures { Hands (λ _. Unit {0}) room.old room.new status.new result }
@@ -327,7 +329,7 @@ pub extern "C" fn listset_examples(alloc: Global, room: &mut [u8], status: &mut 
     hand(example_by(alloc, None, false), room, status)
 }
 
-/// Writes the schedule of the example with this name, or `listset: bad NAME` with status 2.
+/// Writes the schedule of the example with this name. If no example has the name, writes `listset: bad NAME`, with status 2.
 #[unsafe(no_mangle)]
 pub extern "C" fn listset_example(
     alloc: Global,
@@ -340,8 +342,8 @@ pub extern "C" fn listset_example(
     hand(example_by(alloc, Some(name), false), room, status)
 }
 
-/// Writes the report that a broken list would make of the example with this name; or `listset: bad NAME` with status 2, also if
-/// the example has no broken report.
+/// Writes the report of a broken list for the example with this name. If no example has the name, or the example has no broken
+/// report, writes `listset: bad NAME`, with status 2.
 #[unsafe(no_mangle)]
 pub extern "C" fn listset_broken_example(
     alloc: Global,

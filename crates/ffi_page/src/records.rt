@@ -19,7 +19,7 @@ fn put_side(out: &mut String, side: &str, made: Option<StreamCall>) -> Result<()
     put_call(out, call)
 }
 
-/// Writes a clash: whether the first call, or the opening state, leaves the key present, and the calls.
+/// Writes a clash: whether the key is present after the first call (or in the opening state), and the two calls.
 fn put_clash(out: &mut String, clash: Clash) -> Result<(), AllocError> {
     let was = clash.was == Presence::Present;
     writeln!(out, "clash {was}")?;
@@ -49,7 +49,7 @@ fn put_set(out: &mut String, keys: &[u32]) -> Result<(), AllocError> {
     out.push_str("\n")
 }
 
-/// Writes the fault of an order, and the keys of the set at that place.
+/// Writes the error of an order, and the keys of the set at the place of the error.
 fn put_order(out: &mut String, refusal: &OrderRefusal) -> Result<(), AllocError> {
     match refusal {
         OrderRefusal::Unknown { call, .. } => writeln!(out, "order Unknown {call}"),
@@ -124,8 +124,8 @@ pub fn judge_recording(alloc: Global, text: &[u8]) -> Result<Answer, Trouble> {
     })
 }
 
-/// Judges a report. The answer is a record: `verdict own`, or the fault of its order and the claim about all other orders. The errors are those
-/// of `Check`.
+/// Judges a report. The answer is a record: `verdict own`, or the error of the report's order and the claim about all other orders. The
+/// errors are those of `Check`.
 pub fn judge_report(alloc: Global, text: &[u8]) -> Result<Answer, Trouble> {
     let input = Input::new(text)?;
     let report = read_report(alloc, input.bytes())?;

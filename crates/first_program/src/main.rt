@@ -1,8 +1,8 @@
 //! A first program that uses the library.
 //!
 //! One thread calls a set of its own. Two threads share a set, the set is closed, and a set of another list opens with
-//! the final keys. The program starts two threads itself, and a receipt orders their calls. At last it replays a
-//! recorded schedule.
+//! the final keys. The program starts two threads itself, and a receipt orders their calls. Finally it replays
+//! a recorded schedule.
 #![tactic(auto)]
 
 ghost use Rattle.std.specs.Prelude.{◌≡◌, [], ◌∷◌, IfOk, map};
@@ -54,8 +54,8 @@ fn two_threads<M: Running + Send + Sync + Drop, R: Threads + Wait + Sync>(
     first: [Call; 2],
     second: [Call; 2],
 ) -> Result<Outcome>
-    // one legal order has exactly these calls with these replies, each thread's calls in their order, and leaves the
-    // keys
+    // One legal order has exactly these calls with these replies, keeps the order of each thread's calls, and leaves
+    // the final keys.
     ensures { IfOk result (λ o. IsOneLegalOrder (record { threads = 2; quota = 2; keys = keys.now })
         (worked (fresh 0 ∷ fresh 1 ∷ []) (first ∷ second ∷ []) (map (λ v. v.items) o.replies.items)) o.keys.items) }
 {
@@ -92,9 +92,9 @@ fn add_and_tell<M: Running, R: Wait>(
     (seat, receipt)
 }
 
-/// Starts two threads, each of which adds a key to one LazyList with a quota of one for each thread. Seat one then
-/// takes the receipt of seat zero and looks for the key of seat zero. Every order that `close` promises has that `add`
-/// before.
+/// Starts two threads on one LazyList, with a quota of one for each thread. Each thread adds a key. Seat one then takes
+/// the receipt of seat zero and looks for the key of seat zero. In every order that `close` promises, seat zero's `add`
+/// comes before this `contains`.
 fn started_threads<R: Threads + Wait + Sync + Print>(rt: &R, alloc: Global) -> Result<()> {
     let (set, mut seats) = open::<LazyList>(alloc, 2, 1)?;
     let (Some(one), Some(zero)) = (seats.pop(), seats.pop()) else {
@@ -122,7 +122,7 @@ fn started_threads<R: Threads + Wait + Sync + Print>(rt: &R, alloc: Global) -> R
 
 /// Replays a schedule and returns its report.
 fn replay_text(alloc: Global, text: &str) -> Result<Report>
-    // the text is a schedule's, and the report's order linearizes its calls and leaves its keys
+    // The text is the text of a schedule. The report's order linearizes its calls and leaves its keys.
     ensures { IfOk result (λ r. (p : Plan) × IsSchedule p × (text.now ≡ schedule_text p) × IsExplained (view r)) }
 {
     let schedule = read_schedule(alloc, text.as_bytes())?;
@@ -132,7 +132,7 @@ fn replay_text(alloc: Global, text: &str) -> Result<Report>
 fn main(rt: HostRuntime) -> Result<()> {
     let alloc = rt.alloc();
     one_thread(&rt, alloc)?;
-    // the runtime starts threads only if `main` itself passes `rt` on
+    // Threads can be started only if `main` itself passes `rt` to the functions that start them.
     let (left, again) = two_lives(&rt, alloc)?;
     println!(rt;
         "the replies {:?} leave the keys {:?}",

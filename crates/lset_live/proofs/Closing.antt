@@ -1,4 +1,4 @@
--- The facts of the last words, for a seat with all threads.
+-- The words of a closed set have the facts `HasLaws`. The seat that closed it held all seats.
 use Rattle.std.proofs.Common.{◌≡◌, inl, ℕ, zero, suc, ◌+◌, ◌/◌, ◌<◌, false, List, [], ◌∷◌, map, length, None, refl, sym, ap, ◌∙◌}
 use Rattle.std.proofs.Common.{subst, arith}
 use mathlib.Core.Option.{some, some-injective, some-ne-none}
@@ -29,13 +29,13 @@ use Rattle.lset_words.specs.Records.{Keeps}
 use Rattle.lset_live.specs.Dated.{record_of}
 use Rattle.lset_live.specs.Explained.{IsOneLegalOrder, IsOneOrderInTime}
 use Rattle.lset_live.specs.Closes.{LastWords, HasKeys, HasLaws, IsLast}
-use Rattle.lset_live.proofs.Dated.{in_named, said_by}
+use Rattle.lset_live.proofs.DatedRecords.{in_named, said_by}
 use Rattle.lset_live.proofs.OrderKeepsRecord.{calls_by_is}
 use Rattle.lset_live.proofs.PastCalls.{none_in}
 use Rattle.lset_live.proofs.SeenExplained.{own, order, explains, turns, kept}
 
 -- THE KEYS OF SOME WORDS
--- Chain and keys depend on the key words and the link words alone.
+-- The chain and its keys depend only on the key words and the link words.
 module _ (sz : Sizes) (ws : List ℕ) (used other : ℕ → ℕ) where
   same_segment : (i : ℕ) (ns : List ℕ) (j : ℕ) → Segment (view sz ws used) i ns j → Segment (view sz ws other) i ns j
   same_segment i [] j s = s
@@ -109,7 +109,7 @@ module _ (T : Table) (law : Lawful T) (v : View) (st : Stands T v) (idle : v.und
     is = refl;
   }
 
--- The facts of the words with which a table is closed
+-- The facts of a table's words when the table is closed
 module _ (T : Table) (law : Lawful T) (v : View) (st : Stands T v) (sp : v.spent ≡ false) (idle : v.under ≡ None) (k : Opening)
     (shape : v.shape ≡ k)
     (full : length v.others + 1 ≡ k.threads) (id : ℕ) (ws : List ℕ) (xs : List (Unit {0})) (final : Final (Seen (Holds T k) id v) ws xs) where

@@ -25,7 +25,7 @@ use Rattle.lset_rule.specs.Pasts.{calls_of, root}
 use Rattle.lset_rule.specs.Runs.{Here, done_at, done_next, ending, own, under_after, under_at, under_next}
 use Rattle.lset_rule.proofs.OneMoreEvent.{Tied, tied}
 use Rattle.lset_live.specs.Dated.{record_of}
-use Rattle.lset_live.proofs.Dated.{root_is}
+use Rattle.lset_live.proofs.DatedRecords.{root_is}
 use Rattle.lset_live.proofs.SeenExplained.{seat_at}
 use Rattle.lset_live.specs.Explained.{HasMadeAtMost}
 use Rattle.lset_live.specs.Seats.{SeatValue, SetValue}
@@ -121,7 +121,7 @@ module _ (T : Table) (law : Lawful T) (reads : BoundedReads T) (key : Key) (v : 
       m.same.1 (subst (λ u. steps_since (event_at w.seen) u (length w.seen) ≤ most_reads (sizes w.shape))
       (sym (root_is v.past ∙ rooted)) within_shape)
 
--- From the values of the set and of its seat
+-- The bound on steps, for the values of a set and its seat that contracts see
 pub few_steps : (T : Table) → Lawful T → BoundedReads T → (key : Key) (s : TableSeat) (r : Reply) (s' : TableSeat)
     → Makes T (Contains key) s.me.0 r s'.me.0 → (set : SetValue) (old : SeatValue) → seat_at s ≡ old → old.set ≡ set
     → HasMadeAtMost (most_reads (sizes set.shape)) (thread_of old.past) s'.me.0.seen

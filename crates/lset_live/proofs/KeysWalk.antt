@@ -15,7 +15,7 @@ use Rattle.lset_steps.proofs.WalkedTo.{WalkedTo, unmarked_key, walk_starts, walk
 use Rattle.lset_live.specs.Closes.{LastWords, HasLaws, HasKeys, most_keys}
 use Rattle.lset_live.proofs.Closing.{same_content}
 
--- The walk has reached curr, and has these keys.
+-- The walk has reached node `curr`, and has collected the keys `items`.
 pub record Walks (c : LastWords) (items : List ℕ) (curr : ℕ) : Type 0 where
   pub laws : HasLaws c
   pub walked : WalkedTo (view c.sizes c.words laws.used) items curr
@@ -123,7 +123,7 @@ module _ (v : View) (ord : IsOrdered v) where
   unfolding IsDistinct
   one_more a ns out d = (out, d)
 
-  -- with the node that the walk has reached, and the tail
+  -- The nodes that were passed, the current node and the tail are different nodes of the table.
   few_nodes : (n : ℕ) → ((i : ℕ) → v.published i → i < n) → (ns : List ℕ) (curr : ℕ) → v.published curr → curr ≢ 1
       → Segment v 0 ns curr → length ns + 2 ≤ n
   few_nodes n inside ns curr p c s =
@@ -141,7 +141,7 @@ module _ (v : View) (ord : IsOrdered v) where
       (ord.tail_published, (p, published_all (v.key 0) (v.key curr) ns all))) in
       omega arith
 
--- The keys of the nodes after the head
+-- There are at most as many keys as nodes.
 few_keys : (v : View) (ns : List ℕ) → length (chain_keys v ns) ≤ length ns
 few_keys v [] = omega arith
 few_keys v (n ∷ ns) = let i = few_keys v ns in

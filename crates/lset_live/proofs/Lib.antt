@@ -1,6 +1,6 @@
-pub mod Records
+pub mod GatheredRecords
 pub mod ListsHandedOn
-mod Dated
+mod DatedRecords
 mod CallsOfThread
 mod PastCalls
 mod OrderKeepsRecord

@@ -22,13 +22,13 @@ all_rest rest rest' x P e all =
 pub all_more : {H : Type 0} (hs hs' : List H) (h : H) (P : H → Type 0) → hs' ≡ hs ++ h ∷ [] → All P hs → P h → All P hs'
 all_more hs hs' h P e all one = subst (All P) (sym e) (All-append P hs (h ∷ []) all (All-cons P h [] one (All-nil P)))
 
--- A total, after the share of one item is added
+-- A total stays the same if the share of one item is moved from the remaining items to the sum.
 pub held_next : {H : Type 0} (f : H → ℕ) (rest rest' : List H) (h : H) (a a' k total : ℕ) → rest ≡ h ∷ rest' →
     a + sum_by f rest ≡ total → a' ≡ a + k → k ≡ f h
     → a' + sum_by f rest' ≡ total
 held_next f rest rest' h a a' k total step before e is = omega (arith, before, e, is, ap (sum_by f) step ∙ sum_by-cons f h rest')
 
--- A function of items, applied to the values of the items
+-- Applying a function to the values of the items is applying it to the list of values.
 pub starts_map : {H T A : Type 0} (seat_of : H → T) (record_at : T → A) (hs : List H) (ss : List T) → map seat_of hs ≡ ss
     → map (λ h. record_at (seat_of h)) hs ≡ map record_at ss
 starts_map {H = H} {T = T} seat_of record_at hs ss e = one hs ∙ ap (map record_at) e

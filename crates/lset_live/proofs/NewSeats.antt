@@ -31,7 +31,7 @@ new_value z k t s new i = record {
   events = (new.1 i).0.seen;
 }
 
--- A further seat
+-- The list of new seats grows by the seat of thread t.
 pub seats_more : (z : TableId) (k : Opening) (t : ℕ) (s : Seat (Unit {0}) View) (before after : List SeatValue) →
     before ≡ map (new_seat (opened z k)) (range_with_len 0 t) → IsNew z k t s
     → after ≡ before ++ value_of s ∷ [] → after ≡ map (new_seat (opened z k)) (range_with_len 0 (t + 1))

@@ -1,4 +1,5 @@
--- An order that linearizes a history has the calls of each idle thread in sequence, and after the calls that ended before them.
+-- In an order that linearizes a history, the calls of each idle thread come in sequence. Each call comes after the calls that
+-- ended before it began.
 use Rattle.std.proofs.Common.{◌≡◌, ◌≢◌, ◌⊎◌, inl, inr, ⊎_elim, ℕ, zero, suc, ◌+◌, ◌<◌, ◌≤◌, ◌==◌, Bool, true, false, cond, List}
 use Rattle.std.proofs.Common.{[], ◌∷◌, ◌++◌, map, length, get_or, Option, Some, None, refl, sym, ap, ◌∙◌, subst, arith}
 use Rattle.std.proofs.Common.{append-nil, append_assoc}
@@ -22,7 +23,7 @@ use Rattle.lset_rule.specs.Pasts.{root, InOrder, Apart, IsIn, calls_of}
 use Rattle.lset_rule.proofs.RecordsOfRuns.{HasGathered}
 use Rattle.lset_words.specs.Records.{Follows, Keeps, KeepsItems, calls_by}
 use Rattle.lset_live.specs.Dated.{call_of, record_of}
-use Rattle.lset_live.proofs.Dated.{said_by, root_is, has_gathered, has_own}
+use Rattle.lset_live.proofs.DatedRecords.{said_by, root_is, has_gathered, has_own}
 use Rattle.lset_live.proofs.CallsOfThread.{of_thread, ended_record}
 use Rattle.lset_rule.proofs.RecordsOfRuns as dated
 use Rattle.lset_live.proofs.PastCalls.{EndsBefore, gathered_before, gathered_in, gathered_other, none_in, own_is, own_last}
@@ -84,7 +85,7 @@ in_numbers u n (suc k) (x ∷ xs) l h =
     by_test true c = contains-tail n (n + suc k) (numbers_of u (suc n) xs) c
     by_test false c = c
 
--- The calls with these numbers
+-- The calls with the numbers of a thread are the calls of the thread.
 numbers_map : {Y : Type 0} (g : CallRecord → Y) (u n : ℕ) (xs : List CallRecord) (f : ℕ → CallRecord) →
     ((k : ℕ) → k < length xs → f (n + k) ≡ get_or xs k no_call)
     → map (λ j. g (f j)) (numbers_of u n xs) ≡ map g (of_thread u xs)
@@ -110,7 +111,7 @@ numbers_map g u n (x ∷ xs) f h =
 from_zero : (k : ℕ) → 0 + k ≡ k
 from_zero k = omega arith
 
--- A fact of the calls of a thread, at a number
+-- A fact of all calls of a thread holds for the call with this number.
 at_thread : (P : CallRecord → Type 0) (u k : ℕ) (xs : List CallRecord) → AllByRecursion P (of_thread u xs) → k < length xs →
     (get_or xs k no_call).thread ≡ u → P (get_or xs k no_call)
 at_thread P u k [] a l h = absurd (omega arith)
@@ -141,7 +142,7 @@ pub map_said : (u : ℕ) (ds : List OwnCall) → map said (map (ended_record u) 
 map_said u [] = refl
 map_said u (d ∷ ds) = ap (λ l. said_by u d ∷ l) (map_said u ds)
 
--- Whether a place is a place of a thread's call
+-- Whether a place is the place of a call of the thread
 abbrev of_placed : List CallRecord → ℕ → Placed → Bool
 of_placed H u p = (call_numbered H p.call).thread == u
 
@@ -201,7 +202,7 @@ contains_in [] Q j a c = absurd (contains-nil j c)
 contains_in (x ∷ F) Q j a c = ⊎_elim (λ e. (x, a.0, e)) (λ d. contains_in F Q j a.1 d)
     (contains-cons x.call j (map (λ (r : Placed). r.call) F) c)
 
--- A fact of each place that passes a test
+-- A fact of all places holds for the places that pass a test.
 all_passing : (Q : Placed → Type 0) (b : Placed → Bool) (P : List Placed) → AllByRecursion Q P →
     AllByRecursion (λ p. Q p × (b p ≡ true)) (filter b P)
 all_passing Q b P a = all_both Q (λ p. b p ≡ true) (filter b P) (all_filter Q b P a) (all_left b P)

@@ -32,7 +32,7 @@ use Rattle.lset_words.specs.Records.{Keeps, thread_of}
 use Rattle.lset_live.specs.Dated.{record_of}
 use Rattle.lset_live.specs.Explained.{HasAnswered, IsAnswered, SeenIsLinearizable}
 use Rattle.lset_live.specs.Seats.{SeatValue, SetValue}
-use Rattle.lset_live.proofs.Dated.{root_is}
+use Rattle.lset_live.proofs.DatedRecords.{root_is}
 use Rattle.lset_live.proofs.CallsOfThread.{of_thread, ended_record, thread_records, MayBegin, thread_calls}
 use Rattle.lset_live.proofs.OrderKeepsRecord.{keeps}
 use Rattle.lset_words.specs.Words.{Opening}

@@ -68,7 +68,7 @@ pub ceiling_reply : (T : Table) (set : SetValue) (old : SeatValue) (k : Key) (r 
 ceiling_reply T set old k r new h =
     let l = given T set old (Ceiling k) r new h in of_ceiling k.0 l.0.keys r l.1
 
--- HasAnswered holds of an equal reply.
+-- `HasAnswered` also holds for an equal reply.
 pub stands_for : (T : Table) (set : SetValue) (old : SeatValue) (c : Call) (r : Reply) (new : SeatValue) →
     HasAnswered T set old c r new → (s : Reply) → s ≡ r → HasAnswered T set old c s new
 stands_for T set old c r new h s e = subst (λ z. HasAnswered T set old c z new) (sym e) h

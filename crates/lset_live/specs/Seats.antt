@@ -7,11 +7,11 @@ use Rattle.atomic_table.specs.Seated.{TableId}
 use Rattle.lset_words.specs.declared.Reply.{Reply}
 use Rattle.lset_words.specs.declared.Reply.TheVariants.{True, False}
 use Rattle.lset_words.specs.declared.Reply.TheVariants as reply
-use Rattle.lset_words.specs.declared.fault.LayoutFault.TheVariants as layout
+use Rattle.lset_words.specs.declared.layout_fault.LayoutFault.TheVariants as layout
 use Rattle.lset_words.specs.Words.{Sizes, IsWithin, RefusesSizes, Opening, Opens, sizes}
 use Rattle.lset_steps.specs.declared.Event.{Event}
-use Rattle.lset_live.specs.declared.fault.OpenFault.{OpenFault}
-use Rattle.lset_live.specs.declared.fault.OpenFault.TheVariants as fault
+use Rattle.lset_live.specs.declared.open_fault.OpenFault.{OpenFault}
+use Rattle.lset_live.specs.declared.open_fault.OpenFault.TheVariants as fault
 use Rattle.lset_words.specs.Records.{Record, fresh, gathered}
 
 -- A set: its table, its threads and its quota
@@ -40,14 +40,15 @@ new_seat set t = record { set = set; past = fresh t; held = 1; events = [] }
 abbrev pub IsOpened : SetValue → Opening → List SeatValue → Type 0
 IsOpened set opening seats = (set.shape ≡ opening) × (seats ≡ map (new_seat set) (range_with_len 0 opening.threads))
 
--- The error with which a set is not opened: the first size outside its limits, or Memory if all are within their limits
+-- The error of `open`: the first size that is outside its limits, or Memory if all are within their limits
 abbrev pub RefusesSeats : Sizes → OpenFault → Type 0
 RefusesSeats s fault.Seats = RefusesSizes s layout.Threads
 RefusesSeats s fault.Quota = RefusesSizes s layout.Quota
 RefusesSeats s fault.Memory = IsWithin s
 RefusesSeats s fault.Opening = ⊥
 
--- The error with which a set is not opened with keys: also if the keys do not increase strictly, or are too many
+-- The error of `open_with`: the first size that is outside its limits, Opening if the keys do not increase strictly or are too
+-- many, or Memory if nothing else is wrong
 abbrev pub RefusesOpening : Opening → OpenFault → Type 0
 RefusesOpening o fault.Seats = RefusesSizes (sizes o) layout.Threads
 RefusesOpening o fault.Quota = RefusesSizes (sizes o) layout.Quota

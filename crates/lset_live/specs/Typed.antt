@@ -3,8 +3,8 @@ use Rattle.std.specs.Prelude.{Option, Some, None}
 use Rattle.lset_words.specs.declared.Key.{Key}
 use Rattle.lset_words.specs.declared.Reply.{Reply}
 use Rattle.lset_words.specs.declared.Reply.TheVariants as reply
-use Rattle.lset_live.specs.declared.typed.Added.{Added}
-use Rattle.lset_live.specs.declared.typed.Added.TheVariants as added
+use Rattle.lset_live.specs.declared.typed_calls.Added.{Added}
+use Rattle.lset_live.specs.declared.typed_calls.Added.TheVariants as added
 
 -- The reply that a result of `Seat::add` stands for
 abbrev pub reply_of_add : Added → Reply

@@ -3,24 +3,24 @@
 
 mod bounded;
 mod closed;
-mod fault;
 mod gathering;
+mod live_set_calls;
+mod open_fault;
 mod opening;
 mod receipt;
-mod running;
+mod running_machine;
 mod seat;
 mod set;
-mod set_calls;
-mod typed;
+mod typed_calls;
 
 pub use bounded::Bounded;
 pub use closed::Closed;
-pub use fault::OpenFault;
 pub use lset_rule::{Countless, Pause, Rounds, Spin};
 pub use lset_words::SetCalls;
+pub use open_fault::OpenFault;
 pub use opening::{open, open_with};
 pub use receipt::{Receipt, receipts_keep_order};
-pub use running::{Running, RunningReads};
+pub use running_machine::{Running, RunningReads};
 pub use seat::Seat;
 pub use set::{LiveSet, SeatsOut};
-pub use typed::Added;
+pub use typed_calls::Added;

@@ -5,7 +5,7 @@ ghost use Rattle.lset_words.specs.Words.{empty, Opens};
 ghost use Rattle.lset_steps.specs.Steps.{opening_of};
 ghost use Rattle.lset_live.specs.Seats.{IsOpened, RefusesSeats, RefusesOpening};
 
-use crate::fault::OpenFault;
+use crate::open_fault::OpenFault;
 use crate::seat::Seat;
 use crate::set::LiveSet;
 use atomic_table::Table;

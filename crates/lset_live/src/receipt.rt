@@ -1,4 +1,4 @@
-//! Receipts: what a seat has seen, in a form that a message from one thread to another can carry.
+//! Receipts. A receipt states which events a seat has seen. It can be sent from one thread to another.
 ghost use Rattle.std.specs.Prelude.{◌≡◌};
 ghost use Rattle.lset_live.specs.Explained.{ReceiptsKeepOrder};
 ghost use Rattle.lset_rule.specs.Runs.{StartsWith};
@@ -34,7 +34,7 @@ impl<M: Machine> Model for Receipt<M> {
 }
 
 impl<M: Machine> LiveSet<M> {
-    /// Returns a receipt of what the seat has seen so far: its own calls, and what it has gathered or received. The seat must
+    /// Returns a receipt of the events that the seat has seen: its own, and those of gathered seats and receipts. The seat must
     /// belong to this set, and does not change. Neither blocks nor allocates.
     pub fn receipt(&self, seat: &mut Seat<M>) -> Receipt<M>
         requires { seat.old.set ≡ self.now }

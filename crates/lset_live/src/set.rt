@@ -16,9 +16,9 @@ ghost use Rattle.lset_live.specs.Seats.{reply_of};
 
 use crate::bounded::Bounded;
 use crate::closed::Closed;
-use crate::running::{Running, RunningReads};
+use crate::running_machine::{Running, RunningReads};
 use crate::seat::Seat;
-use crate::typed::truth_of;
+use crate::typed_calls::truth_of;
 use atomic_table::Table;
 use lset_lists::runs_are_linearizable;
 use lset_rule::{
@@ -201,8 +201,8 @@ impl<M: Bounded> LiveSet<M> {
 }
 
 impl<M: Machine> LiveSet<M> {
-    /// Merges `from` into `into`: its record, the seats that it holds, and what it has seen. Later calls of `into` are explained
-    /// with all gathered calls before them.
+    /// Merges seat `from` into seat `into`: the record of `from`, the seats that it holds, and the events that it has seen. In
+    /// each order that keeps the record of `into`, the gathered calls come before the later calls of `into`.
     pub fn gather(&self, into: &mut Seat<M>, from: Seat<M>)
         requires into { into.old.set ≡ self.now }
         requires from { from.set ≡ self.now }

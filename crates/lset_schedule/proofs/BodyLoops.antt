@@ -1,5 +1,5 @@
--- The loop that reads the lines after a header: which line an error is at, and that a failed allocation is not an error of a
--- line.
+-- Lemmas for the loop that reads the lines after a header. They state the line of an error, and that a failed allocation is not
+-- an error of a line.
 use Rattle.std.proofs.Common.{arith, ◌≡◌, ℕ, ◌+◌, inl, inr, Bool, true, false, cond, ltb, List, [], ◌∷◌, length, Option, Some}
 use Rattle.std.proofs.Common.{None, Result, Err, refl, codes}
 use Rattle.std.specs.Prelude.{MatchOption}
@@ -27,7 +27,7 @@ number_told : {L : Type 0} (o : Option ℕ) → (let word : Option (Unit {0}) = 
 number_told None = refl
 number_told (Some n) = refl
 
--- In a text of version 2, before all lines of events.
+-- If an opening key can come (version 2, before all lines of events), the line is read as one or as a line of events.
 pub key_told : {L K : Type 0} (text : EventLines L) (ls : List L) (line : List ℕ) (now : K → List ℕ) (o : Option K) → ls ≡ []
     → MatchOption o (have_form Two opening_form (cut_at 32 line) ≡ false) (λ key. cut_at 32 line ≡ codes "opening" ∷ now key ∷ [])
     → MatchOption o (line_in Two Event (kinds_after text Two ls) line ≡ made event (line_in Two Event text.kinds line))
@@ -35,7 +35,7 @@ pub key_told : {L K : Type 0} (text : EventLines L) (ls : List L) (line : List �
 key_told text ls line now None none other = rw (none, other) (first_as event Two Event text.kinds (cut_at 32 line))
 key_told text ls line now (Some key) none is = rw (none, is) (number_told (number_in 0 max_number (now key)))
 
--- If an opening key cannot come there.
+-- If no opening key can come, the line is read as a line of events.
 pub not_due : {L : Type 0} (text : EventLines L) (v : Version) (ls : List L) (line : List ℕ) → (v ≡ Two → ls ≡ [] → ⊥)
     → line_in v Event (kinds_after text v ls) line ≡ made event (line_in v Event text.kinds line)
 not_due text One ls line not = first_as event One Event text.kinds (cut_at 32 line)

@@ -1,4 +1,4 @@
--- Drawing one more call.
+-- Lemmas for loops that draw calls and programs one by one.
 use Rattle.std.proofs.Common.{◌≡◌, ℕ, suc, ◌+◌, ◌-◌, ◌<◌, ◌≤◌, List, [], ◌∷◌, ◌++◌, map, append_assoc, append-nil, refl, sym, ap}
 use Rattle.std.proofs.Common.{◌∙◌, arith}
 use Rattle.std.specs.List.{range_with_len}
@@ -33,7 +33,7 @@ draws_end keys calls i drawn s whole le so_far =
     let one : with_others keys (calls - i) drawn s ≡ (drawn, s) = rw (k, append-nil drawn) refl in
     sym one ∙ so_far
 
--- One more program.
+-- The list of programs grows by the program of thread t.
 pub programs_more : {X : Type 0} (calls_of : X → List Call) (f : ℕ → List Call) (all more : List X) (x : X) (t : ℕ)
     → more ≡ all ++ x ∷ [] → calls_of x ≡ f t → map calls_of all ≡ map f (range_with_len 0 t)
     → map calls_of more ≡ map f (range_with_len 0 (t + 1))

@@ -2,5 +2,5 @@ pub mod BodyLaws
 pub mod BodyLoops
 pub mod Drafts
 pub mod DrawLaws
-pub mod TextLaws
+pub mod ScheduleTextLaws
 pub mod VersionLaws

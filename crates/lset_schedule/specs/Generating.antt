@@ -11,10 +11,10 @@ use Rattle.lset_steps.specs.declared.Event.TheVariants as event
 use Rattle.lset_steps.specs.Steps.{Table, Run, state_at, event_at, local_of}
 use Rattle.lset_schedule.specs.declared.value.Line.{Line}
 use Rattle.lset_schedule.specs.declared.value.Line.TheVariants as line
-use Rattle.lset_schedule.specs.declared.fault.GenFault.{GenFault}
-use Rattle.lset_schedule.specs.declared.fault.GenFault.TheVariants.{Threads, Quota, Keys, Memory}
+use Rattle.lset_schedule.specs.declared.gen_fault.GenFault.{GenFault}
+use Rattle.lset_schedule.specs.declared.gen_fault.GenFault.TheVariants.{Threads, Quota, Keys, Memory}
 
--- The events of a line; and below, of lines. Steps are counted one by one.
+-- The events of a line, and of a list of lines. Each step of a `go` line is an event.
 abbrev pub events_of_line : Line → List Event
 events_of_line (line.Begin t call) = event.Begin t call ∷ []
 events_of_line (line.Go t steps) = replicate steps (event.Go t)

@@ -1,4 +1,4 @@
--- The schedule of a text, or its first error: line by line, and in each line in the order of the checks.
+-- Reading a schedule: its value, or its first error. Lines are read in order, and each line is checked in a fixed order.
 use Rattle.std.specs.Prelude.{◌≡◌, ◌≢◌, ℕ, ◌+◌, ◌<◌, ◌≤◌, nat_lt, List, [], ◌∷◌, ◌++◌, length, map, codes, Result, Ok, Err}
 use Rattle.std.specs.Prelude.{if◌then◌else◌, ◌⊎◌}
 use Rattle.std.specs.List.{sum_by}

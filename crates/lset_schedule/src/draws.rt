@@ -4,7 +4,7 @@ ghost use Rattle.lset_text.specs.Spellings.{HasCall};
 ghost use Rattle.lset_schedule.specs.Draws.{chosen, drawn_call, drawn_calls, program_of, programs_of};
 ghost use Rattle.lset_schedule.specs.Generating.{IsAccepted, Refuses};
 
-use crate::fault::GenFault;
+use crate::gen_fault::GenFault;
 use lset_text::Version;
 use lset_words::{Call, Key, Layout, LayoutFault, layout};
 use rand_core::{Rng, SeedableRng};

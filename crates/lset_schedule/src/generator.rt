@@ -6,7 +6,7 @@ ghost use Rattle.lset_schedule.specs.Plan.{IsSchedule, view};
 ghost use Rattle.lset_schedule.specs.GeneratorTurns.{HasOpenCall, IsIdle, IsNextEvent};
 
 use crate::draws::{draw_call, layout_to_draw};
-use crate::fault::GenFault;
+use crate::gen_fault::GenFault;
 use crate::value::{Line, Schedule};
 use crate::{MOST_GENERATED, MOST_TURNS};
 use lset_steps::{Event, Machine, World};

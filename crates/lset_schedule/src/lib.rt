@@ -1,28 +1,28 @@
-//! Schedules, which state in turn which thread begins which call and which thread makes steps; and their text: reading, writing
-//! and drawing schedules at random.
+//! Schedules. A schedule states, event by event, which thread begins which call and which thread makes a step. This crate
+//! reads and writes the text of schedules, and draws schedules at random.
 #![tactic(auto)]
 
 mod body;
 mod draws;
-mod fault;
+mod gen_fault;
 mod generator;
-mod reading;
+mod schedule_reading;
+mod schedule_writing;
 mod value;
-mod writing;
 
 pub use body::{Body, EventLine, read_text};
 pub use draws::programs;
-pub use fault::GenFault;
+pub use gen_fault::GenFault;
 pub use generator::generate;
 pub use lset_text::{LineFault as ScheduleFault, Version};
-pub use reading::{read_schedule, schedules_read_back};
+pub use schedule_reading::{read_schedule, schedules_read_back};
+pub use schedule_writing::write_schedule;
 pub use value::{Line, Schedule};
-pub use writing::write_schedule;
 
 /// The first line of a schedule of version 1, with the calls `add`, `remove` and `contains`.
 const TITLE_ONE: &str = "listset-schedule 1";
 
-/// The first line of a schedule of version 2, which has the call `ceiling`, too.
+/// The first line of a schedule of version 2, which also has opening keys and the call `ceiling`.
 const TITLE_TWO: &str = "listset-schedule 2";
 
 /// The number of the first line after the header of a schedule, counted from 1.

@@ -19,7 +19,7 @@ pub weigh-append : (h : ℕ → ℕ) (xs ys : List ℕ) → weigh h (xs ++ ys) �
 weigh-append h [] ys = omega arith
 weigh-append h (x ∷ xs) ys = omega (arith, weigh-append h xs ys)
 
--- The total after one pass has changed.
+-- If one pass changes from v to w, the total changes by f v and f w.
 total_set : (f : Tally → ℕ) (views : List Tally) (port : ℕ) (v w : Tally) → get_elem? views port ≡ some v →
     total f (set views port w) + f v ≡ total f views + f w
 total_set f [] port v w at = absurd (some-ne-none v (sym at))

@@ -7,8 +7,8 @@ use Rattle.std.proofs.lemmas.List.{length-map}
 use Rattle.std.proofs.lemmas.List.Sums.{sum_by-cons}
 use Rattle.lset_words.specs.Records.{Record, CallMade, with_calls}
 use Rattle.lset_live.specs.Seats.{SeatValue, gather_onto}
-use Rattle.lset_words.proofs.Records.{with_calls-append}
-use Rattle.lset_live.proofs.Records.{gather_more}
+use Rattle.lset_words.proofs.RecordLaws.{with_calls-append}
+use Rattle.lset_live.proofs.GatheredRecords.{gather_more}
 use Rattle.lset_session.specs.declared.TheConstants.{MOST_LINES}
 use Rattle.lset_words.specs.declared.TheConstants.{MOST_THREADS}
 use Rattle.lset_server.specs.declared.channel.TheConstants.{PARTS}
@@ -20,7 +20,7 @@ use Rattle.lset_server.proofs.BalanceKept.{weigh-append}
 
 -- ---- one worker
 
--- One more session.
+-- A worker has held one more session.
 pub worked_more : (s s1 s2 : SeatValue) (v v' : Tally) (n m k number : ℕ) → HasWorked s s1 v n m
     → v' ≡ tally v.parts v.sent (v.received ++ number ∷ []) → s2.held ≡ s1.held
     → ((added : List CallMade) × (s2.past ≡ with_calls s1.past added) × (k ≡ length added)) → HasWorked s s2 v' (n + 1) (m + k)
@@ -40,7 +40,7 @@ length-numbers : (n : ℕ) → length (numbers_below n) ≡ n
 length-numbers zero = refl
 length-numbers (suc n) = omega (arith, length-append (numbers_below n) (n ∷ []), length-numbers n)
 
--- One more part was split off.
+-- One more part was split off the sender's pass.
 pub part_more : (v u u' : Tally) (n m : ℕ) → u ≡ tally (v.parts - n) v.sent v.received →
     u' ≡ tally (u.parts - 1) u.sent u.received → m ≡ n + 1
     → u' ≡ tally (v.parts - m) v.sent v.received

@@ -1,7 +1,7 @@
 -- The part of a server's result that only contracts see.
 use Rattle.crossbeam_channel.specs.Claims.{view}
 use Rattle.lset_server.specs.declared.channel.Tally.{Tally}
-use Rattle.lset_server.specs.declared.serving.Served.{Served}
+use Rattle.lset_server.specs.declared.set_server.Served.{Served}
 
 -- The tally of the single pass into which all passes to the channel were joined.
 abbrev pub tally_of : Served → Tally

@@ -22,7 +22,7 @@ pub(crate) struct Connection<S> {
     pub stream: S,
 }
 
-/// A message in the channel: a connection, or that no more connections come.
+/// A message in the channel: a connection, or the notice that no more connections come.
 #[derive(Drop)]
 pub(crate) enum Message<S> {
     Connection(Connection<S>),
@@ -50,7 +50,7 @@ impl<S> Protocol<Message<S>, Tally> for NothingLost {
     ghost first = { tally PARTS [] [] };
 }
 
-/// Splits a part off a pass, or joins a pass to another.
+/// The moves that split a part off a pass, and that join a pass to another.
 pub(crate) struct Parting;
 
 impl Split<Tally> for Parting {
@@ -71,7 +71,7 @@ impl Join<Tally> for Parting {
     ghost spent = { tally 0 [] [] };
 }
 
-/// Sends a message.
+/// The move that sends a message.
 pub(crate) struct Sending;
 
 impl<S> Outcome<Message<S>, Tally> for Sending {
@@ -82,7 +82,7 @@ impl<S> Lesson<Message<S>, Tally> for Sending {
     ghost fact = { λ v items. ⊤ };
 }
 
-/// Receives a message.
+/// The move that receives a message.
 pub(crate) struct Receiving;
 
 impl<S> Outcome<Message<S>, Tally> for Receiving {
@@ -93,7 +93,7 @@ impl<S> Lesson<Message<S>, Tally> for Receiving {
     ghost fact = { λ v items. ⊤ };
 }
 
-/// The knowledge of the queue that the pass with all parts has.
+/// The fact about the queue that follows from holding all parts: what was sent is what was received and what is queued.
 pub(crate) struct Balanced;
 
 impl<S> Lesson<Message<S>, Tally> for Balanced {
@@ -107,7 +107,7 @@ pub(crate) type Sender<S> = RuledSender<Message<S>, Tally, NothingLost>;
 
 pub(crate) type Receiver<S> = RuledReceiver<Message<S>, Tally, NothingLost>;
 
-/// A token of no bytes. Its holder can send or receive.
+/// The right to send and receive on the channel. A token takes no memory.
 pub(crate) type Token<S> = Pass<Message<S>, Tally>;
 
 /// Sends a message. Blocks while the channel is full.

@@ -3,10 +3,10 @@
 
 mod channel;
 mod lingering;
-mod serving;
+mod set_server;
 mod workers;
 
 pub use lset_session::{
     Device, EndReason, Ended, Request, Sink, Source, buffered_session, read_request, session,
 };
-pub use serving::{ServeCause, ServeFault, Served, serve};
+pub use set_server::{ServeCause, ServeFault, Served, serve};

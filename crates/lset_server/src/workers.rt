@@ -10,11 +10,11 @@ ghost use Rattle.lset_live.specs.Seats.{held_in};
 ghost use Rattle.lset_session.specs.declared.TheConstants.{MOST_LINES};
 ghost use Rattle.lset_server.specs.Tallies.{tally};
 ghost use Rattle.lset_server.specs.Workers.{HasWorked, HaveWorked};
-ghost use Rattle.lset_server.specs.declared.serving.ServeCause.TheVariants as cause;
+ghost use Rattle.lset_server.specs.declared.set_server.ServeCause.TheVariants as cause;
 
 use crate::channel::{Connection, Message, Receiver, Sender, Token, cut_part, receive, take_back};
 use crate::lingering::take_leave;
-use crate::serving::ServeCause;
+use crate::set_server::ServeCause;
 use lset_live::{LiveSet, Running, Seat};
 use lset_session::{Device, buffered_session};
 use std::alloc::Global;

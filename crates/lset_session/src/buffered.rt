@@ -16,7 +16,7 @@ use std::sync::Wait;
 /// The size of the buffer in bytes.
 const ROOM: usize = 4096;
 
-/// Answers that are not written yet, and their writer, with whether a write has failed.
+/// A buffer of answers that are not written yet, their writer, and whether a write has failed.
 #[derive(Drop)]
 struct Buffer<O: Sink> {
     bytes: [u8; ROOM],

@@ -55,7 +55,7 @@ piece_lacks v byte reply r low is fits = reply_lacks byte v r fits low
 some_is : {A : Type 0} (a b : A) → Some a ≡ Some b → a ≡ b
 some_is a b e = cc
 
--- If two options together have a pair, each of them has its half.
+-- If `both` of two options is a pair, the first option has its first component and the second option its second.
 both_told : {A B : Type 0} (o : Option A) (p : Option B) (t : A × B) → both o p ≡ Some t → (o ≡ Some t.0) × (p ≡ Some t.1)
 both_told {A} {B} None p t e = absurd cc
 both_told {A} {B} (Some a) None t e = absurd cc

@@ -101,7 +101,7 @@ told_again line cause read x y more told is = rw is refl
 abbrev Found : Type 0
 Found = Header × List (List ℕ)
 
--- The remaining checks after the quota line; and below, after the threads line, the kind line and the title.
+-- The remaining checks after the quota line, after the threads line, after the kind line, and after the title.
 abbrev after_quota : Kind → ℕ → ℕ × List (List ℕ) → Result Found LineFault
 after_quota kind threads quota = Ok (record { kind = kind; threads = threads; quota = quota.0 }, quota.1)
 

@@ -38,7 +38,7 @@ push_before f a line xs x none = rw (none, map_push line xs x) (simp (append-nil
 
 -- ---- the section that the reader is in
 
--- The section is `s` before the first item, and `t` after it.
+-- The section that the reader is in: `s` before the first item, `t` after it.
 abbrev pub later : {X T : Type 0} → List X → T → T → T
 later [] s t = s
 later (x ∷ xs) s t = t
@@ -47,7 +47,7 @@ pub later_pushed : {X T : Type 0} (xs : List X) (x : X) (s t : T) → t ≡ late
 later_pushed [] x s t = refl
 later_pushed (y ∷ ys) x s t = refl
 
--- ---- a section with a limit of items: if the line of each item leads on, the whole section does
+-- ---- a section with a limit of items: if the line of each item leads to the next state, the lines of the section lead to the last
 
 pub section_leads : {S X : Type 0} (g : Grammar S) (state : List X → S) (line : X → List ℕ) (P : X → Type 0) (most : ℕ)
     (xs : List X) → length xs ≤ most → AllByRecursion P xs

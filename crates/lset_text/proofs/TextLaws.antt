@@ -55,7 +55,7 @@ good_in_text g bytes rest h line is good =
       subst (IsFaultlessTo line) (sym (text_after g (cut_at 10 bytes) (cut_at 10 rest) h is)) good.2,
     )
 
--- A line at which a reader of the part after the header ran out of memory is below the header, and a good line of the text.
+-- If a reader of the part after the header runs out of memory at a line, this line is below the header, and a good line of the text.
 pub good_after : {S X : Type 0} (g : TextGrammar S) (bytes rest : List ℕ) (h : Header)
     (r : Result X LineFault) → header_of g.title (cut_at 10 bytes) ≡ Ok (h, cut_at 10 rest)
     → IfErr r (λ e. e.cause ≡ Memory → IsGoodLine first_line (cut_at 10 rest)

@@ -41,7 +41,7 @@ call_word_text word.Remove = codes "remove"
 call_word_text word.Contains = codes "contains"
 call_word_text word.Ceiling = codes "ceiling"
 
--- The name of a call; and below, the call with a name and a key.
+-- Two mappings: from a call to its name, and from a name and a key to the call.
 abbrev pub word_of : Call → CallWord
 word_of (call.Add k) = word.Add
 word_of (call.Remove k) = word.Remove
@@ -102,7 +102,7 @@ begins_at piece = bytes_eq (take 3 piece) (codes "at-")
 abbrev pub at_number : List ℕ → Option Reply
 at_number piece = if begins_at piece then option_map at_key (number_in 0 max_number (drop 3 piece)) else None
 
--- The reply that a field spells in a version; and below, whether a field has the form of a reply.
+-- The reply that a field spells in a version, and whether a field has the form of a reply.
 abbrev pub reply_in : Version → List ℕ → Option Reply
 reply_in One piece = reply_of (plain_in One) piece
 reply_in Two piece = option_or (reply_of (plain_in Two) piece) (at_number piece)

@@ -14,7 +14,7 @@ pub record TextGrammar (S : Type 0) : Type 0 where
   pub start : Header → S
   pub lines : Grammar S
 
--- The number of the last header line; and below, of the first line after the header.
+-- The number of the last header line, and the number of the first line after the header.
 abbrev pub last_of_header : ℕ
 last_of_header = 4
 

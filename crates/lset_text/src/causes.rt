@@ -20,8 +20,8 @@ pub enum Cause {
     /// The line does not have the fields of any line that can come there: `take 0 5`; `go  0 1` (two spaces); `opening 5` below
     /// an event; an empty line.
     Event,
-    /// As `Event`, in a report or a recording: `place 0 maybe`; `place 0 true` below a `key` line; in version 1 `place 0 at-5`;
-    /// in a recording `call 0 add 5 1 8 full`.
+    /// In a report or a recording, the line does not have the fields of any line that can come there: `place 0 maybe`;
+    /// `place 0 true` below a `key` line; in version 1 `place 0 at-5`; in a recording `call 0 add 5 1 8 full`.
     Line,
     /// A field that must be a number is not one, or is out of range: `begin 0 add 05`, `go 0 10001`, `place 01 true`.
     Number,
@@ -101,7 +101,7 @@ pub struct LineFault {
 }
 
 impl LineFault {
-    /// Returns the error of a line.
+    /// Returns the error with this cause at line `line`, counted from 1.
     pub fn at(line: u64, cause: Cause) -> LineFault
         ensures { result ≡ fault line cause }
     {

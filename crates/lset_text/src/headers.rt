@@ -13,7 +13,7 @@ ghost use Rattle.lset_text.specs.Headers.{
 
 use crate::causes::{Cause, LineFault};
 use crate::numbers::number;
-use crate::parts::cut;
+use crate::text_parts::cut;
 use crate::words::{Version, kind_word, read_kind};
 use lset_words::{Kind, MOST_QUOTA, MOST_THREADS};
 use std::alloc::AllocError;

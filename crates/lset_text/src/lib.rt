@@ -7,7 +7,7 @@ mod forms;
 mod headers;
 mod numbers;
 mod openings;
-mod parts;
+mod text_parts;
 mod words;
 
 pub use causes::{Cause, LineFault};
@@ -15,7 +15,7 @@ pub use forms::forms_read_back;
 pub use headers::{Header, headers_read_back, number_of_line, put_header, read_header, version_of};
 pub use numbers::{long_number, number, numbers_read_back};
 pub use openings::{is_above, put_openings};
-pub use parts::cut;
+pub use text_parts::cut;
 pub use words::{
     CallWord, ReplyWord, Version, call_word, is_reply, kind_word, read_call, read_kind, read_reply,
     reply_word, words_read_back,

@@ -2,7 +2,7 @@ ghost use Rattle.std.specs.Prelude.{◌≡◌, ◌≤◌, IfSome};
 ghost use Rattle.lset_text.specs.Numbers.{number_in, NumbersReadBack};
 
 /// Returns the number from `low` to `high` that a field spells in decimal digits, without leading zeros. `None` for any other
-/// field. Stops at the digit with which the value exceeds `high`.
+/// field. Stops reading when the value exceeds `high`.
 #[tactic(auto, unfolding(crate::specs::Numbers::number_in))]
 pub fn number(piece: &[u8], low: u32, high: u32) -> Option<u32>
     ensures { result ≡ number_in low high piece.now }
@@ -26,8 +26,8 @@ pub fn number(piece: &[u8], low: u32, high: u32) -> Option<u32>
     Some(value as u32)
 }
 
-/// Returns the number from `low` to `high` that a field spells, as `number` does, for ranges beyond 32 bits. Makes one more test
-/// for each digit.
+/// Returns the number from `low` to `high` that a field spells in decimal digits, without leading zeros. `None` for any other
+/// field. The range can exceed 32 bits. Slower than `number`: makes one more test for each digit.
 #[tactic(auto, unfolding(crate::specs::Numbers::number_in))]
 pub fn long_number(piece: &[u8], low: u64, high: u64) -> Option<u64>
     ensures value { result ≡ number_in low high piece.now }

@@ -98,7 +98,7 @@ pub fn call_word(call: Call) -> &'static str
     }
 }
 
-/// Returns the call name that a field is in the given version; `None` for any other field.
+/// Returns the call name that a field spells in the given version; `None` for any other field.
 #[tactic(auto, unfolding(crate::specs::Spellings::call_word_of))]
 pub fn read_call(version: Version, piece: &[u8]) -> Option<CallWord>
     ensures { result ≡ call_word_in version piece.now }
@@ -154,7 +154,7 @@ fn read_plain_reply(version: Version, piece: &[u8]) -> Option<Reply>
     }
 }
 
-/// Returns the reply `at-` with the key that follows; `None` for any other field.
+/// Returns the reply that a field `at-K` spells, for a key K; `None` for any other field.
 fn read_at(piece: &[u8]) -> Option<Reply>
     ensures { result ≡ at_number piece.now }
 {

@@ -1,4 +1,4 @@
--- The maximum number of nodes of a table, and that its slots are different nodes.
+-- Lemmas: a table has at most MOST_NODES nodes, and different slots are different nodes.
 use Rattle.std.specs.Prelude.{◌≡◌, ℕ, ◌+◌, ◌*◌, ◌<◌, ◌≤◌}
 use Rattle.std.proofs.Common.{arith, ap}
 use Rattle.lset_words.specs.declared.TheConstants.{MOST_THREADS, MOST_QUOTA, MOST_OPENING, MOST_NODES}

@@ -1,4 +1,4 @@
 pub mod Bounds
 pub mod Numbers
 pub mod IncreasingLists
-pub mod Records
+pub mod RecordLaws

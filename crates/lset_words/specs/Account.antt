@@ -123,5 +123,5 @@ pub record Account (o : Opening) (last : ℕ) (log : Log) (contents : Contents) 
   pub opens : (k : ℕ) → (contents 0 k → InList o.keys k) × (InList o.keys k → contents 0 k)
   -- no thread has added a key yet,
   pub none_yet : (t : ℕ) → t < o.threads → counts 0 t ≡ 0
-  -- and each entry of the log changes content and counts as it says.
+  -- and each entry of the log changes content and counts as the entry states.
   pub enters : (k : ℕ) → k < last → Enters o.threads o.quota log contents counts k (log k)

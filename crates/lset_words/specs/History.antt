@@ -7,7 +7,7 @@ use Rattle.lset_words.specs.declared.history.CallRecord.{CallRecord}
 use Rattle.lset_words.specs.declared.history.Placed.{Placed}
 use Rattle.lset_words.specs.SequentialSet.{SetState, Answered, IsLegal}
 
--- The value at a number that no call has
+-- The record in place of a call, for a number that no call has
 abbrev pub no_call : CallRecord
 no_call = record { thread = 0; call = call.Contains (record { 0 = 0 }); begun = 0; ended = None }
 
@@ -15,7 +15,7 @@ no_call = record { thread = 0; call = call.Contains (record { 0 = 0 }); begun = 
 abbrev pub call_numbered : List CallRecord → ℕ → CallRecord
 call_numbered history number = slice_index_or history number no_call
 
--- A call of a history, by itself
+-- The conditions on a single call of a history
 pub record IsCall (threads : ℕ) (x : CallRecord) : Type 0 where
   pub of_a_thread : x.thread < threads
   pub counted : 0 < x.begun

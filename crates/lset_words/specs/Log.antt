@@ -1,4 +1,4 @@
--- The log of a run, and the calls in it. A log names no machine: of each event it has only what a user of the set sees.
+-- The log of a run, and the calls in it. A log names no machine. Of each event it contains only what a user of the set sees.
 -- Moment k is the state after the first k events. Entry k of a log is the event between the moments k and k + 1.
 use Rattle.std.specs.Prelude.{ℕ, zero, suc, ◌==◌, ◌||◌, ◌&&◌, Bool, true, false, if◌then◌else◌, List, [], ◌∷◌, ◌++◌, map, Option}
 use Rattle.std.specs.Prelude.{Some, None, is_none}
@@ -29,7 +29,7 @@ pub record TracedCall : Type 0 where
   pub changed : Option ℕ
   pub ended : Option (ℕ × Reply)
 
--- Whether the call is pending and of this thread
+-- Whether a call is pending and belongs to this thread
 abbrev pub is_under_way : ℕ → TracedCall → Bool
 is_under_way thread x = x.thread == thread && is_none x.ended
 
@@ -54,7 +54,7 @@ abbrev pub calls_at : Log → ℕ → List TracedCall
 calls_at log zero = []
 calls_at log (suc k) = calls_after (suc k) (log k) (calls_at log k)
 
--- The call, as a history records it
+-- The record of a call in a history
 abbrev pub record_of : TracedCall → CallRecord
 record_of x = record { thread = x.thread; call = x.call; begun = x.begun; ended = x.ended }
 

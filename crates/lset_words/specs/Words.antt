@@ -6,8 +6,8 @@ use Rattle.lset_words.specs.declared.TheConstants.{MOST_THREADS, MOST_QUOTA, MOS
 use Rattle.lset_words.specs.declared.Key.{Key}
 use Rattle.lset_words.specs.declared.Call.{Call}
 use Rattle.lset_words.specs.declared.Call.TheVariants.{Add, Remove, Contains, Ceiling}
-use Rattle.lset_words.specs.declared.fault.LayoutFault.{LayoutFault}
-use Rattle.lset_words.specs.declared.fault.LayoutFault.TheVariants as fault
+use Rattle.lset_words.specs.declared.layout_fault.LayoutFault.{LayoutFault}
+use Rattle.lset_words.specs.declared.layout_fault.LayoutFault.TheVariants as fault
 
 -- The sizes of a list: the number of threads, of slots of each thread, and of opening keys
 pub record Sizes : Type 0 where

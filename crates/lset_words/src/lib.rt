@@ -14,24 +14,24 @@ ghost use Rattle.std.specs.List.Sorted.{IsStrictlyIncreasing};
 ghost use Rattle.lset_words.specs.Words.{key_word_of, key_of, packed, RefusesSizes};
 
 mod effect;
-mod fault;
 mod history;
+mod layout_fault;
 mod set_calls;
 mod table;
 
 pub use effect::{Effect, Presence};
-pub use fault::LayoutFault;
 pub use history::{CallRecord, Placed, Point};
+pub use layout_fault::LayoutFault;
 pub use set_calls::SetCalls;
 pub use table::{Layout, key_index, link_index, lock_index, slot_node, words_are_apart};
 
 /// The maximum number of threads of a list.
 pub const MOST_THREADS: u32 = 64;
 
-/// The maximum quota: the number of keys that a thread can add over the life of a list. Each takes a slot of its own.
+/// The maximum quota. The quota is the number of keys that a thread can add over the life of a list. Each added key uses a slot.
 pub const MOST_QUOTA: u32 = 16_384;
 
-/// The maximum number of keys with which a list opens.
+/// The maximum number of opening keys of a list.
 pub const MOST_OPENING: u32 = 1_048_576;
 
 /// The maximum number of nodes of a table: the head, the tail, a node for each slot of each thread and for each opening key.

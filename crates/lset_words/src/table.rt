@@ -57,7 +57,8 @@ impl Model for Layout {
 }
 
 impl Layout {
-    /// Returns the layout of these sizes, which must be within their limits.
+    /// Returns the layout for `threads` threads with a quota of `quota` each and `opening` opening keys. All three must be
+    /// within their limits.
     pub(crate) fn of(threads: u32, quota: u32, opening: u32) -> Layout
         requires { IsWithin (record { threads = threads; quota = quota; opening = opening }) }
         ensures { result ≡ record { threads = threads; quota = quota; opening = opening } }
@@ -85,7 +86,7 @@ impl Layout {
         self.quota
     }
 
-    /// Returns the number of keys with which the list opens, 0 to 1,048,576.
+    /// Returns the number of opening keys, 0 to 1,048,576.
     pub fn opening(&self) -> u32
         ensures value { result ≡ self.now.opening }
         ensures within { IsWithin self.now }

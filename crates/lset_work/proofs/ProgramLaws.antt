@@ -10,13 +10,13 @@ use Rattle.lset_words.specs.declared.Call.{Call}
 use Rattle.lset_words.specs.declared.Reply.{Reply}
 use Rattle.lset_words.specs.Records.{CallMade, Record, called, with_calls}
 use Rattle.lset_live.specs.Seats.{SeatValue, SetValue, gather_onto, held_in}
-use Rattle.lset_work.specs.declared.fault.WorkCause.{WorkCause}
-use Rattle.lset_work.specs.declared.fault.WorkCause.TheVariants.{Programs, Spawn, Gate, Memory}
+use Rattle.lset_work.specs.declared.work_fault.WorkCause.{WorkCause}
+use Rattle.lset_work.specs.declared.work_fault.WorkCause.TheVariants.{Programs, Spawn, Gate, Memory}
 use Rattle.lset_rule.specs.Runs.{StartsWith}
 use Rattle.lset_work.specs.Programs.{made, worked, HasSeenAll, HaveRun, IsMadeOn, IsOfThreads}
-use Rattle.lset_words.proofs.Records.{with_calls-append}
+use Rattle.lset_words.proofs.RecordLaws.{with_calls-append}
 use Rattle.lset_live.proofs.Receipts.{starts_on}
-use Rattle.lset_live.proofs.Records.{gather_more}
+use Rattle.lset_live.proofs.GatheredRecords.{gather_more}
 
 -- ---- one more call
 
@@ -109,7 +109,7 @@ run_more set seats programs last replies seat done now program told h made same 
           (starts_on now.events done.events seat.events from later);
     }
 
--- The threads that have been joined, and the remaining ones.
+-- The state while threads are joined: those that have been joined, and the remaining ones.
 pub record SoFar {H V : Type 0} (set : SetValue) (seat : H → SeatValue) (program : H → List Call) (items : V → List Reply)
     (hs rest : List H) (last : Option SeatValue)
     (vs : List V) : Type 0 where

@@ -10,8 +10,8 @@ use Rattle.lset_steps.specs.Steps.{Table}
 use Rattle.lset_rule.specs.Runs.{StartsWith}
 use Rattle.lset_live.specs.Explained.{IsOneOrderInTime}
 use Rattle.lset_live.specs.Seats.{SeatValue, SetValue, gather_onto, held_in}
-use Rattle.lset_work.specs.declared.fault.WorkCause.{WorkCause}
-use Rattle.lset_work.specs.declared.fault.WorkCause.TheVariants.{Programs, Spawn, Gate, Memory}
+use Rattle.lset_work.specs.declared.work_fault.WorkCause.{WorkCause}
+use Rattle.lset_work.specs.declared.work_fault.WorkCause.TheVariants.{Programs, Spawn, Gate, Memory}
 
 -- The calls of a program with their replies.
 abbrev pub made : List Call → List Reply → List CallMade

@@ -2,7 +2,7 @@
 ghost use Rattle.std.specs.Prelude.{◌≡◌, ◌<◌, ◌≤◌, ◌^◌, [], IfSome, All, map, length, vec_capacity};
 
 use crate::gate::Gate;
-use crate::workers::Worker;
+use crate::program_threads::Worker;
 use lset_live::Running;
 use lset_words::{Call, Reply};
 use std::alloc::Global;

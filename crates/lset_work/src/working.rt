@@ -3,10 +3,10 @@ ghost use Rattle.std.specs.Prelude.{◌≡◌, ◌<◌, ◌^◌, ◌↔◌, IfOk
 ghost use Rattle.lset_live.specs.Explained.{IsOneLegalOrder};
 ghost use Rattle.lset_work.specs.Programs.{Fit, GivesBack, HaveRun, IsOfThreads, IsWorkInTime, worked};
 
-use crate::fault::{WorkCause, WorkFault};
 use crate::gate::Gate;
+use crate::program_threads::{Gathered, Shared, join_all};
 use crate::room::{Room, reserved};
-use crate::workers::{Gathered, Shared, join_all};
+use crate::work_fault::{WorkCause, WorkFault};
 use lset_live::{LiveSet, Running, Seat};
 use lset_words::{Call, Reply};
 use std::alloc::Global;

@@ -7,8 +7,8 @@ use Rattle.lset_text.specs.declared.causes.LineFault.{LineFault}
 use Rattle.lset_text.specs.Causes.{name_of}
 use Rattle.lset_replay.specs.declared.fault.ReplayFault.{ReplayFault}
 use Rattle.lset_replay.specs.declared.fault.ReplayFault.TheVariants as replay
-use Rattle.lset_schedule.specs.declared.fault.GenFault.{GenFault}
-use Rattle.lset_schedule.specs.declared.fault.GenFault.TheVariants as generator
+use Rattle.lset_schedule.specs.declared.gen_fault.GenFault.{GenFault}
+use Rattle.lset_schedule.specs.declared.gen_fault.GenFault.TheVariants as generator
 use Rattle.tool_base.specs.declared.trouble.SystemCause.{SystemCause}
 use Rattle.tool_base.specs.declared.trouble.SystemCause.TheVariants as system
 use Rattle.tool_base.specs.declared.trouble.ValueName.{ValueName}

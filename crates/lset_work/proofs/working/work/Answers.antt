@@ -2,7 +2,7 @@ use Rattle.std.proofs.Common.{refl, sym, ap, ◌∙◌, subst, rules, length, ma
 use Rattle.std.specs.Option.{option_map}
 use Rattle.lset_live.specs.Seats.{gather_onto}
 use Rattle.lset_work.specs.Programs.{Fit, HasSeenAll, worked}
-use Rattle.lset_live.proofs.Records.{gathered_explains, gathered_in_time}
+use Rattle.lset_live.proofs.GatheredRecords.{gathered_explains, gathered_in_time}
 use Rattle.lset_live.proofs.ListsHandedOn.{starts_map}
 use Rattle.lset_work.proofs.ProgramLaws.{memory_refuses, shut_gate, threads_refuse}
 use Rattle.lset_work.proofs.working.work.Goals as goal

@@ -3,7 +3,7 @@ use Rattle.lset_rule.specs.declared.slots.OwnSlots.{OwnSlots}
 use Rattle.lset_rule.proofs.MovesKeepRule.{own_number}
 use Rattle.lset_words.specs.Records.{thread_of}
 use Rattle.lset_live.specs.Seats.{SeatValue}
-use Rattle.lset_live.proofs.Dated.{root_is}
+use Rattle.lset_live.proofs.DatedRecords.{root_is}
 use Rattle.lset_live.proofs.seat.Seat.thread.Goals as goal
 
 pub returns : goal.returns

@@ -1,0 +1,68 @@
+//! Reads a schedule for a broken list, and reports the run.
+ghost use Rattle.std.specs.Prelude.{◌≡◌, IfOk};
+ghost use Rattle.lset_words.specs.Words.{Opens};
+ghost use Rattle.lset_text.specs.declared.words.Version.TheVariants.{Two};
+ghost use Rattle.lset_schedule.specs.Plan.{opening_in, view};
+
+use crate::broken_runs::broken_run;
+use crate::lists::BrokenList;
+use lset_replay::{RunCalls, calls_of};
+use lset_report::Report;
+use lset_schedule::{Schedule, Version, read_schedule};
+use lset_text::{Cause, LineFault};
+use std::alloc::{AllocError, Global};
+
+/// The number of the line that names the list.
+const KIND_LINE: u64 = 2;
+
+/// Reads a schedule for a broken list. Allocates.
+///
+/// # Errors
+///
+/// Returns the errors of `read_schedule`, and `Kind` in line 2 if the schedule names another list than `broken.kind()`.
+pub fn read_broken_schedule(
+    alloc: Global,
+    broken: BrokenList,
+    text: &[u8],
+) -> Result<Schedule, LineFault>
+    ensures { IfOk result (λ s. Opens (opening_in (view s))) }
+{
+    let schedule = read_schedule(alloc, text)?;
+    if schedule.kind != broken.kind() {
+        return Err(LineFault::at(KIND_LINE, Cause::Kind));
+    }
+    Ok(schedule)
+}
+
+fn run_calls(alloc: Global, broken: BrokenList, schedule: &Schedule) -> Result<RunCalls, AllocError>
+    requires { Opens (opening_in (view schedule.now)) }
+{
+    let run = broken_run(alloc, broken, schedule, false)?;
+    calls_of(alloc, schedule, run)
+}
+
+/// Reads a schedule for a broken list, runs it, and returns the report, of version 2. The order of the report has a
+/// call at each step that the list's table declares a linearization point. The order can fail to explain the calls.
+/// Allocates.
+///
+/// # Errors
+///
+/// Returns the errors of `read_broken_schedule`, or the error of the event at which the run ends: the event is not
+/// enabled, or its step would access a word outside the table (`Lost`).
+pub fn report_broken(alloc: Global, broken: BrokenList, text: &[u8]) -> Result<Report, LineFault>
+    ensures { IfOk result (λ r. r.version ≡ Two) }
+{
+    let schedule = read_broken_schedule(alloc, broken, text)?;
+    let refused = |_| LineFault::at(KIND_LINE, Cause::Memory);
+    let calls = run_calls(alloc, broken, &schedule).map_err(refused)?;
+    match calls.refused {
+        Some((line, cause)) => Err(LineFault::at(line, cause)),
+        None => Ok(Report {
+            version: Version::Two,
+            kind: schedule.kind,
+            history: calls.history,
+            order: calls.order,
+            keys: calls.keys,
+        }),
+    }
+}

@@ -1,0 +1,77 @@
+//! The walk from the head through the words of a table, which can be any words: a broken list can leave no chain.
+
+ghost use Rattle.std.specs.Prelude.{◌<◌, ◌^◌, IsTrue};
+
+use lset_steps::ChainKey;
+use lset_words::{key_index, link_index};
+use std::alloc::{AllocError, Global};
+use std::collections::BTreeSet;
+
+/// A limit for node numbers: no table has this many nodes, so a walk ends at such a number.
+const NO_NODE: u64 = 1 << 32;
+
+/// A node on the walk: its key and mark, and the number of the next node.
+#[derive(Clone, Copy)]
+struct Met {
+    place: ChainKey,
+    next: u64,
+}
+
+/// Returns the word at `index`, or 0 if the table is shorter.
+fn word_at(words: &[u64], index: u64) -> u64 {
+    words.get(index as usize).copied().unwrap_or(0)
+}
+
+/// Decides whether `node` is in the table and is neither head nor tail.
+fn is_met(words: &[u64], node: u64) -> bool
+    ensures { IsTrue result → node < 2 ^ 32 }
+{
+    1 < node && node < NO_NODE && link_index(node) < words.len() as u64
+}
+
+fn met_at(words: &[u64], node: u64) -> Option<Met> {
+    if !is_met(words, node) {
+        return None;
+    }
+    let link = word_at(words, link_index(node));
+    let key = word_at(words, key_index(node)).saturating_sub(1) % NO_NODE;
+    Some(Met {
+        place: ChainKey {
+            key: key as u32,
+            marked: link % 2 == 1,
+        },
+        next: link / 2,
+    })
+}
+
+/// Walks from the head and returns the key and the mark of each node before the tail. A link that leads out of the table
+/// ends the walk too.
+///
+/// The links of a broken list can form a circle, therefore the walk passes at most `words.len() / 3` nodes. Allocates;
+/// `AllocError` if that fails.
+pub(crate) fn chain_met(alloc: Global, words: &[u64]) -> Result<Vec<ChainKey>, AllocError> {
+    let mut met = Vec::new(alloc);
+    let mut node = word_at(words, link_index(0)) / 2;
+    for _left in 0..words.len() / 3 {
+        match met_at(words, node) {
+            Some(found) => {
+                met.push(found.place)?;
+                node = found.next;
+            }
+            None => return Ok(met),
+        }
+    }
+    Ok(met)
+}
+
+/// Returns the keys of the unmarked nodes in `met`, each once, in increasing order. Allocates; `AllocError` if that
+/// fails.
+pub(crate) fn keys_of(alloc: Global, met: &[ChainKey]) -> Result<Vec<u32>, AllocError> {
+    let mut keys = BTreeSet::new(alloc);
+    for place in met {
+        if !place.marked {
+            keys.insert(place.key)?;
+        }
+    }
+    keys.iter().copied().collect(alloc)
+}

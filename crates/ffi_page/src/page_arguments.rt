@@ -1,0 +1,22 @@
+ghost use Rattle.std.specs.Prelude.{◌≡◌, IfOk, map, string_bytes};
+ghost use Rattle.ffi_page.specs.Page.{words_in};
+
+use std::alloc::{AllocError, Global};
+
+/// Returns the arguments in the bytes. A zero byte separates two arguments; no argument of a command line has one.
+pub fn words_in(alloc: Global, bytes: &[u8]) -> Result<Vec<String>, AllocError>
+    ensures { IfOk result (λ words. map string_bytes words.items ≡ words_in bytes.now) }
+{
+    let text = String::from_utf8_lossy(alloc, bytes)?;
+    let pieces: Vec<&str> = text.split('\0').collect(alloc)?;
+    let mut words = Vec::new(alloc);
+    for piece in &pieces {
+        words.push(String::from_str(alloc, piece)?)?;
+    }
+    Ok(words)
+}
+
+/// Returns the value of option `index`, from 0. `None` if the option was not given: it is missing, or it has no `=`.
+pub fn option_at(words: &[String], index: usize) -> Option<&str> {
+    words.get(index)?.as_str().strip_prefix('=')
+}

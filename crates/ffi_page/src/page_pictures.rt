@@ -1,0 +1,62 @@
+use crate::page_arguments::{option_at, words_in};
+use broken_lists::{BrokenList, named};
+use std::alloc::Global;
+use tool_base::{Answer, Trouble, ValueName, answer_text};
+use tool_judge::ShowJudged;
+use tool_replay::{ReplayBroken, Trace, print_example, read_example_request};
+use tool_show::{Show, read_show};
+
+/// Reads the options of `show`: the words from index `first` to the last. Returns the first option that is wrong as the error.
+fn show_by(svg: bool, words: &[String], first: usize) -> Result<Show, ValueName> {
+    let from = option_at(words, first);
+    let to = option_at(words, first.saturating_add(1));
+    let width = option_at(words, first.saturating_add(2));
+    read_show(svg, from, to, width)
+}
+
+/// Draws a schedule or a report, as text or as an SVG (`svg`), within the moments and the width of the options. The errors are
+/// those of `ShowJudged`, and `Bad` if an option is wrong.
+pub fn draw_text(alloc: Global, text: &[u8], svg: bool, options: &[u8]) -> Result<Answer, Trouble> {
+    let words = words_in(alloc, options)?;
+    let show = show_by(svg, &words, 0)?;
+    answer_text(alloc, &ShowJudged { show }, text)
+}
+
+/// Returns the answer of a command on a schedule of a broken list, within the moments and the width of the options after the command.
+pub fn run_broken(
+    alloc: Global,
+    name: &[u8],
+    text: &[u8],
+    words: &[u8],
+) -> Result<Answer, Trouble> {
+    let words = words_in(alloc, words)?;
+    let Some(command) = words.first() else {
+        return Err(Trouble::Bad(ValueName::Name));
+    };
+    let command = command.as_bytes();
+    let show = show_by(command == b"show_svg".as_slice(), &words, 1)?;
+    let broken = named(name).ok_or(Trouble::Bad(ValueName::Lacks))?;
+    match command {
+        b"replay" => answer_text(alloc, &ReplayBroken { broken }, text),
+        b"trace" => trace(alloc, broken, text, false),
+        b"trace_with_chains" => trace(alloc, broken, text, true),
+        b"show" | b"show_svg" => {
+            let lacks = Some(broken);
+            let show = Show { lacks, ..show };
+            answer_text(alloc, &ShowJudged { show }, text)
+        }
+        _ => Err(Trouble::Bad(ValueName::Name)),
+    }
+}
+
+/// Returns the trace of a schedule of a broken list.
+fn trace(alloc: Global, broken: BrokenList, text: &[u8], chains: bool) -> Result<Answer, Trouble> {
+    let lacks = Some(broken);
+    answer_text(alloc, &Trace { chains, lacks }, text)
+}
+
+/// Returns the answer of `example`.
+pub fn example_by(alloc: Global, name: Option<&[u8]>, broken: bool) -> Result<Answer, Trouble> {
+    let request = read_example_request(name, broken)?;
+    print_example(alloc, request)
+}

@@ -1,0 +1,16 @@
+ghost use Rattle.tool_replay.specs.Generating.{Generates};
+ghost use Rattle.tool_base.specs.Tools.{view};
+ghost use Rattle.ffi_page.specs.Page.{OfWords};
+
+use crate::page_arguments::words_in;
+use std::alloc::Global;
+use tool_base::{Answer, Trouble};
+use tool_replay::generate_for;
+
+/// Returns the schedule of `gen` for the arguments in the bytes.
+pub fn generate_by(alloc: Global, bytes: &[u8]) -> Result<Answer, Trouble>
+    ensures { OfWords Generates bytes.now (view result) }
+{
+    let values = words_in(alloc, bytes)?;
+    generate_for(alloc, &values)
+}

@@ -1,0 +1,138 @@
+//! Calls from a seat, each with a result type of its own. `LiveSet` has these calls with a `Reply`.
+ghost use Rattle.std.specs.Prelude.{◌≡◌};
+ghost use Rattle.lset_words.specs.declared.Call.TheVariants.{Add, Remove, Contains, Ceiling};
+ghost use Rattle.lset_live.specs.Explained.{HasAnswered};
+ghost use Rattle.lset_live.specs.Seats.{reply_of};
+ghost use Rattle.lset_live.specs.Typed.{IsAddReply, IsCeilingReply, IsTruth, reply_of_add, reply_of_ceiling};
+
+use crate::running_machine::Running;
+use crate::seat::Seat;
+use crate::set::LiveSet;
+use lset_words::{Key, Reply};
+use std::sync::Wait;
+
+/// The result of `Seat::add`.
+#[derive(Clone, Copy, Debug, PartialEq, Eq)]
+#[must_use]
+pub enum Added {
+    /// The key was absent and was added. It takes one slot of the seat's thread. The reply is `True`.
+    New,
+    /// The key was present already. Nothing changed. The reply is `False`.
+    Already,
+    /// The key is absent, and the seat's thread has used up its quota. Nothing changed. The reply is `Full`.
+    Full,
+}
+
+impl<M: Running> Seat<M> {
+    /// Adds `key` to `set`. Returns whether the key was added, was present already, or exceeds the quota. This seat must belong to
+    /// `set`.
+    ///
+    /// Appends the call with its reply to the seat's record, as `LiveSet::add` does. Removing a key frees no slot. Can block while
+    /// another thread holds a lock that the call needs. Does not allocate.
+    ///
+    /// For example:
+    ///
+    ///     match seat.add(rt, &set, Key(5)) {
+    ///         Added::New => println!(rt; "5 is in the set now")?,
+    ///         Added::Already => println!(rt; "5 was in the set already")?,
+    ///         Added::Full => println!(rt; "this seat adds no key any more")?,
+    ///     }
+    pub fn add<R: Wait>(&mut self, rt: &R, set: &LiveSet<M>, key: Key) -> Added
+        requires { self.old.set ≡ set.now }
+        ensures { HasAnswered M.table set.now self.old (Add key) (reply_of_add result) self.new }
+    {
+        let reply = set.add(rt, self, key);
+        added_of(reply)
+    }
+
+    /// Removes `key` from `set`, and returns whether it was present. This seat must belong to `set`.
+    ///
+    /// Appends the call with the reply `True` or `False` to the seat's record, as `LiveSet::remove` does. Can block while another
+    /// thread holds a lock that the call needs. Does not allocate.
+    ///
+    /// For example:
+    ///
+    ///     if seat.remove(rt, &set, Key(5)) {
+    ///         println!(rt; "5 was in the set")?;
+    ///     }
+    pub fn remove<R: Wait>(&mut self, rt: &R, set: &LiveSet<M>, key: Key) -> bool
+        requires { self.old.set ≡ set.now }
+        ensures { HasAnswered M.table set.now self.old (Remove key) (reply_of result) self.new }
+    {
+        let reply = set.remove(rt, self, key);
+        truth_of(reply)
+    }
+
+    /// Returns whether `key` is in `set`. This seat must belong to `set`.
+    ///
+    /// Appends the call with the reply `True` or `False` to the seat's record, as `LiveSet::contains` does. Can block while another
+    /// thread holds a lock that the call needs; `LiveSet::contains_now` never blocks. Does not allocate.
+    ///
+    /// For example:
+    ///
+    ///     if !seat.contains(rt, &set, Key(5)) {
+    ///         println!(rt; "5 is not in the set")?;
+    ///     }
+    pub fn contains<R: Wait>(&mut self, rt: &R, set: &LiveSet<M>, key: Key) -> bool
+        requires { self.old.set ≡ set.now }
+        ensures { HasAnswered M.table set.now self.old (Contains key) (reply_of result) self.new }
+    {
+        let reply = set.contains(rt, self, key);
+        truth_of(reply)
+    }
+
+    /// Returns the smallest key of `set` at or above `key`, or `None` if there is none. This seat must belong to `set`.
+    ///
+    /// Appends the call with the reply `At` (of the returned key) or `Nothing` to the seat's record, as `LiveSet::ceiling` does.
+    /// Can block while another thread holds a lock that the call needs. Does not allocate.
+    ///
+    /// For example:
+    ///
+    ///     if let Some(Key(smallest)) = seat.ceiling(rt, &set, Key(0)) {
+    ///         println!(rt; "the smallest key is {smallest}")?;
+    ///     }
+    pub fn ceiling<R: Wait>(&mut self, rt: &R, set: &LiveSet<M>, key: Key) -> Option<Key>
+        requires { self.old.set ≡ set.now }
+        ensures { HasAnswered M.table set.now self.old (Ceiling key) (reply_of_ceiling result) self.new }
+    {
+        let reply = set.ceiling(rt, self, key);
+        key_of(reply)
+    }
+}
+
+/// Returns the result of an `add` with this reply.
+fn added_of(reply: Reply) -> Added
+    requires { IsAddReply reply }
+    ensures { reply_of_add result ≡ reply }
+{
+    match reply {
+        Reply::True => Added::New,
+        Reply::False => Added::Already,
+        Reply::Full => Added::Full,
+        Reply::At(_) | Reply::Nothing => unreachable!(),
+    }
+}
+
+/// Returns the result of a `remove` or a `contains` with this reply.
+pub(crate) fn truth_of(reply: Reply) -> bool
+    requires { IsTruth reply }
+    ensures { reply_of result ≡ reply }
+{
+    match reply {
+        Reply::True => true,
+        Reply::False => false,
+        Reply::Full | Reply::At(_) | Reply::Nothing => unreachable!(),
+    }
+}
+
+/// Returns the result of a `ceiling` with this reply.
+fn key_of(reply: Reply) -> Option<Key>
+    requires { IsCeilingReply reply }
+    ensures { reply_of_ceiling result ≡ reply }
+{
+    match reply {
+        Reply::At(key) => Some(key),
+        Reply::Nothing => None,
+        Reply::True | Reply::False | Reply::Full => unreachable!(),
+    }
+}

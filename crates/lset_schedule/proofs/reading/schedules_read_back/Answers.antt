@@ -1,5 +1,0 @@
-use Rattle.lset_schedule.proofs.TextLaws.{is_found, reads_text}
-use Rattle.lset_schedule.proofs.reading.schedules_read_back.Goals as goal
-
-pub returns : goal.returns
-returns c = λ p bytes. (reads_text p, is_found bytes p)

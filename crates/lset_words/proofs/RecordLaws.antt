@@ -1,0 +1,7 @@
+-- Extending a record by two lists of calls extends it by their concatenation.
+use Rattle.std.proofs.Common.{◌≡◌, List, [], ◌∷◌, ◌++◌, refl}
+use Rattle.lset_words.specs.Records.{CallMade, Record, called, with_calls}
+
+pub with_calls-append : (r : Record) (xs ys : List CallMade) → with_calls r (xs ++ ys) ≡ with_calls (with_calls r xs) ys
+with_calls-append r [] ys = refl
+with_calls-append r (x ∷ xs) ys = with_calls-append (called r x) xs ys

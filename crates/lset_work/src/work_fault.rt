@@ -1,0 +1,37 @@
+use lset_live::{LiveSet, Running, Seat};
+use std::fmt;
+use thiserror::Error;
+
+/// The cause of a `WorkFault`.
+#[derive(Clone, Copy, Debug, PartialEq, Eq, Error)]
+pub enum WorkCause {
+    /// The programs are not as many as the seats, or the seats do not hold all seats of the set. No thread was started.
+    #[error("the number of programs is not the number of seats, or seats are missing")]
+    Programs,
+    /// The system refused to start a thread. The threads that were started have run to their ends.
+    #[error("the system refused to start a thread")]
+    Spawn,
+    /// The gate returned false. The other threads have run to their ends.
+    #[error("the gate returned false")]
+    Gate,
+    /// An allocation failed. No thread was started.
+    #[error("out of memory")]
+    Memory,
+}
+
+/// The error of `work`. After `Programs` and `Memory` no thread was started, and `back` contains the set and the seats unchanged.
+/// After the other causes `back` is `None`.
+#[derive(Drop, Error)]
+#[error("{cause}")]
+pub struct WorkFault<M: Running> {
+    pub cause: WorkCause,
+    pub back: Option<(LiveSet<M>, Vec<Seat<M>>)>,
+}
+
+impl<M: Running> fmt::Debug for WorkFault<M> {
+    fn fmt<W: fmt::Write>(&self, f: &mut fmt::Formatter<W>) -> fmt::Result {
+        f.debug_struct("WorkFault")
+            .field("cause", &self.cause)
+            .finish_non_exhaustive()
+    }
+}
