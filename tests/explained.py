@@ -60,15 +60,16 @@ ROWS = {
     "1 as a reply": ("judge", CALLS + "call 0 add 5 1 4 1\nend\n", "line 2: Line", ["'1' is no reply"]),
     "insert in a recording": ("judge", CALLS + "call 0 insert 5 1 4 true\nend\n", "line 2: Line", ["'insert' is no call"]),
     "full": ("judge", CALLS + "call 0 add 5 1 4 full\nend\n", "line 2: Line", ["grep -v -e ceiling -e full FILE"]),
-    "end before begin": ("judge", CALLS + "call 0 add 5 4 1 true\nend\n", "line 2: History", ["ends at moment 1", "begins"]),
+    "end before begin": ("judge", CALLS + "call 0 add 5 4 1 true\nend\n", "line 2: History", ["ends at moment 1", "begins", "Take the begin before the call's first step"]),
+    "end before begin in a report": ("check", RIGHT_REPORT.replace("1 8", "8 1"), "line 5: History", ["ends at moment 1", "listset replay"]),
     "one moment twice": ("judge", CALLS + ADD + "call 1 add 7 4 6 true\nend\n", "line 3: History", ["Moment 4", "line 2", "one counter"]),
     "not sorted": ("judge", CALLS + "call 0 add 5 5 6 true\ncall 1 add 7 1 2 true\nend\n", "line 3: History", ["before the call of line 2", "sort -n -k 5,5"]),
     "two calls of a thread": ("judge", CALLS + "call 0 add 5 1 4 true\ncall 0 add 7 2 3 true\nend\n", "line 3: History", ["line 2 has not ended", "one call at a time"]),
     "large moment": ("judge", CALLS + "call 0 add 5 1 9223372036854775808 true\nend\n", "line 2: Number", ["'9223372036854775808'", "from 1 to 9223372036854775807"]),
-    "moment 0": ("judge", CALLS + "call 0 add 5 0 4 true\nend\n", "line 2: Number", ["'0'", "from 1 to"]),
-    "1.5": ("judge", CALLS + "call 0 add 5 1.5 4 true\nend\n", "line 2: Number", ["'1.5'", "point"]),
-    "a key abc": ("judge", CALLS + "call 0 add abc 1 4 true\nend\n", "line 2: Number", ["'abc'", "from 0 to 4294967295"]),
-    "a thread main": ("judge", CALLS + "call main add 5 1 4 true\nend\n", "line 2: Number", ["'main'"]),
+    "moment 0": ("judge", CALLS + "call 0 add 5 0 4 true\nend\n", "line 2: Number", ["BEGIN '0'", "from 1 to", "one counter that starts at 1"]),
+    "1.5": ("judge", CALLS + "call 0 add 5 1.5 4 true\nend\n", "line 2: Number", ["BEGIN '1.5'", "point"]),
+    "a key abc": ("judge", CALLS + "call 0 add abc 1 4 true\nend\n", "line 2: Number", ["KEY 'abc'", "from 0 to 4294967295", "a number of its own for each key"]),
+    "a thread main": ("judge", CALLS + "call main add 5 1 4 true\nend\n", "line 2: Number", ["THREAD 'main'", "Number the threads"]),
     "no end": ("judge", CALLS + ADD, "line 3: NotEnded", ["stops after line 2", "'end'", "'cut'", "echo cut >> FILE"]),
     "keys do not increase": ("judge", CALLS + ADD + "key 7\nkey 5\nend\n", "line 4: Opening", ["'key 5' comes after 'key 7'", "increase"]),
     "a line after the end": ("judge", RIGHT_CALLS + "\n", "line 5: Line", ["is empty"]),
@@ -114,6 +115,18 @@ def test_a_file_that_is_not_read_is_explained(program, room):
     long.write_text(SCHEDULE)
     os.truncate(long, 67_108_865)
     assert "has more than 67108864 bytes" in well(program, "explain", long)
+
+
+NAMES = {"a b.calls": "'a b.calls'", "-x.calls": "./-x.calls", "it's": "'it'\\''s'", "$x;y": "'$x;y'", "-a b": "'./-a b'", "d/a-b_1.calls": "d/a-b_1.calls"}
+
+
+@pytest.mark.parametrize("name", NAMES)
+def test_a_shell_reads_the_name_in_a_command(program, room, name):
+    (room / "d").mkdir()
+    (room / name).write_text(RIGHT_CALLS)
+    said = well(program, "explain", "--", name, cwd=room)
+    assert said.splitlines()[-1].endswith(f"listset judge {NAMES[name]}"), said
+    assert ran("sh", "-c", f"cat {NAMES[name]}", cwd=room).stdout == RIGHT_CALLS
 
 
 def test_no_text_stops_explain(program, few):

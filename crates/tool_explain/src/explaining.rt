@@ -1,7 +1,7 @@
 use crate::events::put_event;
 use crate::keyed::{put_key_line, wrong_key};
 use crate::kinds::{Place, TextKind};
-use crate::lined::{Lines, put_visible};
+use crate::lined::{Lines, put_visible, quoted_name};
 use crate::recorded::put_recording_line;
 use crate::reported::put_report_line;
 use crate::spoiled::{put_encoding, put_no_title, put_not_ended, put_spoiled};
@@ -13,10 +13,12 @@ use tool_judge::judge_bytes;
 use tool_replay::{Check, Expand, Replay};
 
 /// Explains a text: its kind, the first line with an error, and in the last line what is wrong and what to do. Of a text
-/// without an error the last line names the commands that read it. `file` is the file's name in these commands. The exit
-/// status is 0. Allocates; the error is `Trouble::Memory`.
+/// without an error the last line names the commands that read it. `file` is the file's name; a shell reads the printed
+/// name as this one. The exit status is 0. Allocates; the error is `Trouble::Memory`.
 pub fn explain_text(alloc: Global, file: &str, text: &[u8]) -> Result<Answer, Trouble> {
     let mut out = String::new(alloc);
+    let name = quoted_name(alloc, file)?;
+    let file = name.as_str();
     if text.len() > LONGEST {
         put_too_long(&mut out, file, text)?;
     } else if !put_encoding(&mut out, file, text)? {

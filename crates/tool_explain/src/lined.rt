@@ -123,3 +123,35 @@ pub(crate) fn put_quoted(out: &mut String, bytes: &[u8]) -> Result<(), AllocErro
     put_visible(out, bytes)?;
     out.push_str("'")
 }
+
+/// Returns whether a shell takes a byte of a name as it is.
+fn is_plain(byte: u8) -> bool {
+    let is_sign = matches!(
+        byte,
+        b'_' | b'-' | b'.' | b'/' | b'+' | b':' | b'=' | b'@' | b'%' | b','
+    );
+    byte.is_ascii_alphanumeric() || !byte.is_ascii() || is_sign
+}
+
+/// Returns a file's name as a command line has it: between apostrophes if it has a space or another byte that a shell does
+/// not take as it is, and after `./` if it begins with a hyphen.
+pub(crate) fn quoted_name(alloc: Global, file: &str) -> Result<String, AllocError> {
+    let mut name = String::new(alloc);
+    let is_quoted = file.is_empty() || !file.as_bytes().iter().all(|byte| is_plain(*byte));
+    if is_quoted {
+        name.push_str("'")?;
+    }
+    if file.starts_with('-') {
+        name.push_str("./")?;
+    }
+    for part in file.chars() {
+        match part {
+            '\'' => name.push_str("'\\''")?,
+            other => name.push(other)?,
+        }
+    }
+    if is_quoted {
+        name.push_str("'")?;
+    }
+    Ok(name)
+}

@@ -85,9 +85,14 @@ pub(crate) fn put_moments(
     if let Some(end) = moment_at(line, fields.end)
         && end <= begin
     {
+        let advice = if place.kind == TextKind::Recording {
+            "Take the begin before the call's first step, and the end after its last, from one counter."
+        } else {
+            "Make the report again, by listset replay."
+        };
         return writeln!(
             out,
-            "The call ends at moment {end}, which is not after moment {begin}, at which the call begins."
+            "The call ends at moment {end}, which is not after moment {begin}, at which the call begins. {advice}"
         );
     }
     for moment in [Some(begin), moment_at(line, fields.end)] {
@@ -100,7 +105,7 @@ pub(crate) fn put_moments(
         if let (Some(taken), Some(moment)) = (lines.last_before(place.number, is_taken), moment) {
             return writeln!(
                 out,
-                "Moment {moment} is in line {taken} too. Each begin and each end needs a moment of its own: take all of them from one counter."
+                "Moment {moment} is in line {taken} too. Each begin and each end needs a moment of its own: take all of them from one counter, each by one atomic addition."
             );
         }
     }

@@ -17,45 +17,53 @@ const MOST_STEPS: u64 = 10_000;
 /// The largest row of a list.
 const MOST_ROW: u64 = 255;
 
-/// A field that must be a number: its index in the line, from 0, and its range.
+/// A field that must be a number: its name in messages, its index in the line, from 0, and its range.
 #[derive(Clone, Copy)]
 struct NumberField {
+    name: &'static str,
     index: usize,
     low: u64,
     high: u64,
 }
 
 /// Returns the field of a thread, a key or a call.
-fn plain(index: usize) -> NumberField {
-    NumberField {
-        index,
-        low: 0,
-        high: 4_294_967_295,
-    }
+fn plain(name: &'static str, index: usize) -> NumberField {
+    in_range(name, index, 0, 4_294_967_295)
 }
 
 /// Returns the field of a number in a range.
-fn in_range(index: usize, low: u64, high: u64) -> NumberField {
-    NumberField { index, low, high }
+fn in_range(name: &'static str, index: usize, low: u64, high: u64) -> NumberField {
+    NumberField {
+        name,
+        index,
+        low,
+        high,
+    }
 }
 
 /// Explains a line with a number that is wrong, by the numbers that a line of its kind has.
 pub(crate) fn put_number(out: &mut String, place: Place<'_>) -> Result<(), AllocError> {
     let is_stop = matches!(field_or_empty(place.line, 2), b"out" | b"to");
+    let thread = plain("THREAD", 1);
     match (place.kind, field_or_empty(place.line, 0)) {
         (TextKind::Report, b"call") => {
-            let begin = in_range(5, 1, MOST_MOMENT_OF_REPORT);
-            let end = in_range(6, 1, MOST_MOMENT_OF_REPORT);
-            put_first_wrong(out, place, &[plain(1), plain(2), plain(4), begin, end])
+            let begin = in_range("BEGIN", 5, 1, MOST_MOMENT_OF_REPORT);
+            let end = in_range("END", 6, 1, MOST_MOMENT_OF_REPORT);
+            let (id, thread, key) = (plain("ID", 1), plain("THREAD", 2), plain("KEY", 4));
+            put_first_wrong(out, place, &[id, thread, key, begin, end])
         }
         (TextKind::Recording, b"call") => {
-            let (begin, end) = (in_range(4, 1, MOST_MOMENT), in_range(5, 1, MOST_MOMENT));
-            put_first_wrong(out, place, &[plain(1), plain(3), begin, end])
+            let begin = in_range("BEGIN", 4, 1, MOST_MOMENT);
+            let end = in_range("END", 5, 1, MOST_MOMENT);
+            put_first_wrong(out, place, &[thread, plain("KEY", 3), begin, end])
         }
-        (_, b"begin") => put_first_wrong(out, place, &[plain(1), plain(3)]),
-        (_, b"go") if is_stop => put_first_wrong(out, place, &[plain(1), in_range(3, 1, MOST_ROW)]),
-        (_, b"go") => put_first_wrong(out, place, &[plain(1), in_range(2, 1, MOST_STEPS)]),
-        _ => put_first_wrong(out, place, &[plain(1)]),
+        (_, b"begin") => put_first_wrong(out, place, &[thread, plain("KEY", 3)]),
+        (_, b"go") if is_stop => {
+            put_first_wrong(out, place, &[thread, in_range("ROW", 3, 1, MOST_ROW)])
+        }
+        (_, b"go") => put_first_wrong(out, place, &[thread, in_range("STEPS", 2, 1, MOST_STEPS)]),
+        (_, b"place") => put_first_wrong(out, place, &[plain("ID", 1)]),
+        _ => put_first_wrong(out, place, &[plain("KEY", 1)]),
     }
 }
 
@@ -66,20 +74,41 @@ fn put_first_wrong(
     fields: &[NumberField],
 ) -> Result<(), AllocError> {
     for wanted in fields {
-        let NumberField { index, low, high } = *wanted;
+        let NumberField {
+            name,
+            index,
+            low,
+            high,
+        } = *wanted;
         let Some(word) = field(place.line, index) else {
             continue;
         };
         let is_pending = word == b"-".as_slice() || word == b"open".as_slice();
         if !is_pending && long_number(word, low, high).is_none() {
+            out.push_str(name)?;
+            out.push_str(" ")?;
             put_quoted(out, word)?;
+            let advice = if place.kind == TextKind::Recording {
+                advice_on(name)
+            } else {
+                ""
+            };
             return writeln!(
                 out,
-                " must be a number from {low} to {high}, without sign, point or leading zero."
+                " must be a number from {low} to {high}, without sign, point or leading zero.{advice}"
             );
         }
     }
     out.push_str("A number of the line is out of its range, or has a sign or a leading zero.\n")
+}
+
+/// Returns how a recorder gets the numbers of a field, as a sentence after a space.
+fn advice_on(name: &str) -> &'static str {
+    match name {
+        "BEGIN" | "END" => " Take all moments from one counter that starts at 1.",
+        "THREAD" => " Number the threads, from 0.",
+        _ => " Write a number of its own for each key.",
+    }
 }
 
 /// Explains a word that is no call, in field `index` of a line. Returns false, and writes nothing, if the word is a call.
