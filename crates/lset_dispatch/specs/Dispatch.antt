@@ -11,7 +11,7 @@ use Rattle.tool_base.specs.declared.trouble.Trouble.TheVariants.{Bad, CannotRead
 use Rattle.tool_base.specs.Tools.{Made, Ends, AppendsFront}
 use Rattle.tool_replay.specs.Replaying.{Replays}
 use Rattle.tool_replay.specs.Checking.{Checks}
-use Rattle.tool_replay.specs.Generating.{Answers}
+use Rattle.tool_replay.specs.GenAnswers.{Answers}
 use Rattle.tool_judge.specs.Judging.{Judges}
 use Rattle.lset_dispatch.specs.Asked.{Asked, asked}
 use Rattle.lset_dispatch.specs.declared.request.Request.{Request}

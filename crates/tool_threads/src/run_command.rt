@@ -1,4 +1,4 @@
-use crate::keys::put_keys;
+use crate::key_lines::put_keys;
 use crate::troubles::{opening_trouble, work_trouble};
 use lset_coarse::CoarseList;
 use lset_fine::FineList;
@@ -52,8 +52,10 @@ fn run_round<M: Running + Send + Sync, R: Threads + Wait + Sync>(
         request.keys,
         request.seed,
     )?;
-    let opened = open_with::<M>(alloc, request.threads, request.quota, opening);
-    let (set, seats) = opened.map_err(opening_trouble)?;
+    let (set, seats) = match open_with::<M>(alloc, request.threads, request.quota, opening) {
+        Ok(opened) => opened,
+        Err(fault) => return Err(opening_trouble(fault)),
+    };
     match work(rt, alloc, set, seats, programs, &Always) {
         Ok(outcome) => Ok(outcome),
         Err(fault) => Err(work_trouble(fault.cause)),

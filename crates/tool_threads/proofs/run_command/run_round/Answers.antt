@@ -1,6 +1,6 @@
 use Rattle.std.proofs.Common.{◌<◌, ◌^◌, rules}
 use Rattle.tool_threads.proofs.ShortPrograms.{are_short}
-use Rattle.tool_threads.proofs.running.run_round.Goals as goal
+use Rattle.tool_threads.proofs.run_command.run_round.Goals as goal
 
 pub work-requires-clause-short : goal.work-requires-clause-short
 work-requires-clause-short g c κs within =

@@ -78,9 +78,10 @@ fn keys_of_lines(alloc: Global, left: Remaining<'_>) -> Result<Vec<u32>, LineFau
     let mut line = left.line;
     let mut rest = left.text;
     while !rest.is_empty() {
-        let fault = |cause| LineFault::at(line, cause);
         let (first, after) = cut(rest, b'\n').ok_or(LineFault::unended(line))?;
-        add_key(&mut keys, first).map_err(fault)?;
+        if let Err(cause) = add_key(&mut keys, first) {
+            return Err(LineFault::at(line, cause));
+        }
         line = line.saturating_add(1);
         rest = after;
     }

@@ -1,7 +1,7 @@
 //! Builds the text of a trace and passes it to a sink.
 
-use crate::trace::chunks::{Chunk, is_full, put, put_number};
-use crate::trace::events::put_event;
+use crate::trace_command::chunks::{Chunk, is_full, put, put_number};
+use crate::trace_command::event_line::put_event;
 use lset_replay::TracedEvent;
 use lset_schedule::Schedule;
 use lset_steps::ChainKey;

@@ -2,8 +2,8 @@
 
 ghost use Rattle.lset_schedule.specs.Plan.{IsSchedule, view};
 
-use crate::trace::Trace;
-use crate::trace::lines::{Lines, Sink, head_of};
+use crate::trace_command::Trace;
+use crate::trace_command::trace_lines::{Lines, Sink, head_of};
 use broken_lists::{broken_run, read_broken_schedule};
 use lset_coarse::CoarseList;
 use lset_fine::FineList;

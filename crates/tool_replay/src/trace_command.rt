@@ -1,17 +1,17 @@
 //! Writes a trace: a line for each event of a schedule, with what the event did.
 
 mod chunks;
-mod events;
-mod lines;
-mod running;
+mod event_line;
 mod table_words;
+mod trace_lines;
+mod traced_run;
 
 use broken_lists::BrokenList;
-use lines::Output;
-use running::trace_into;
 use std::alloc::Global;
 use std::io::{Read, Write};
 use tool_base::{Answer, Input, Tool, Trouble, read_all};
+use trace_lines::Output;
+use traced_run::trace_into;
 
 /// The command `trace`: the answer for a schedule has a line for each event. The status is 0 if the run makes every
 /// event, and 1 if an event cannot be made, which ends the trace. The error is `Line` with the first error of a text

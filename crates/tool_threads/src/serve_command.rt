@@ -1,4 +1,4 @@
-use crate::keys::{put_keys, read_keys};
+use crate::key_lines::{put_keys, read_keys};
 use crate::troubles::{opening_trouble, serve_trouble};
 use lset_coarse::CoarseList;
 use lset_fine::FineList;
@@ -65,9 +65,10 @@ fn serve_list<
     keys: &[u32],
     output: &mut W,
 ) -> Result<Answer, Trouble> {
-    let (set, seats) = open_with::<M>(alloc, request.seats, request.quota, keys).map_err(
-        opening_trouble,
-    )?;
+    let (set, seats) = match open_with::<M>(alloc, request.seats, request.quota, keys) {
+        Ok(opened) => opened,
+        Err(fault) => return Err(opening_trouble(fault)),
+    };
     let listener = listen(rt, alloc, request.port, output)?;
     match serve(rt, alloc, listener, set, seats, request.sessions) {
         Ok(served) => Ok(Answer {

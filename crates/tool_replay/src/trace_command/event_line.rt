@@ -1,6 +1,6 @@
 //! Writes the line of an event.
-use crate::trace::chunks::{Chunk, put, put_number};
-use crate::trace::table_words::{TableWord, put_key, put_name, put_node, put_value};
+use crate::trace_command::chunks::{Chunk, put, put_number};
+use crate::trace_command::table_words::{TableWord, put_key, put_name, put_node, put_value};
 use lset_replay::{CallEnd, Deed, TracedEvent};
 use lset_steps::{Action, Local};
 use lset_text::call_word;

@@ -1,5 +1,5 @@
 use Rattle.std.proofs.Common.{Some, sym, refl}
-use Rattle.tool_replay.proofs.checking.answer_on.Goals as goal
+use Rattle.tool_replay.proofs.check_command.answer_on.Goals as goal
 
 -- `check_order` returned the first fault of the order, and the line names this fault
 pub returns-in_ok-refusal_text-in-Err-clause-judged :

@@ -1,14 +1,27 @@
-ghost use Rattle.std.specs.Prelude.{IfSome};
+ghost use Rattle.std.specs.Prelude.{◌≡◌, IfSome};
 ghost use Rattle.tool_base.specs.Tools.{Ends};
-ghost use Rattle.tool_replay.specs.Replaying.{Replays, ReplaysText};
+ghost use Rattle.tool_replay.specs.Replaying.{Replays, ReplaysText, of_replay};
 
 use broken_lists::{BrokenList, report_broken};
-use lset_replay::replay;
+use lset_replay::{ReplayFault, replay};
 use lset_report::write_report;
 use lset_schedule::read_schedule;
+use lset_text::Cause;
 use std::alloc::Global;
 use std::io::{Read, Write};
 use tool_base::{Answer, Input, Tool, Trouble, run_tool};
+
+/// Maps the error of `replay`.
+fn replay_trouble(fault: ReplayFault) -> Trouble
+    ensures { result ≡ of_replay fault }
+{
+    match fault {
+        ReplayFault::NoThread(line) => Trouble::Line(line, Cause::NoThread),
+        ReplayFault::Busy(line) => Trouble::Line(line, Cause::Busy),
+        ReplayFault::Idle(line) => Trouble::Line(line, Cause::Idle),
+        ReplayFault::Memory => Trouble::Memory,
+    }
+}
 
 /// The command `replay`: the answer for a schedule is the text of its report, with status 0. The error is `Line` with
 /// the first error of the text, or with the first event that is not enabled, or `Memory`.
@@ -20,9 +33,13 @@ impl Tool for Replay {
 
     fn answer(&self, alloc: Global, input: Input<'_>) -> Result<Answer, Trouble> {
         let schedule = read_schedule(alloc, input.bytes())?;
-        let report = replay(alloc, &schedule)?;
-        let text = write_report(alloc, &report)?;
-        Ok(Answer { text, status: 0 })
+        match replay(alloc, &schedule) {
+            Ok(report) => {
+                let text = write_report(alloc, &report)?;
+                Ok(Answer { text, status: 0 })
+            }
+            Err(fault) => Err(replay_trouble(fault)),
+        }
     }
 }
 

@@ -1,5 +1,5 @@
 //! Writes the words of a list: three of the list itself, and three of each node.
-use crate::trace::chunks::{Chunk, put, put_number};
+use crate::trace_command::chunks::{Chunk, put, put_number};
 
 /// The key word of the tail.
 const ABOVE_ALL_KEYS: u64 = 4_294_967_297;

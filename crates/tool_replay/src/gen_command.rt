@@ -3,7 +3,7 @@ ghost use Rattle.lset_schedule.specs.Generating.{IsAccepted};
 ghost use Rattle.lset_schedule.specs.Plan.{view};
 ghost use Rattle.lset_lists.specs.Tables.{table_of};
 ghost use Rattle.lset_schedule.specs.declared.gen_fault.GenFault.TheVariants.{Memory};
-ghost use Rattle.tool_replay.specs.Generating.{Answers, Generates, IsRequested};
+ghost use Rattle.tool_replay.specs.GenAnswers.{Answers, Generates, IsRequested};
 ghost use Rattle.tool_base.specs.Tools.{Ends};
 ghost use Rattle.tool_base.specs.Tools as tools;
 
