@@ -1,9 +1,9 @@
 //! Computes the columns of a picture in a window: one for each moment at which something happens.
 use crate::MOST_WIDTH;
 use crate::beginning::clash_begins;
-use crate::moments::{moments_shown, next_moment};
+use crate::drawn_moments::{moments_shown, next_moment};
+use crate::drawn_sets::{go_on, reached_at_first, set_text};
 use crate::picture::{Picture, Window, are_known, points_of, standing_at};
-use crate::sets::{go_on, reached_at_first, set_text};
 use lset_text::{call_word, reply_word};
 use lset_words::{Call, CallRecord, Reply};
 use std::alloc::{AllocError, Global};
@@ -72,18 +72,19 @@ impl Drawing {
 
     /// Returns the position of the moments from `first` to `last`, or from `first` on if `last` is `None`.
     pub fn side_of(&self, first: u32, last: Option<u32>) -> Side {
-        if self.last < first {
-            Side::After
-        } else if last.is_some_and(|last| last < self.from) {
-            Side::Before
-        } else {
-            Side::Within
+        match last {
+            _ if self.last < first => Side::After,
+            Some(last) if last < self.from => Side::Before,
+            _ => Side::Within,
         }
     }
 
     /// Returns the position of a call's bar.
     pub fn side_of_bar(&self, made: CallRecord) -> Side {
-        self.side_of(made.begun, made.ended.map(|(end, _)| end))
+        match made.ended {
+            Some((end, _)) => self.side_of(made.begun, Some(end)),
+            None => self.side_of(made.begun, None),
+        }
     }
 }
 
@@ -98,13 +99,15 @@ fn add_begun(marks: &mut Vec<Mark>, picture: &Picture, moment: u32) -> Result<()
     Ok(())
 }
 
-fn add_standing(marks: &mut Vec<Mark>, picture: &Picture, moment: u32) -> Result<(), AllocError> {
+/// Adds the points of a moment. Returns whether a call changes the set there.
+fn add_points(marks: &mut Vec<Mark>, picture: &Picture, moment: u32) -> Result<bool, AllocError> {
+    let mut changes = false;
     for (index, point) in points_of(picture).iter().enumerate() {
         if point.moment != moment {
             continue;
         }
         let Some(standing) = standing_at(picture, index) else {
-            return Ok(());
+            break;
         };
         if let Some(made) = standing.made {
             let sign = if point.change {
@@ -114,9 +117,10 @@ fn add_standing(marks: &mut Vec<Mark>, picture: &Picture, moment: u32) -> Result
             };
             let thread = made.thread;
             marks.push(Mark { thread, sign })?;
+            changes = changes || point.change;
         }
     }
-    Ok(())
+    Ok(changes)
 }
 
 fn add_ended(marks: &mut Vec<Mark>, picture: &Picture, moment: u32) -> Result<(), AllocError> {
@@ -194,12 +198,10 @@ fn columns_at(
         let moment = *moment;
         let mut marks = Vec::new(alloc);
         add_begun(&mut marks, picture, moment)?;
-        add_standing(&mut marks, picture, moment)?;
+        let changes = add_points(&mut marks, picture, moment)?;
         add_ended(&mut marks, picture, moment)?;
         let mut set = String::new(alloc);
-        if known
-            && (columns.is_empty() || marks.iter().any(|mark| matches!(mark.sign, Sign::Change)))
-        {
+        if known && (columns.is_empty() || changes) {
             go_on(&mut reached, picture, moment)?;
             set = set_text(alloc, &reached)?;
         }
@@ -227,7 +229,7 @@ pub(crate) fn drawing_in(
         known: are_known(picture),
         from: window.from,
         last: window.to,
-        before: next_moment(picture, 0).is_some_and(|moment| moment < window.from),
+        before: matches!(next_moment(picture, 0), Some(moment) if moment < window.from),
         after: false,
     };
     end_at_last(picture, &mut drawing);

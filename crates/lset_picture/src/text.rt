@@ -59,9 +59,17 @@ fn put_cell(
     Ok(drawn)
 }
 
-/// Decides whether a call of the thread began before a moment and is still drawn at it.
-fn spans(made: &CallRecord, thread: u32, moment: u32) -> bool {
-    made.thread == thread && made.begun < moment && made.ended.is_none_or(|(end, _)| moment <= end)
+/// Decides whether a call of the thread began before a moment and had not ended before it.
+fn is_spanned(calls: &[CallRecord], thread: u32, moment: u32) -> bool {
+    for made in calls {
+        if made.thread == thread
+            && made.begun < moment
+            && !matches!(made.ended, Some((end, _)) if end < moment)
+        {
+            return true;
+        }
+    }
+    false
 }
 
 /// Appends a row without the white space at its end.
@@ -77,8 +85,7 @@ fn put_lane(
     drawing: &Drawing,
     thread: u32,
 ) -> Result<(), AllocError> {
-    let calls = picture.history.calls();
-    let mut drawn = calls.iter().any(|made| spans(made, thread, drawing.from));
+    let mut drawn = is_spanned(picture.history.calls(), thread, drawing.from);
     let mut row = format!(in alloc; "thread {thread}")?;
     fill(&mut row, 0, LABEL, ' ')?;
     let mut is_first = true;
@@ -131,7 +138,12 @@ fn put_rows(
 }
 
 fn has_longer(rows: &str, width: u32) -> bool {
-    rows.lines().any(|row| row.len() > width as usize)
+    for row in rows.lines() {
+        if row.len() > width as usize {
+            return true;
+        }
+    }
+    false
 }
 
 /// Decides whether every row of a drawing fits the width.
@@ -208,7 +220,7 @@ fn put_drawn_rows(
 /// happens, and only as many as fit in rows of `width` characters, at least one. If a window of all moments does not
 /// fit, the drawing of a refused order begins with the call that the refusal is about. Allocates; `AllocError` if that
 /// fails. (The picture with bars and points is Herlihy and Wing's.)
-pub(crate) fn write_picture(
+pub fn write_picture(
     alloc: Global,
     picture: &Picture,
     window: Window,

@@ -6,7 +6,7 @@ use std::alloc::{AllocError, Global};
 
 /// Decides whether a window that begins at `from`, counted from 1, has no column because every call begins, takes
 /// effect and ends before it. For a picture without calls the answer is no.
-pub(crate) fn is_past_the_last(picture: &Picture, from: u32) -> bool {
+pub fn is_past_the_last(picture: &Picture, from: u32) -> bool {
     let is_empty = picture.history.calls().is_empty() && points_of(picture).is_empty();
     !is_empty && next_moment(picture, u64::from(from)).is_none()
 }

@@ -1,11 +1,9 @@
 use crate::asking::Form;
-use crate::moments::is_past_the_last;
-use crate::picture::{Picture, Window};
-use crate::reports::picture_of_report;
 use crate::schedules::picture_of_replay;
-use crate::svg::write_svg;
-use crate::text::write_picture;
 use broken_lists::{BrokenList, report_broken};
+use lset_picture::{
+    Picture, Window, is_past_the_last, picture_of_report, write_picture, write_svg,
+};
 use lset_report::read_report;
 use lset_schedule::read_schedule;
 use std::alloc::Global;

@@ -2,14 +2,6 @@ use crate::picture::Picture;
 use crate::refusal::Refusal;
 use lset_words::CallRecord;
 
-fn has(keys: &[u32], key: u32) -> bool {
-    keys.iter().any(|kept| *kept == key)
-}
-
-fn is_in_one(key: u32, keys: &[u32], others: &[u32]) -> bool {
-    has(keys, key) != has(others, key)
-}
-
 fn clashes_in(keys: &[u32], refusal: &Refusal, number: usize, made: &CallRecord) -> bool {
     match refusal {
         Refusal::Unknown { .. } => false,
@@ -20,7 +12,10 @@ fn clashes_in(keys: &[u32], refusal: &Refusal, number: usize, made: &CallRecord)
         Refusal::TooEarly { call, other, .. } => {
             number == *call as usize || number == *other as usize
         }
-        Refusal::WrongSet { left } => is_in_one(made.call.key().0, left, keys),
+        Refusal::WrongSet { left } => {
+            let key = made.call.key().0;
+            left.contains(&key) != keys.contains(&key)
+        }
     }
 }
 

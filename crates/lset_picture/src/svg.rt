@@ -1,7 +1,7 @@
 //! Writes a picture as an SVG: a line for each call, a circle for each point, the set below them, and the order as
 //! text.
-use crate::clashes::is_clash;
 use crate::columns::{Drawing, Side, drawing_in, put_call};
+use crate::drawn_clashes::is_clash;
 use crate::orders::{put_cut, put_heading, put_lines_below};
 use crate::picture::{Picture, Standing, Window, points_of, standing_at};
 use crate::refusals::put_refusal;
@@ -10,7 +10,7 @@ use crate::sheet::{
 };
 use crate::style::STYLE;
 use lset_text::reply_word;
-use lset_words::{CallRecord, Reply};
+use lset_words::CallRecord;
 use std::alloc::{AllocError, Global};
 
 const LEGEND: &str =
@@ -152,21 +152,20 @@ fn put_end(
     alloc: Global,
     out: &mut String,
     drawing: &Drawing,
-    thread: u32,
-    ended: Option<(u32, Reply)>,
+    made: &CallRecord,
     clash: &str,
 ) -> Result<(), AllocError> {
-    let Some((end, reply)) = ended else {
+    let Some((end, reply)) = made.ended else {
         return Ok(());
     };
     if drawing.last < end {
         return Ok(());
     }
+    let x = x_of(&drawing.columns, u64::from(end)).saturating_add(10);
+    let y = lane_y(made.thread).saturating_add(4);
     let reply = reply_word(reply);
     let text = format!(in alloc; "{reply}")?;
-    let x = x_of(&drawing.columns, u64::from(end)).saturating_add(10);
-    let y = lane_y(thread).saturating_add(4);
-    put_text(out, thread_class(thread), clash, Spot { x, y }, &text)
+    put_text(out, thread_class(made.thread), clash, Spot { x, y }, &text)
 }
 
 /// Adds the bars of the calls that are at least partly in the window. A call that clashes is marked.
@@ -185,7 +184,7 @@ fn put_bars(
             };
             put_bar(alloc, out, drawing, made, clash)?;
             put_begin(alloc, out, drawing, made, clash)?;
-            put_end(alloc, out, drawing, made.thread, made.ended, clash)?;
+            put_end(alloc, out, drawing, made, clash)?;
         }
     }
     Ok(())
@@ -258,11 +257,7 @@ fn put_below(out: &mut String, threads: u32, below: &str) -> Result<(), AllocErr
 /// (`is_clash`). A point is a circle, filled if the set changes, with a thin line down to the set. The order is below
 /// as text. The style sheet has a dark ground for readers who prefer one. The SVG has no script and refers to nothing
 /// outside. Allocates; `AllocError` if that fails.
-pub(crate) fn write_svg(
-    alloc: Global,
-    picture: &Picture,
-    window: Window,
-) -> Result<Vec<u8>, AllocError> {
+pub fn write_svg(alloc: Global, picture: &Picture, window: Window) -> Result<Vec<u8>, AllocError> {
     let mut drawing = drawing_in(alloc, picture, window)?;
     if let Some(window) = drawing.window_of_clash(picture, window) {
         drawing = drawing_in(alloc, picture, window)?;

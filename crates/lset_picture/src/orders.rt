@@ -1,8 +1,8 @@
 //! Writes the lines above and below the rows of a picture: the heading, which moments are drawn, and the order.
 use crate::columns::{Drawing, Side, put_call};
+use crate::drawn_sets::put_keys_line;
 use crate::picture::{Picture, Standing, standing_at};
 use crate::refusal::Refusal;
-use crate::sets::put_keys_line;
 use lset_text::{kind_word, reply_word};
 use lset_words::Placed;
 use std::alloc::AllocError;
@@ -74,8 +74,8 @@ fn put_place(out: &mut String, number: usize, standing: Standing) -> Result<(), 
         }
     }
     let reply = reply_word(standing.placed.reply);
-    let fit = standing.point.is_some_and(|point| !point.change);
-    let open = standing.made.is_some_and(|made| made.ended.is_none());
+    let fit = matches!(standing.point, Some(point) if !point.change);
+    let open = matches!(standing.made, Some(made) if made.ended.is_none());
     let no_change = if fit { "  (no change)" } else { "" };
     let still_open = if open { "  (still open)" } else { "" };
     writeln!(out, " {reply}{no_change}{still_open}")

@@ -42,8 +42,10 @@ fn settled(standing: Standing, moment: u32) -> Option<Option<Call>> {
     if moment < point.moment {
         return None;
     }
-    let made = standing.made.filter(|_made| point.change);
-    Some(made.map(|made| made.call))
+    match standing.made {
+        Some(made) if point.change => Some(Some(made.call)),
+        _ => Some(None),
+    }
 }
 
 /// Applies the changes up to a moment.

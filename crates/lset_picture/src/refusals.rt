@@ -1,7 +1,7 @@
 //! Writes why an order is refused.
+use crate::drawn_sets::put_set;
 use crate::picture::Picture;
 use crate::refusal::Refusal;
-use crate::sets::put_set;
 use lset_text::reply_word;
 use lset_words::Reply;
 use std::alloc::AllocError;
