@@ -12,9 +12,9 @@ use tool_base::{
 use tool_replay::{ExampleRequest, Trace, read_example_request};
 use tool_show::{Show, read_show};
 
-/// The request of a command line, without the file that the command reads.
+/// What a command line asks for, without the file that the command reads.
 #[derive(Clone, Copy)]
-pub(crate) enum Request {
+pub(crate) enum Job {
     Replay(Option<BrokenList>),
     Judge,
     /// The verdict of `judge` alone.
@@ -47,14 +47,14 @@ fn find_broken(lacks: &Option<String>) -> Result<Option<BrokenList>, ValueName> 
     }
 }
 
-/// Reads the request of `replay`.
-fn read_replay(lacks: &Option<String>) -> Result<Request, ValueName>
+/// Reads the job of `replay`.
+fn read_replay(lacks: &Option<String>) -> Result<Job, ValueName>
     ensures asked { IfSome (asked_replay (option_map string_bytes lacks.now)) (λ r. result ≡ r) }
     ensures known { IfOk result IsKnown }
 {
     match lacks {
-        None => Ok(Request::Replay(None)),
-        Some(_) => Ok(Request::Replay(find_broken(lacks)?)),
+        None => Ok(Job::Replay(None)),
+        Some(_) => Ok(Job::Replay(find_broken(lacks)?)),
     }
 }
 
@@ -63,20 +63,20 @@ fn read_key(text: &str) -> Result<u32, ValueName> {
     number(text.as_bytes(), 0, u32::MAX).ok_or(ValueName::Key)
 }
 
-/// Reads the request of `judge`.
-fn read_judge(brief: bool, only: &Option<String>) -> Result<Request, ValueName>
+/// Reads the job of `judge`.
+fn read_judge(brief: bool, only: &Option<String>) -> Result<Job, ValueName>
     ensures asked { IfSome (asked_judge (option_map string_bytes only.now) brief) (λ r. result ≡ r) }
     ensures known { IfOk result IsKnown }
 {
     match only {
-        None if brief => Ok(Request::Verdict),
-        None => Ok(Request::Judge),
-        Some(key) => Ok(Request::OneKey(read_key(key)?)),
+        None if brief => Ok(Job::Verdict),
+        None => Ok(Job::Judge),
+        Some(key) => Ok(Job::OneKey(read_key(key)?)),
     }
 }
 
-/// Reads the request of `show`.
-fn read_show_request(options: &Options) -> Result<Request, ValueName>
+/// Reads the job of `show`.
+fn read_show_job(options: &Options) -> Result<Job, ValueName>
     ensures { IfOk result IsKnown }
 {
     let (from, to, width) = (&options.from, &options.to, &options.width);
@@ -87,41 +87,44 @@ fn read_show_request(options: &Options) -> Result<Request, ValueName>
         width.as_deref(),
     )?;
     let lacks = find_broken(&options.lacks)?;
-    Ok(Request::Show(Show { lacks, ..show }))
+    Ok(Job::Show(Show { lacks, ..show }))
 }
 
-/// Reads the request of `example`.
-fn read_example(words: &Words) -> Result<Request, ValueName>
+/// Reads the job of `example`.
+fn read_example(words: &Words) -> Result<Job, ValueName>
     ensures { IfOk result IsKnown }
 {
-    let name = words.values.first().map(|name| name.as_bytes());
+    let name = match words.values.first() {
+        Some(name) => Some(name.as_bytes()),
+        None => None,
+    };
     let example = read_example_request(name, words.options.broken)?;
-    Ok(Request::Example(example))
+    Ok(Job::Example(example))
 }
 
-/// Reads the request of `serve`.
-fn read_serve(words: &Words) -> Result<Request, ValueName>
+/// Reads the job of `serve`.
+fn read_serve(words: &Words) -> Result<Job, ValueName>
     ensures { IfOk result IsKnown }
 {
     let serve = read_serve_request(&words.values)?;
     match words.options.file {
-        Some(_) => Ok(Request::ServeKeys(serve)),
-        None => Ok(Request::Serve(serve)),
+        Some(_) => Ok(Job::ServeKeys(serve)),
+        None => Ok(Job::Serve(serve)),
     }
 }
 
-/// Reads the request of `faults`.
-fn read_faults(words: &Words) -> Result<Request, ValueName>
+/// Reads the job of `faults`.
+fn read_faults(words: &Words) -> Result<Job, ValueName>
     ensures { IfOk result IsKnown }
 {
     match words.values.first() {
-        Some(name) => Ok(Request::Fault(read_fault_name(name.as_bytes())?)),
-        None => Ok(Request::Faults),
+        Some(name) => Ok(Job::Fault(read_fault_name(name.as_bytes())?)),
+        None => Ok(Job::Faults),
     }
 }
 
-/// Reads the request of a command line. The error is the first value or option that is missing or wrong.
-pub(crate) fn read_request(words: &Words) -> Result<Request, ValueName>
+/// Reads the job of a command line. The error is the first value or option that is missing or wrong.
+pub(crate) fn read_job(words: &Words) -> Result<Job, ValueName>
     ensures asked { IfSome (asked (choice_in words.now)) (λ r. result ≡ r) }
     ensures known { IfOk result IsKnown }
 {
@@ -129,18 +132,18 @@ pub(crate) fn read_request(words: &Words) -> Result<Request, ValueName>
     match words.command {
         Command::Replay => read_replay(&options.lacks),
         Command::Judge => read_judge(options.brief, &options.only),
-        Command::Check => Ok(Request::Check),
-        Command::Show => read_show_request(options),
-        Command::Trace => Ok(Request::Trace(Trace {
+        Command::Check => Ok(Job::Check),
+        Command::Show => read_show_job(options),
+        Command::Trace => Ok(Job::Trace(Trace {
             chains: options.chain,
             lacks: find_broken(&options.lacks)?,
         })),
-        Command::Draft => Ok(Request::Draft),
+        Command::Draft => Ok(Job::Draft),
         Command::Example => read_example(words),
-        Command::Gen => Ok(Request::Gen(read_random_request(&words.values)?)),
-        Command::Run => Ok(Request::Run(read_lives_request(&words.values)?)),
+        Command::Gen => Ok(Job::Gen(read_random_request(&words.values)?)),
+        Command::Run => Ok(Job::Run(read_lives_request(&words.values)?)),
         Command::Serve => read_serve(words),
         Command::Faults => read_faults(words),
-        Command::Explain => Ok(Request::Explain),
+        Command::Explain => Ok(Job::Explain),
     }
 }

@@ -1,10 +1,10 @@
 ghost use Rattle.lset_dispatch.specs.Asked.{IsKnown};
 ghost use Rattle.std.specs.Prelude.{◌≡◌, Option};
-ghost use Rattle.lset_dispatch.specs.Dispatch.{EndsOn, RequestEnds};
+ghost use Rattle.lset_dispatch.specs.Dispatch.{EndsOn, JobEnds};
 
-use crate::explaining::{explained, pointed};
-use crate::one_key::print_key;
-use crate::request::Request;
+use crate::below_refusal::{explained, pointed};
+use crate::job::Job;
+use crate::judge_only::print_key;
 use broken_lists::BrokenList;
 use std::alloc::Global;
 use std::fs::File;
@@ -30,7 +30,7 @@ fn replay<R: Read, W: Write, E: Write>(
     output: &mut W,
     stderr: &mut E,
 ) -> u8
-    ensures { RequestEnds (Request.Replay broken) (R.remaining input.old)
+    ensures { JobEnds (Job.Replay broken) (R.remaining input.old)
         (W.contents output.old) (W.contents output.new) (E.contents stderr.old) (E.contents stderr.new) result }
 {
     match broken {
@@ -46,7 +46,7 @@ fn judge<R: Read, W: Write, E: Write>(
     output: &mut W,
     stderr: &mut E,
 ) -> u8
-    ensures { RequestEnds Request.Judge (R.remaining input.old)
+    ensures { JobEnds Job.Judge (R.remaining input.old)
         (W.contents output.old) (W.contents output.new) (E.contents stderr.old) (E.contents stderr.new) result }
 {
     let made = judge_input(alloc, input);
@@ -60,7 +60,7 @@ fn judge_verdict<R: Read, W: Write, E: Write>(
     output: &mut W,
     stderr: &mut E,
 ) -> u8
-    ensures { RequestEnds Request.Verdict (R.remaining input.old)
+    ensures { JobEnds Job.Verdict (R.remaining input.old)
         (W.contents output.old) (W.contents output.new) (E.contents stderr.old) (E.contents stderr.new) result }
 {
     let made = judge_briefly(alloc, input);
@@ -76,7 +76,7 @@ fn judge_file<H: Files, R: Read, W: Write, E: Write>(
     output: &mut W,
     stderr: &mut E,
 ) -> u8
-    ensures { RequestEnds Request.Judge (R.remaining file.old)
+    ensures { JobEnds Job.Judge (R.remaining file.old)
         (W.contents output.old) (W.contents output.new) (E.contents stderr.old) (E.contents stderr.new) result }
 {
     let made = judge_input(alloc, file);
@@ -84,61 +84,61 @@ fn judge_file<H: Files, R: Read, W: Write, E: Write>(
     deliver(made, output, stderr)
 }
 
-/// Runs a request, and returns the exit status. Writes the result to `output`, or one line about an error to `stderr`. Some
-/// requests read `input`. Allocates. `run` and `serve` start threads on `rt` and block until they end; `serve` listens on
+/// Runs a job, and returns the exit status. Writes the result to `output`, or one line about an error to `stderr`. Some
+/// jobs read `input`. Allocates. `run` and `serve` start threads on `rt` and block until they end; `serve` listens on
 /// `rt`.
-pub(crate) fn run_request<
+pub(crate) fn run_job<
     H: Net<Listener = TcpListener, Stream = TcpStream> + Threads + Wait + Clock + Sync,
     R: Read,
     W: Write,
     E: Write,
->(rt: &H, alloc: Global, request: Request, input: &mut R, output: &mut W, stderr: &mut E) -> u8
-    requires { IsKnown request }
-    ensures { RequestEnds request (R.remaining input.old)
+>(rt: &H, alloc: Global, job: Job, input: &mut R, output: &mut W, stderr: &mut E) -> u8
+    requires { IsKnown job }
+    ensures { JobEnds job (R.remaining input.old)
         (W.contents output.old) (W.contents output.new) (E.contents stderr.old) (E.contents stderr.new) result }
 {
-    match request {
-        Request::Replay(broken) => replay(alloc, broken, input, output, stderr),
-        Request::Judge => judge(alloc, input, output, stderr),
-        Request::Verdict => judge_verdict(alloc, input, output, stderr),
-        Request::OneKey(key) => deliver(print_key(alloc, input, key), output, stderr),
-        Request::Check => tool_check(alloc, input, output, stderr),
-        Request::Show(show) => run_tool(alloc, &ShowJudged { show }, input, output, stderr),
-        Request::Trace(trace) => deliver(trace_events(alloc, trace, input, output), output, stderr),
-        Request::Draft => run_tool(alloc, &Expand {}, input, output, stderr),
-        Request::Example(example) => deliver(print_example(alloc, example), output, stderr),
-        Request::Gen(random) => deliver(generate_text(alloc, random), output, stderr),
-        Request::Run(lives) => deliver(run_lives(rt, alloc, lives), output, stderr),
-        Request::Serve(serve) => {
+    match job {
+        Job::Replay(broken) => replay(alloc, broken, input, output, stderr),
+        Job::Judge => judge(alloc, input, output, stderr),
+        Job::Verdict => judge_verdict(alloc, input, output, stderr),
+        Job::OneKey(key) => deliver(print_key(alloc, input, key), output, stderr),
+        Job::Check => tool_check(alloc, input, output, stderr),
+        Job::Show(show) => run_tool(alloc, &ShowJudged { show }, input, output, stderr),
+        Job::Trace(trace) => deliver(trace_events(alloc, trace, input, output), output, stderr),
+        Job::Draft => run_tool(alloc, &Expand {}, input, output, stderr),
+        Job::Example(example) => deliver(print_example(alloc, example), output, stderr),
+        Job::Gen(random) => deliver(generate_text(alloc, random), output, stderr),
+        Job::Run(lives) => deliver(run_lives(rt, alloc, lives), output, stderr),
+        Job::Serve(serve) => {
             let made = serve_set(rt, alloc, serve, &[], output);
             deliver(made, output, stderr)
         }
-        Request::ServeKeys(serve) => {
+        Job::ServeKeys(serve) => {
             let made = serve_set_of(rt, alloc, serve, input, output);
             deliver(made, output, stderr)
         }
-        Request::Faults => deliver(list_faults(alloc), output, stderr),
-        Request::Explain => deliver(explain_input(alloc, "FILE", input), output, stderr),
-        Request::Fault(name) => deliver(explain_fault(alloc, name), output, stderr),
+        Job::Faults => deliver(list_faults(alloc), output, stderr),
+        Job::Explain => deliver(explain_input(alloc, "FILE", input), output, stderr),
+        Job::Fault(name) => deliver(explain_fault(alloc, name), output, stderr),
     }
 }
 
-/// Runs a request on the file at a path, as `run_request` does on an input. Returns the exit status. If the file cannot be
+/// Runs a job on the file at a path, as `run_job` does on an input. Returns the exit status. If the file cannot be
 /// opened, writes the line about that to `stderr`.
 pub(crate) fn run_on_file<
     H: Files + Net<Listener = TcpListener, Stream = TcpStream> + Threads + Wait + Clock + Sync,
     W: Write,
     E: Write,
->(rt: &H, alloc: Global, request: Request, path: &str, output: &mut W, stderr: &mut E) -> u8
-    requires { IsKnown request }
-    ensures { EndsOn (Option.Some path.now) request (λ bytes. (file : H.File) × (bytes ≡ H.File.remaining file)) Option.None
+>(rt: &H, alloc: Global, job: Job, path: &str, output: &mut W, stderr: &mut E) -> u8
+    requires { IsKnown job }
+    ensures { EndsOn (Option.Some path.now) job (λ bytes. (file : H.File) × (bytes ≡ H.File.remaining file)) Option.None
         (W.contents output.old) (W.contents output.new) (E.contents stderr.old) (E.contents stderr.new) result }
 {
     let Ok(mut file) = File::open(rt, path) else {
         return deliver(Err(Trouble::CannotRead), output, stderr);
     };
-    match request {
-        Request::Judge => judge_file(rt, alloc, path, &mut file, output, stderr),
-        _ => run_request(rt, alloc, request, &mut file, output, stderr),
+    match job {
+        Job::Judge => judge_file(rt, alloc, path, &mut file, output, stderr),
+        _ => run_job(rt, alloc, job, &mut file, output, stderr),
     }
 }

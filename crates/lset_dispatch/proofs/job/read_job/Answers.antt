@@ -1,7 +1,7 @@
 use Rattle.std.proofs.Common.{refl}
 use Rattle.lset_command.specs.declared.command_line.Command.TheVariants as command
 use Rattle.lset_dispatch.proofs.Endings.{at_command}
-use Rattle.lset_dispatch.proofs.request.read_request.Goals as goal
+use Rattle.lset_dispatch.proofs.job.read_job.Goals as goal
 
 pub returns-in-Replay-clause-asked : goal.returns-in-Replay-clause-asked
 returns-in-Replay-clause-asked c = at_command _ command.Replay _ _ _ c.in-Replay.is c.read_replay.ensures.asked
