@@ -35,9 +35,9 @@ CODE = {
     "crates/lset_lists/specs/Tables.antt": ["table_of kind.{kind} = {table}"],
     "crates/lset_lists/src/lib.rt": ["impl List for {type}", "Kind::{kind} => task.run::<{type}>()"],
     "crates/lset_live/src/running_machine.rt": ["impl Running for {type}"],
-    "crates/tool_replay/src/trace/running.rt": ["Kind::{kind} => trace_on::<{type}"],
-    "crates/tool_threads/src/running.rt": ["Kind::{kind} => run_rounds::<{type}"],
-    "crates/tool_threads/src/serving.rt": ["Kind::{kind} => serve_list::<{type}"],
+    "crates/tool_replay/src/trace_command/traced_run.rt": ["Kind::{kind} => trace_on::<{type}"],
+    "crates/tool_threads/src/run_command.rt": ["Kind::{kind} => run_rounds::<{type}"],
+    "crates/tool_threads/src/serve_command.rt": ["Kind::{kind} => serve_list::<{type}"],
 }
 # The crates that use each list's crate, in crates.txt
 USERS = ["lset_lists", "lset_live", "tool_replay", "tool_threads"]

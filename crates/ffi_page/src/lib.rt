@@ -17,7 +17,7 @@ mod records;
 
 ghost use Rattle.tool_replay.specs.Replaying.{ReplaysText};
 ghost use Rattle.tool_replay.specs.Checking.{ChecksText};
-ghost use Rattle.tool_replay.specs.Generating.{Generates};
+ghost use Rattle.tool_replay.specs.GenAnswers.{Generates};
 ghost use Rattle.tool_base.specs.Tools.{OnText};
 ghost use Rattle.tool_judge.specs.Judging.{Judges};
 ghost use Rattle.ffi_page.specs.Page.{Hands, OfText, OfWords};

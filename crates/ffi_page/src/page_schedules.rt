@@ -1,4 +1,4 @@
-ghost use Rattle.tool_replay.specs.Generating.{Generates};
+ghost use Rattle.tool_replay.specs.GenAnswers.{Generates};
 ghost use Rattle.tool_base.specs.Tools.{view};
 ghost use Rattle.ffi_page.specs.Page.{OfWords};
 

@@ -1,6 +1,7 @@
 //! Verdicts as records: lines of a word and its values.
 
 use lset_judge::{Clash, Refusal, StreamCall, Verdict};
+use lset_picture::{Refusal as OrderRefusal, picture_of_report};
 use lset_recording::{RecordingAnswer, RecordingReader};
 use lset_report::read_report;
 use lset_text::reply_word;
@@ -8,7 +9,6 @@ use lset_words::Presence;
 use std::alloc::{AllocError, Global};
 use tool_base::{Answer, Input, Trouble};
 use tool_judge::{Claim, claim_on, put_call};
-use tool_show::{Refusal as OrderRefusal, picture_of_report};
 
 /// Writes one of the two sides of a clash, if it is a call.
 fn put_side(out: &mut String, side: &str, made: Option<StreamCall>) -> Result<(), AllocError> {

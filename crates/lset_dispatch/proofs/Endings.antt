@@ -1,4 +1,4 @@
--- What the words ask for, and how the program ends, from how its request ended.
+-- What the words ask for, and how the program ends, from how its job ended.
 use Rattle.std.proofs.Common.{◌≡◌, ℕ, List, Option, Some, None, Ok, Err, IfSome, refl, subst, sym, inl, inr}
 use Rattle.std.specs.Prelude.{◌≢◌}
 use Rattle.clap.specs.declared.error.kind.ErrorKind.{ErrorKind}
@@ -8,8 +8,8 @@ use Rattle.lset_command.specs.CommandLine.{Choice, OptionValues, path_of}
 use Rattle.lset_command.specs.declared.command_line.Command.{Command}
 use Rattle.lset_command.specs.declared.command_line.Command.TheVariants.{Explain}
 use Rattle.lset_dispatch.specs.Asked.{Asked, asked, asked_by}
-use Rattle.lset_dispatch.specs.Dispatch.{EndsAsked, EndsOnInput, IsHelp, RequestEnds}
-use Rattle.lset_dispatch.specs.declared.request.Request.{Request}
+use Rattle.lset_dispatch.specs.Dispatch.{EndsAsked, EndsOnInput, IsHelp, JobEnds}
+use Rattle.lset_dispatch.specs.declared.job.Job.{Job}
 
 -- what is asked for by a command that is known
 pub at_command : (command known : Command) (values : List Text) (options : OptionValues) (r : Asked) → command ≡ known
@@ -43,12 +43,12 @@ module _ (IsFile : Option (List ℕ) → Type 0) (input output_old output_new st
       (sym is) tt)
 
 module _ (input output_old output_new stderr_old stderr_new : Option (List ℕ)) (status : ℕ) where
-  -- how a request ended that is known
-  pub at_request : (request known : Request) → request ≡ known
-      → RequestEnds known input output_old output_new stderr_old stderr_new status
-      → RequestEnds request input output_old output_new stderr_old stderr_new status
-  at_request request known is ends =
-      subst (λ r. RequestEnds r input output_old output_new stderr_old stderr_new status) (sym is) ends
+  -- how a job ended that is known
+  pub at_job : (job known : Job) → job ≡ known
+      → JobEnds known input output_old output_new stderr_old stderr_new status
+      → JobEnds job input output_old output_new stderr_old stderr_new status
+  at_job job known is ends =
+      subst (λ r. JobEnds r input output_old output_new stderr_old stderr_new status) (sym is) ends
 
 -- what goes to the output asks for help
 pub is_help : (k : ErrorKind) → ¬ ((k ≢ kind.DisplayHelp) × (k ≢ kind.DisplayVersion)) → IsHelp k

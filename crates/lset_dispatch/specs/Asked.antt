@@ -1,4 +1,4 @@
--- The requests of command lines. Commands that are not named here, broken lists and `judge --only` have no clause: they are safe, and
+-- What command lines ask for. Commands that are not named here, broken lists and `judge --only` have no clause: they are safe, and
 -- tested.
 use Rattle.std.specs.Prelude.{Bool, true, false, List, Option, Some, None, Result, Ok, Err}
 use Rattle.clap.specs.Words.{Text}
@@ -9,12 +9,12 @@ use Rattle.lset_schedule.specs.Generating.{IsAccepted}
 use Rattle.tool_base.specs.declared.arguments.RandomRequest.{RandomRequest}
 use Rattle.tool_base.specs.declared.trouble.ValueName.{ValueName}
 use Rattle.tool_base.specs.Arguments.{random_request_of}
-use Rattle.lset_dispatch.specs.declared.request.Request.{Request}
-use Rattle.lset_dispatch.specs.declared.request.Request.TheVariants.{Replay, Judge, Verdict, Check, Gen}
+use Rattle.lset_dispatch.specs.declared.job.Job.{Job}
+use Rattle.lset_dispatch.specs.declared.job.Job.TheVariants.{Replay, Judge, Verdict, Check, Gen}
 
--- a request, or the first value or option that is missing or wrong
+-- a job, or the first value or option that is missing or wrong
 abbrev pub Asked : Type 0
-Asked = Result Request ValueName
+Asked = Result Job ValueName
 
 -- `replay`, on the list that its input names
 abbrev pub asked_replay : Option Text → Option Asked
@@ -38,11 +38,11 @@ asked_by command.Check values options = Some (Ok Check)
 asked_by command.Gen values options = Some (asked_gen (random_request_of values))
 asked_by other values options = None
 
--- the request of a command line, for the commands with a clause
+-- the job of a command line, for the commands with a clause
 abbrev pub asked : Choice → Option Asked
 asked choice = asked_by choice.command choice.values choice.options
 
--- a request that a command line can make
-abbrev pub IsKnown : Request → Type 0
+-- a job that a command line can ask for
+abbrev pub IsKnown : Job → Type 0
 IsKnown (Gen random) = IsAccepted random.threads random.quota random.keys
-IsKnown request = Unit {0}
+IsKnown job = Unit {0}

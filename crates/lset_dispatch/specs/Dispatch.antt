@@ -11,11 +11,11 @@ use Rattle.tool_base.specs.declared.trouble.Trouble.TheVariants.{Bad, CannotRead
 use Rattle.tool_base.specs.Tools.{Made, Ends, AppendsFront}
 use Rattle.tool_replay.specs.Replaying.{Replays}
 use Rattle.tool_replay.specs.Checking.{Checks}
-use Rattle.tool_replay.specs.Generating.{Answers}
+use Rattle.tool_replay.specs.GenAnswers.{Answers}
 use Rattle.tool_judge.specs.Judging.{Judges}
 use Rattle.lset_dispatch.specs.Asked.{Asked, asked}
-use Rattle.lset_dispatch.specs.declared.request.Request.{Request}
-use Rattle.lset_dispatch.specs.declared.request.Request.TheVariants.{Replay, Judge, Verdict, Check, Gen}
+use Rattle.lset_dispatch.specs.declared.job.Job.{Job}
+use Rattle.lset_dispatch.specs.declared.job.Job.TheVariants.{Replay, Judge, Verdict, Check, Gen}
 
 -- The end of a command: the two outputs before and after it, and its exit status.
 abbrev pub Ending : Type 1
@@ -28,34 +28,34 @@ abbrev pub EndsOnBytes : (List ℕ → Made → Type 0) → Option (List ℕ) �
 EndsOnBytes Makes input output_old output_new stderr_old stderr_new status =
     Ends (λ made. IfSome input (λ bytes. Makes bytes made)) output_old output_new stderr_old stderr_new status
 
--- a request ends, on the bytes of its input
-abbrev pub RequestEnds : Request → Option (List ℕ) → Ending
-RequestEnds (Replay None) input output_old output_new stderr_old stderr_new status =
+-- a job ends, on the bytes of its input
+abbrev pub JobEnds : Job → Option (List ℕ) → Ending
+JobEnds (Replay None) input output_old output_new stderr_old stderr_new status =
     EndsOnBytes Replays input output_old output_new stderr_old stderr_new status
-RequestEnds Judge input output_old output_new stderr_old stderr_new status =
+JobEnds Judge input output_old output_new stderr_old stderr_new status =
     EndsOnBytes Judges input output_old output_new stderr_old stderr_new status
-RequestEnds Verdict input output_old output_new stderr_old stderr_new status =
+JobEnds Verdict input output_old output_new stderr_old stderr_new status =
     EndsOnBytes Judges input output_old output_new stderr_old stderr_new status
-RequestEnds Check input output_old output_new stderr_old stderr_new status =
+JobEnds Check input output_old output_new stderr_old stderr_new status =
     EndsOnBytes Checks input output_old output_new stderr_old stderr_new status
-RequestEnds (Gen random) input output_old output_new stderr_old stderr_new status =
+JobEnds (Gen random) input output_old output_new stderr_old stderr_new status =
     Ends (Answers (Ok random)) output_old output_new stderr_old stderr_new status
-RequestEnds request input output_old output_new stderr_old stderr_new status = Unit {0}
+JobEnds job input output_old output_new stderr_old stderr_new status = Unit {0}
 
--- without a path the request ends on the standard input; with a path, on the content of some file (no clause says that it is the file at
+-- without a path the job ends on the standard input; with a path, on the content of some file (no clause says that it is the file at
 -- this path, or that it is read from its start), or with `CannotRead`
-abbrev pub EndsOn : Option Text → Request → (Option (List ℕ) → Type 0) → Option (List ℕ) → Ending
-EndsOn None request IsFile input output_old output_new stderr_old stderr_new status =
-    RequestEnds request input output_old output_new stderr_old stderr_new status
-EndsOn (Some path) request IsFile input output_old output_new stderr_old stderr_new status =
+abbrev pub EndsOn : Option Text → Job → (Option (List ℕ) → Type 0) → Option (List ℕ) → Ending
+EndsOn None job IsFile input output_old output_new stderr_old stderr_new status =
+    JobEnds job input output_old output_new stderr_old stderr_new status
+EndsOn (Some path) job IsFile input output_old output_new stderr_old stderr_new status =
     Ends (λ made. made ≡ Err CannotRead) output_old output_new stderr_old stderr_new status
-    ⊎ ((bytes : Option (List ℕ)) × IsFile bytes × RequestEnds request bytes output_old output_new stderr_old stderr_new status)
+    ⊎ ((bytes : Option (List ℕ)) × IsFile bytes × JobEnds job bytes output_old output_new stderr_old stderr_new status)
 
 -- or with the value that is wrong
 abbrev pub EndsAsked : Option Asked → Option Text → (Option (List ℕ) → Type 0) → Option (List ℕ) → Ending
 EndsAsked None path IsFile input output_old output_new stderr_old stderr_new status = Unit {0}
-EndsAsked (Some (Ok request)) path IsFile input output_old output_new stderr_old stderr_new status =
-    EndsOn path request IsFile input output_old output_new stderr_old stderr_new status
+EndsAsked (Some (Ok job)) path IsFile input output_old output_new stderr_old stderr_new status =
+    EndsOn path job IsFile input output_old output_new stderr_old stderr_new status
 EndsAsked (Some (Err wrong)) path IsFile input output_old output_new stderr_old stderr_new status =
     Ends (λ made. made ≡ Err (Bad wrong)) output_old output_new stderr_old stderr_new status
 

@@ -5,8 +5,8 @@ ghost use Rattle.lset_command.specs.CommandLine.{choice_in, choice_of, listset};
 ghost use Rattle.lset_command.specs.declared.command_line.Command.TheVariants.{Explain};
 ghost use Rattle.lset_dispatch.specs.Dispatch.{Declines, Runs};
 
-use crate::request::read_request;
-use crate::running::{run_on_file, run_request};
+use crate::job::read_job;
+use crate::running_jobs::{run_job, run_on_file};
 use broken_lists::ALL;
 use clap::Error;
 use lset_command::{Command, Helps, Words, is_out_of_memory, words_given};
@@ -112,15 +112,15 @@ pub fn run_words<
         Ok(words) => words,
         Err(error) => return decline(alloc, &error, output, stderr),
     };
-    let request = match read_request(&words) {
-        Ok(request) => request,
+    let job = match read_job(&words) {
+        Ok(job) => job,
         Err(wrong) => return deliver(Err(Trouble::Bad(wrong)), output, stderr),
     };
     let Some(path) = words.path() else {
-        return run_request(rt, alloc, request, input, output, stderr);
+        return run_job(rt, alloc, job, input, output, stderr);
     };
     if asks_to_explain(&words) {
         return deliver(explain_file(rt, alloc, path), output, stderr);
     }
-    run_on_file(rt, alloc, request, path, output, stderr)
+    run_on_file(rt, alloc, job, path, output, stderr)
 }

@@ -2,10 +2,10 @@
 //! the system's arguments and the bytes of files are outside.
 #![tactic(auto)]
 
+mod below_refusal;
 mod dispatching;
-mod explaining;
-mod one_key;
-mod request;
-mod running;
+mod job;
+mod judge_only;
+mod running_jobs;
 
 pub use dispatching::{run_words, tool_words};

@@ -5,8 +5,6 @@ use Rattle.lset_text.specs.declared.causes.Cause.{Cause}
 use Rattle.lset_text.specs.declared.causes.Cause.TheVariants as cause
 use Rattle.lset_text.specs.declared.causes.LineFault.{LineFault}
 use Rattle.lset_text.specs.Causes.{name_of}
-use Rattle.lset_replay.specs.declared.fault.ReplayFault.{ReplayFault}
-use Rattle.lset_replay.specs.declared.fault.ReplayFault.TheVariants as replay
 use Rattle.lset_schedule.specs.declared.gen_fault.GenFault.{GenFault}
 use Rattle.lset_schedule.specs.declared.gen_fault.GenFault.TheVariants as generator
 use Rattle.tool_base.specs.declared.trouble.SystemCause.{SystemCause}
@@ -24,13 +22,6 @@ of_line number c = Line number c
 
 abbrev pub of_line_fault : LineFault → Trouble
 of_line_fault fault = of_line fault.line fault.cause
-
--- the error for a schedule that cannot be replayed
-abbrev pub of_replay : ReplayFault → Trouble
-of_replay (replay.NoThread number) = Line number cause.NoThread
-of_replay (replay.Busy number) = Line number cause.Busy
-of_replay (replay.Idle number) = Line number cause.Idle
-of_replay replay.Memory = Memory
 
 -- the error for a schedule that cannot be generated
 abbrev pub of_generator : GenFault → Trouble

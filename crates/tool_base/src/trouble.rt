@@ -1,8 +1,7 @@
 ghost use Rattle.std.specs.Prelude.{◌≡◌, ◌≤◌, length};
-ghost use Rattle.tool_base.specs.Trouble.{of_generator, of_line_fault, of_replay, status_of, system_name, value_word};
+ghost use Rattle.tool_base.specs.Trouble.{of_generator, of_line_fault, status_of, system_name, value_word};
 ghost use Rattle.tool_base.specs.declared.trouble.Trouble.TheVariants.{Bad, Memory};
 
-use lset_replay::ReplayFault;
 use lset_schedule::GenFault;
 use lset_text::{Cause, LineFault};
 use std::alloc::{AllocError, AllocFailed};
@@ -101,19 +100,6 @@ impl From<LineFault> for Trouble {
         match fault.cause {
             Cause::Memory => Trouble::Memory,
             cause => Trouble::Line(fault.line, cause),
-        }
-    }
-}
-
-impl From<ReplayFault> for Trouble {
-    ghost from_gives = { λ e t. t ≡ of_replay e };
-
-    fn from(fault: ReplayFault) -> Trouble {
-        match fault {
-            ReplayFault::NoThread(line) => Trouble::Line(line, Cause::NoThread),
-            ReplayFault::Busy(line) => Trouble::Line(line, Cause::Busy),
-            ReplayFault::Idle(line) => Trouble::Line(line, Cause::Idle),
-            ReplayFault::Memory => Trouble::Memory,
         }
     }
 }

@@ -1,11 +1,12 @@
 use crate::texts::refused_text;
 use lset_history::History;
 use lset_judge::{Clash, Judged, Refusal, StreamCall, is_judged, judge};
+use lset_picture::Picture;
 use lset_text::{call_word, reply_word};
 use lset_words::{Call, CallRecord, Reply, increases};
 use std::alloc::{AllocError, Global};
 use tool_base::{Answer, Input, Tool, Trouble};
-use tool_show::{Form, Picture, Show};
+use tool_show::{Form, Show};
 
 const EXPLAINED: &[u8] = b"another order explains this report\n";
 

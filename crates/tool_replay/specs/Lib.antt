@@ -1,3 +1,3 @@
 pub mod Replaying
 pub mod Checking
-pub mod Generating
+pub mod GenAnswers

@@ -1,17 +1,19 @@
 -- The contract of `replay`: which report it prints for an input.
 use Rattle.std.specs.Prelude.{◌≡◌, ℕ, ◌⊎◌, List, Result, Ok, Err}
 use Rattle.lset_lists.specs.Tables.{table_of}
+use Rattle.lset_text.specs.declared.causes.Cause.TheVariants as cause
 use Rattle.lset_text.specs.declared.causes.LineFault.{LineFault}
 use Rattle.lset_schedule.specs.Plan.{Plan, IsSchedule, schedule_text, opening_in}
 use Rattle.lset_schedule.specs.ScheduleReading.{reading}
 use Rattle.lset_replay.specs.declared.fault.ReplayFault.{ReplayFault}
+use Rattle.lset_replay.specs.declared.fault.ReplayFault.TheVariants as replay
 use Rattle.lset_replay.specs.Events.{events_of}
 use Rattle.lset_report.specs.Report.{ReportValue}
 use Rattle.lset_replay.specs.Reports.{IsReplay, IsRefusal, IsExplained}
 use Rattle.lset_report.specs.Texts.{report_text}
 use Rattle.tool_base.specs.declared.trouble.Trouble.{Trouble}
-use Rattle.tool_base.specs.Trouble.{of_line_fault, of_replay}
-use Rattle.tool_base.specs.declared.trouble.Trouble.TheVariants.{Memory}
+use Rattle.tool_base.specs.Trouble.{of_line_fault}
+use Rattle.tool_base.specs.declared.trouble.Trouble.TheVariants.{Line, Memory}
 use Rattle.tool_base.specs.Tools.{Made, OnInput}
 
 -- The bytes are the text of the schedule `p`, and `r` is the report of exactly its events. The order of `r` explains
@@ -21,6 +23,13 @@ pub record IsReported (bytes : List ℕ) (p : Plan) (r : ReportValue) : Type 0 w
   pub text : bytes ≡ schedule_text p
   pub replay : IsReplay (table_of p.kind) p r
   pub explained : IsExplained r
+
+-- the error for a schedule that cannot be replayed
+abbrev pub of_replay : ReplayFault → Trouble
+of_replay (replay.NoThread number) = Line number cause.NoThread
+of_replay (replay.Busy number) = Line number cause.Busy
+of_replay (replay.Idle number) = Line number cause.Idle
+of_replay replay.Memory = Memory
 
 -- the error is the first error of the text or, if the text is a schedule, of the replay
 abbrev pub IsFirstFault : Result Plan LineFault → Trouble → Type 0

@@ -111,9 +111,11 @@ pub fn read_draft(alloc: Global, bytes: &[u8]) -> Result<Draft, LineFault> {
     let mut number = FIRST_LINE;
     let mut rest = text;
     while !rest.is_empty() {
-        let fault = |cause| LineFault::at(number, cause);
         let (line, after) = cut(rest, b'\n').ok_or(LineFault::unended(number))?;
-        left = draft.add_line(line, left).map_err(fault)?;
+        left = match draft.add_line(line, left) {
+            Ok(left) => left,
+            Err(cause) => return Err(LineFault::at(number, cause)),
+        };
         number = number.saturating_add(1);
         rest = after;
     }

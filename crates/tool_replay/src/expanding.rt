@@ -2,7 +2,7 @@ ghost use Rattle.std.specs.Prelude.{IfOk};
 ghost use Rattle.lset_schedule.specs.Plan.{HasWordsOfVersion, view};
 
 use crate::draft::{Draft, DraftLine};
-use crate::stepping::{cause_of, steps_to, take_steps};
+use crate::stepping::{make_event, steps_to, take_steps};
 use crate::version::smallest_version;
 use lset_lists::{List, Task, on_list};
 use lset_schedule::{Line, MOST_EVENTS, MOST_STEPS, Schedule};
@@ -18,12 +18,9 @@ fn make_plain<M: Machine>(world: &mut World<M>, line: Line, left: u32) -> Result
         return Err(Cause::TooMany);
     }
     match line {
-        Line::Begin(thread, call) => {
-            world.step(Event::Begin(thread, call)).map_err(cause_of)?;
-        }
-        Line::Go(thread, steps) => take_steps(world, thread, steps)?,
+        Line::Begin(thread, call) => make_event(world, Event::Begin(thread, call)),
+        Line::Go(thread, steps) => take_steps(world, thread, steps),
     }
-    Ok(())
 }
 
 /// Makes the events of a line of a draft, at most `left`, and returns the line of the schedule that it expands to.
@@ -61,9 +58,10 @@ fn lines_on<M: Machine>(alloc: Global, draft: &Draft) -> Result<Vec<Line>, Troub
     let mut lines = Vec::new(alloc);
     let mut left = MOST_EVENTS;
     for line in &draft.lines {
-        let made = make_line(&mut world, *line, left).map_err(|cause| LineFault::at(
-            number, cause,
-        ))?;
+        let made = match make_line(&mut world, *line, left) {
+            Ok(made) => made,
+            Err(cause) => return Err(Trouble::from(LineFault::at(number, cause))),
+        };
         lines.push(made)?;
         left = left.saturating_sub(made.event_count());
         number = number.saturating_add(1);

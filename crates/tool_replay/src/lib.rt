@@ -4,26 +4,26 @@
 //! a classic interleaving on one of the five lists.
 #![tactic(auto)]
 
-mod checking;
+mod check_command;
 mod draft;
+mod draft_command;
 mod draft_text;
-mod drafting;
+mod example_command;
 mod example_texts;
-mod example_tool;
 mod examples;
 mod expanding;
-mod generating;
-mod replaying;
+mod gen_command;
+mod replay_command;
 mod stepping;
-mod trace;
+mod trace_command;
 mod version;
 
-pub use checking::{Check, tool_check};
+pub use check_command::{Check, tool_check};
 pub use draft::{Draft, DraftLine, MOST_ROW};
+pub use draft_command::Expand;
 pub use draft_text::read_draft;
-pub use drafting::Expand;
-pub use example_tool::{ExampleRequest, print_example, read_example_request};
+pub use example_command::{ExampleRequest, print_example, read_example_request};
 pub use expanding::schedule_of;
-pub use generating::{generate_for, generate_text, tool_gen};
-pub use replaying::{Replay, ReplayBroken, tool_replay};
-pub use trace::{Trace, trace_events};
+pub use gen_command::{generate_for, generate_text, tool_gen};
+pub use replay_command::{Replay, ReplayBroken, tool_replay};
+pub use trace_command::{Trace, trace_events};

@@ -3,12 +3,13 @@
 use lset_steps::{Event, Machine, StepFault, World};
 use lset_text::Cause;
 
-/// Maps the error of a step to the cause that a refused line names.
-pub(crate) fn cause_of(fault: StepFault) -> Cause {
-    match fault {
-        StepFault::NoThread => Cause::NoThread,
-        StepFault::Busy => Cause::Busy,
-        StepFault::Idle => Cause::Idle,
+/// Makes an event. The error is the cause that a refused line names.
+pub(crate) fn make_event<M: Machine>(world: &mut World<M>, event: Event) -> Result<(), Cause> {
+    match world.step(event) {
+        Ok(_) => Ok(()),
+        Err(StepFault::NoThread) => Err(Cause::NoThread),
+        Err(StepFault::Busy) => Err(Cause::Busy),
+        Err(StepFault::Idle) => Err(Cause::Idle),
     }
 }
 
@@ -21,7 +22,7 @@ pub(crate) fn steps_to<M: Machine>(
     most: u32,
 ) -> Result<u32, Cause> {
     for taken in 0..most {
-        world.step(Event::Go(thread)).map_err(cause_of)?;
+        make_event(world, Event::Go(thread))?;
         if let Some(local) = world.holds(thread)
             && u32::from(local.pc) == row
         {
@@ -38,7 +39,7 @@ pub(crate) fn take_steps<M: Machine>(
     steps: u32,
 ) -> Result<(), Cause> {
     for _taken in 0..steps {
-        world.step(Event::Go(thread)).map_err(cause_of)?;
+        make_event(world, Event::Go(thread))?;
     }
     Ok(())
 }

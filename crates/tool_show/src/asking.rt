@@ -1,4 +1,5 @@
-use crate::{Show, Window};
+use crate::show_command::Show;
+use lset_picture::Window;
 use lset_text::number;
 use tool_base::ValueName;
 

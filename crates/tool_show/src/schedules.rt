@@ -1,7 +1,7 @@
 ghost use Rattle.lset_schedule.specs.Plan.{IsSchedule, view};
 
-use crate::picture::Picture;
 use lset_lists::{List, Task, on_list};
+use lset_picture::Picture;
 use lset_replay::{RunCalls, calls_of, run_of};
 use lset_schedule::Schedule;
 use std::alloc::{AllocError, Global};

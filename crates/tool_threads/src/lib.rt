@@ -1,11 +1,11 @@
 //! The commands `run` and `serve`: random programs in threads on one set, and a set server on the loopback.
 #![tactic(auto)]
 
-mod keys;
-mod running;
-mod serving;
+mod key_lines;
+mod run_command;
+mod serve_command;
 mod troubles;
 
-pub use keys::read_keys;
-pub use running::{run_lives, tool_run};
-pub use serving::{serve_set, serve_set_of};
+pub use key_lines::read_keys;
+pub use run_command::{run_lives, tool_run};
+pub use serve_command::{serve_set, serve_set_of};

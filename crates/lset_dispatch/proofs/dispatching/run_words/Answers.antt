@@ -3,20 +3,20 @@ use Rattle.tool_base.specs.declared.trouble.Trouble.TheVariants.{Bad}
 use Rattle.lset_dispatch.proofs.Endings.{ended, unsaid}
 use Rattle.lset_dispatch.proofs.dispatching.run_words.Goals as goal
 
-pub returns-in-Err-read_request : goal.returns-in-Err-read_request
-returns-in-Err-read_request g c =
+pub returns-in-Err-read_job : goal.returns-in-Err-read_job
+returns-in-Err-read_job g c =
     inl (
       c.in-Ok.ensures.refused,
-      ended _ _ _ _ _ _ _ _ _ (Err c.in-Err-read_request.wrong) _ c.in-Ok.ensures.taken
-          c.in-Err-read_request.ensures.asked refl (Err (Bad c.in-Err-read_request.wrong), refl, c.deliver.ensures),
+      ended _ _ _ _ _ _ _ _ _ (Err c.in-Err-read_job.wrong) _ c.in-Ok.ensures.taken
+          c.in-Err-read_job.ensures.asked refl (Err (Bad c.in-Err-read_job.wrong), refl, c.deliver.ensures),
     )
 
 pub returns-in_default : goal.returns-in_default
 returns-in_default g c =
     inl (
       c.in-Ok.ensures.refused,
-      ended _ _ _ _ _ _ _ _ _ (Ok c.in-Ok-read_request.request) None c.in-Ok.ensures.taken
-          c.in-Ok-read_request.ensures.asked c.in_default.ensures c.run_request.ensures,
+      ended _ _ _ _ _ _ _ _ _ (Ok c.in-Ok-read_job.job) None c.in-Ok.ensures.taken
+          c.in-Ok-read_job.ensures.asked c.in_default.ensures c.run_job.ensures,
     )
 
 pub returns-then-asks_to_explain : goal.returns-then-asks_to_explain
@@ -30,6 +30,6 @@ pub returns : goal.returns
 returns g c =
     inl (
       c.in-Ok.ensures.refused,
-      ended _ _ _ _ _ _ _ _ _ (Ok c.in-Ok-read_request.request) (Some _) c.in-Ok.ensures.taken
-          c.in-Ok-read_request.ensures.asked c.in-Some.ensures c.run_on_file.ensures,
+      ended _ _ _ _ _ _ _ _ _ (Ok c.in-Ok-read_job.job) (Some _) c.in-Ok.ensures.taken
+          c.in-Ok-read_job.ensures.asked c.in-Some.ensures c.run_on_file.ensures,
     )

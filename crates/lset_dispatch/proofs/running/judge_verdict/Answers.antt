@@ -1,4 +1,0 @@
-use Rattle.lset_dispatch.proofs.running.judge_verdict.Goals as goal
-
-pub returns : goal.returns
-returns g c = (_, c.judge_briefly-made.ensures, c.deliver.ensures)

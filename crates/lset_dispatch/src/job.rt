@@ -1,0 +1,149 @@
+ghost use Rattle.std.specs.Prelude.{◌≡◌, IfOk, IfSome, option_map, string_bytes};
+ghost use Rattle.lset_command.specs.CommandLine.{choice_in};
+ghost use Rattle.lset_dispatch.specs.Asked.{IsKnown, asked, asked_judge, asked_replay};
+
+use broken_lists::{BrokenList, named};
+use lset_command::{Command, Options, Words};
+use lset_text::number;
+use tool_base::{
+    FaultName, LivesRequest, RandomRequest, ServeRequest, ValueName, read_fault_name,
+    read_lives_request, read_random_request, read_serve_request,
+};
+use tool_replay::{ExampleRequest, Trace, read_example_request};
+use tool_show::{Show, read_show};
+
+/// What a command line asks for, without the file that the command reads.
+#[derive(Clone, Copy)]
+pub(crate) enum Job {
+    Replay(Option<BrokenList>),
+    Judge,
+    /// The verdict of `judge` alone.
+    Verdict,
+    /// The recording of one key.
+    OneKey(u32),
+    Check,
+    Show(Show),
+    Trace(Trace),
+    Draft,
+    Example(ExampleRequest),
+    Gen(RandomRequest),
+    Run(LivesRequest),
+    /// A set that opens empty.
+    Serve(ServeRequest),
+    /// A set that opens with the keys of the input.
+    ServeKeys(ServeRequest),
+    /// All error messages.
+    Faults,
+    Fault(FaultName),
+    /// An explanation of the standard input.
+    Explain,
+}
+
+/// Returns the broken list that the option `--lacks` names. `None` if the option is not given.
+fn find_broken(lacks: &Option<String>) -> Result<Option<BrokenList>, ValueName> {
+    match lacks {
+        None => Ok(None),
+        Some(name) => Ok(Some(named(name.as_bytes()).ok_or(ValueName::Lacks)?)),
+    }
+}
+
+/// Reads the job of `replay`.
+fn read_replay(lacks: &Option<String>) -> Result<Job, ValueName>
+    ensures asked { IfSome (asked_replay (option_map string_bytes lacks.now)) (λ r. result ≡ r) }
+    ensures known { IfOk result IsKnown }
+{
+    match lacks {
+        None => Ok(Job::Replay(None)),
+        Some(_) => Ok(Job::Replay(find_broken(lacks)?)),
+    }
+}
+
+/// Reads a key.
+fn read_key(text: &str) -> Result<u32, ValueName> {
+    number(text.as_bytes(), 0, u32::MAX).ok_or(ValueName::Key)
+}
+
+/// Reads the job of `judge`.
+fn read_judge(brief: bool, only: &Option<String>) -> Result<Job, ValueName>
+    ensures asked { IfSome (asked_judge (option_map string_bytes only.now) brief) (λ r. result ≡ r) }
+    ensures known { IfOk result IsKnown }
+{
+    match only {
+        None if brief => Ok(Job::Verdict),
+        None => Ok(Job::Judge),
+        Some(key) => Ok(Job::OneKey(read_key(key)?)),
+    }
+}
+
+/// Reads the job of `show`.
+fn read_show_job(options: &Options) -> Result<Job, ValueName>
+    ensures { IfOk result IsKnown }
+{
+    let (from, to, width) = (&options.from, &options.to, &options.width);
+    let show = read_show(
+        options.svg,
+        from.as_deref(),
+        to.as_deref(),
+        width.as_deref(),
+    )?;
+    let lacks = find_broken(&options.lacks)?;
+    Ok(Job::Show(Show { lacks, ..show }))
+}
+
+/// Reads the job of `example`.
+fn read_example(words: &Words) -> Result<Job, ValueName>
+    ensures { IfOk result IsKnown }
+{
+    let name = match words.values.first() {
+        Some(name) => Some(name.as_bytes()),
+        None => None,
+    };
+    let example = read_example_request(name, words.options.broken)?;
+    Ok(Job::Example(example))
+}
+
+/// Reads the job of `serve`.
+fn read_serve(words: &Words) -> Result<Job, ValueName>
+    ensures { IfOk result IsKnown }
+{
+    let serve = read_serve_request(&words.values)?;
+    match words.options.file {
+        Some(_) => Ok(Job::ServeKeys(serve)),
+        None => Ok(Job::Serve(serve)),
+    }
+}
+
+/// Reads the job of `faults`.
+fn read_faults(words: &Words) -> Result<Job, ValueName>
+    ensures { IfOk result IsKnown }
+{
+    match words.values.first() {
+        Some(name) => Ok(Job::Fault(read_fault_name(name.as_bytes())?)),
+        None => Ok(Job::Faults),
+    }
+}
+
+/// Reads the job of a command line. The error is the first value or option that is missing or wrong.
+pub(crate) fn read_job(words: &Words) -> Result<Job, ValueName>
+    ensures asked { IfSome (asked (choice_in words.now)) (λ r. result ≡ r) }
+    ensures known { IfOk result IsKnown }
+{
+    let options = &words.options;
+    match words.command {
+        Command::Replay => read_replay(&options.lacks),
+        Command::Judge => read_judge(options.brief, &options.only),
+        Command::Check => Ok(Job::Check),
+        Command::Show => read_show_job(options),
+        Command::Trace => Ok(Job::Trace(Trace {
+            chains: options.chain,
+            lacks: find_broken(&options.lacks)?,
+        })),
+        Command::Draft => Ok(Job::Draft),
+        Command::Example => read_example(words),
+        Command::Gen => Ok(Job::Gen(read_random_request(&words.values)?)),
+        Command::Run => Ok(Job::Run(read_lives_request(&words.values)?)),
+        Command::Serve => read_serve(words),
+        Command::Faults => read_faults(words),
+        Command::Explain => Ok(Job::Explain),
+    }
+}

@@ -1,0 +1,245 @@
+//! Computes the columns of a picture in a window: one for each moment at which something happens.
+use crate::MOST_WIDTH;
+use crate::beginning::clash_begins;
+use crate::drawn_moments::{moments_shown, next_moment};
+use crate::drawn_sets::{go_on, reached_at_first, set_text};
+use crate::picture::{Picture, Window, are_known, points_of, standing_at};
+use lset_text::{call_word, reply_word};
+use lset_words::{Call, CallRecord, Reply};
+use std::alloc::{AllocError, Global};
+
+/// A sign on a thread's row at a moment: a call begins; takes effect and changes the set; takes effect without a
+/// change; ends.
+#[derive(Clone, Copy)]
+pub(crate) enum Sign {
+    Begin(Call),
+    Change,
+    Fit,
+    End(Reply),
+}
+
+/// A sign, and the thread whose row it is on.
+#[derive(Clone, Copy)]
+pub(crate) struct Mark {
+    pub thread: u32,
+    pub sign: Sign,
+}
+
+/// A column: the signs of one moment, the text of the set (empty if it is not shown here), and the column's width in
+/// characters.
+#[derive(Drop)]
+pub(crate) struct Column {
+    pub moment: u32,
+    pub marks: Vec<Mark>,
+    pub set: String,
+    pub width: usize,
+}
+
+/// A position relative to the drawn moments: before them, at least partly within them, or after them.
+#[derive(Clone, Copy)]
+pub(crate) enum Side {
+    Before,
+    Within,
+    After,
+}
+
+/// A drawing: its columns, whether the picture's points are known, the first and the last moment drawn, and whether
+/// anything happens before or after them.
+#[derive(Drop)]
+pub(crate) struct Drawing {
+    pub columns: Vec<Column>,
+    pub known: bool,
+    pub from: u32,
+    pub last: u32,
+    pub before: bool,
+    pub after: bool,
+}
+
+impl Drawing {
+    /// Decides whether anything happens at a moment that is not drawn.
+    pub fn is_cut(&self) -> bool {
+        self.before || self.after
+    }
+
+    /// Returns the window to draw if not all moments fit: for a refused order it begins at the clash.
+    pub fn window_of_clash(&self, picture: &Picture, window: Window) -> Option<Window> {
+        if !(self.after && window.is_whole()) {
+            return None;
+        }
+        let from = clash_begins(picture)?;
+        Some(Window { from, ..window })
+    }
+
+    /// Returns the position of the moments from `first` to `last`, or from `first` on if `last` is `None`.
+    pub fn side_of(&self, first: u32, last: Option<u32>) -> Side {
+        match last {
+            _ if self.last < first => Side::After,
+            Some(last) if last < self.from => Side::Before,
+            _ => Side::Within,
+        }
+    }
+
+    /// Returns the position of a call's bar.
+    pub fn side_of_bar(&self, made: CallRecord) -> Side {
+        match made.ended {
+            Some((end, _)) => self.side_of(made.begun, Some(end)),
+            None => self.side_of(made.begun, None),
+        }
+    }
+}
+
+fn add_begun(marks: &mut Vec<Mark>, picture: &Picture, moment: u32) -> Result<(), AllocError> {
+    for made in picture.history.calls() {
+        if made.begun == moment {
+            let sign = Sign::Begin(made.call);
+            let thread = made.thread;
+            marks.push(Mark { thread, sign })?;
+        }
+    }
+    Ok(())
+}
+
+/// Adds the points of a moment. Returns whether a call changes the set there.
+fn add_points(marks: &mut Vec<Mark>, picture: &Picture, moment: u32) -> Result<bool, AllocError> {
+    let mut changes = false;
+    for (index, point) in points_of(picture).iter().enumerate() {
+        if point.moment != moment {
+            continue;
+        }
+        let Some(standing) = standing_at(picture, index) else {
+            break;
+        };
+        if let Some(made) = standing.made {
+            let sign = if point.change {
+                Sign::Change
+            } else {
+                Sign::Fit
+            };
+            let thread = made.thread;
+            marks.push(Mark { thread, sign })?;
+            changes = changes || point.change;
+        }
+    }
+    Ok(changes)
+}
+
+fn add_ended(marks: &mut Vec<Mark>, picture: &Picture, moment: u32) -> Result<(), AllocError> {
+    for made in picture.history.calls() {
+        if let Some((end, reply)) = made.ended {
+            if end == moment {
+                let sign = Sign::End(reply);
+                let thread = made.thread;
+                marks.push(Mark { thread, sign })?;
+            }
+        }
+    }
+    Ok(())
+}
+
+/// Appends a call, such as `add 5`.
+pub(crate) fn put_call(out: &mut String, call: Call) -> Result<(), AllocError> {
+    let word = call_word(call);
+    let key = call.key().0;
+    write!(out, "{word} {key}")
+}
+
+/// Writes a sign and what separates it from the next one: the bar continues after every sign but the last.
+fn put_sign(out: &mut String, sign: Sign) -> Result<(), AllocError> {
+    match sign {
+        Sign::Begin(call) => {
+            out.push_str("[")?;
+            put_call(out, call)?;
+            out.push_str("-")
+        }
+        Sign::Change => out.push_str("*-"),
+        Sign::Fit => out.push_str("o-"),
+        Sign::End(reply) => {
+            let word = reply_word(reply);
+            write!(out, "{word}] ")
+        }
+    }
+}
+
+/// Appends the signs of one thread, such as `[add 5-*-`.
+pub(crate) fn put_signs(out: &mut String, marks: &[Mark], thread: u32) -> Result<(), AllocError> {
+    for mark in marks {
+        if mark.thread == thread {
+            put_sign(out, mark.sign)?;
+        }
+    }
+    Ok(())
+}
+
+/// Returns the width of a column: its longest entry with the separator, at most `MOST_WIDTH`.
+fn width_of(alloc: Global, moment: u32, marks: &[Mark], set: &str) -> Result<usize, AllocError> {
+    let mut most = format!(in alloc; "{moment} ")?.len();
+    if set.len() >= most {
+        most = set.len() + 1;
+    }
+    for mark in marks {
+        let mut signs = String::new(alloc);
+        put_signs(&mut signs, marks, mark.thread)?;
+        most = most.max(signs.len());
+    }
+    Ok(most.min(MOST_WIDTH))
+}
+
+/// Computes the columns of these moments. The set is shown in the first column and in each with a change, if points are
+/// known.
+fn columns_at(
+    alloc: Global,
+    picture: &Picture,
+    moments: &[u32],
+) -> Result<Vec<Column>, AllocError> {
+    let known = are_known(picture);
+    let mut reached = reached_at_first(alloc, picture)?;
+    let mut columns = Vec::new(alloc);
+    for moment in moments {
+        let moment = *moment;
+        let mut marks = Vec::new(alloc);
+        add_begun(&mut marks, picture, moment)?;
+        let changes = add_points(&mut marks, picture, moment)?;
+        add_ended(&mut marks, picture, moment)?;
+        let mut set = String::new(alloc);
+        if known && (columns.is_empty() || changes) {
+            go_on(&mut reached, picture, moment)?;
+            set = set_text(alloc, &reached)?;
+        }
+        let width = width_of(alloc, moment, &marks, &set)?;
+        columns.push(Column {
+            moment,
+            marks,
+            set,
+            width,
+        })?;
+    }
+    Ok(columns)
+}
+
+/// Computes the drawing of a picture in a window. Allocates.
+pub(crate) fn drawing_in(
+    alloc: Global,
+    picture: &Picture,
+    window: Window,
+) -> Result<Drawing, AllocError> {
+    let moments = moments_shown(alloc, picture, window)?;
+    let columns = columns_at(alloc, picture, &moments)?;
+    let mut drawing = Drawing {
+        columns,
+        known: are_known(picture),
+        from: window.from,
+        last: window.to,
+        before: matches!(next_moment(picture, 0), Some(moment) if moment < window.from),
+        after: false,
+    };
+    end_at_last(picture, &mut drawing);
+    Ok(drawing)
+}
+
+/// Sets `last` to the moment of the last column, and `after` accordingly.
+pub(crate) fn end_at_last(picture: &Picture, drawing: &mut Drawing) {
+    if let Some(column) = drawing.columns.last() {
+        drawing.last = column.moment;
+    }
+    drawing.after = next_moment(picture, u64::from(drawing.last) + 1).is_some();
+}

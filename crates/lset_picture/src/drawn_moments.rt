@@ -1,0 +1,56 @@
+//! Finds the moments at which something happens in a picture.
+
+use crate::MOST_COLUMNS;
+use crate::picture::{Picture, Window, points_of};
+use std::alloc::{AllocError, Global};
+
+/// Decides whether a window that begins at `from`, counted from 1, has no column because every call begins, takes
+/// effect and ends before it. For a picture without calls the answer is no.
+pub fn is_past_the_last(picture: &Picture, from: u32) -> bool {
+    let is_empty = picture.history.calls().is_empty() && points_of(picture).is_empty();
+    !is_empty && next_moment(picture, u64::from(from)).is_none()
+}
+
+/// Returns the earlier of `best` and `moment`, or `best` if `moment` is before `from`.
+fn sooner(best: Option<u32>, from: u64, moment: u32) -> Option<u32> {
+    match best {
+        _ if u64::from(moment) < from => best,
+        Some(other) if other < moment => best,
+        _ => Some(moment),
+    }
+}
+
+/// Returns the first moment, not before `from`, at which a call begins, takes effect or ends.
+pub(crate) fn next_moment(picture: &Picture, from: u64) -> Option<u32> {
+    let mut best = None;
+    for made in picture.history.calls() {
+        best = sooner(best, from, made.begun);
+        if let Some((end, _)) = made.ended {
+            best = sooner(best, from, end);
+        }
+    }
+    for point in points_of(picture) {
+        best = sooner(best, from, point.moment);
+    }
+    best
+}
+
+/// Returns the moments of a window that have a column.
+pub(crate) fn moments_shown(
+    alloc: Global,
+    picture: &Picture,
+    window: Window,
+) -> Result<Vec<u32>, AllocError> {
+    let mut moments = Vec::new(alloc);
+    let mut from = u64::from(window.from);
+    for _shown in 0..MOST_COLUMNS {
+        match next_moment(picture, from) {
+            Some(moment) if moment <= window.to => {
+                moments.push(moment)?;
+                from = u64::from(moment) + 1;
+            }
+            _ => return Ok(moments),
+        }
+    }
+    Ok(moments)
+}

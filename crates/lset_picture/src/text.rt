@@ -1,0 +1,243 @@
+//! Writes a picture as text: a row for each thread, a bar for each call, a point where the call takes effect, the set
+//! below them, and the order.
+use crate::MOST_COLUMNS;
+use crate::columns::{Column, Drawing, Mark, Sign, drawing_in, end_at_last, put_signs};
+use crate::orders::{put_cut, put_heading, put_lines_below};
+use crate::picture::{Picture, Window};
+use crate::refusals::put_refusal;
+use lset_words::CallRecord;
+use std::alloc::{AllocError, Global};
+
+/// The number of characters before the cells of a row.
+const LABEL: usize = 10;
+
+const LEGEND: &str = "* changes the set    o changes nothing, its reply fits there    > still open";
+
+const LEGEND_OF_CUT: &str =
+    "* changes the set    o changes nothing, its reply fits there    > goes on    < began before";
+
+/// Decides whether the bar of a thread continues after the signs of a moment. `before` is whether it was drawn before
+/// them.
+fn goes_on(marks: &[Mark], thread: u32, before: bool) -> bool {
+    let mut drawn = before;
+    for mark in marks {
+        if mark.thread == thread {
+            drawn = match mark.sign {
+                Sign::Begin(_) => true,
+                Sign::Change | Sign::Fit => drawn,
+                Sign::End(_) => false,
+            };
+        }
+    }
+    drawn
+}
+
+/// Pads a row from `start` on to a width.
+fn fill(row: &mut String, start: usize, width: usize, with: char) -> Result<(), AllocError> {
+    for _done in row.len().saturating_sub(start)..width {
+        row.push(with)?;
+    }
+    Ok(())
+}
+
+/// Appends the cell of a thread in a column, and returns whether its bar continues after the column. `before` is
+/// whether the bar was drawn before it. A bar that began before the first column is marked there.
+fn put_cell(
+    row: &mut String,
+    column: &Column,
+    thread: u32,
+    is_first: bool,
+    before: bool,
+) -> Result<bool, AllocError> {
+    let start = row.len();
+    put_signs(row, &column.marks, thread)?;
+    if is_first && before && row.len() == start {
+        row.push_str("<")?;
+    }
+    let drawn = goes_on(&column.marks, thread, before);
+    fill(row, start, column.width, if drawn { '-' } else { ' ' })?;
+    Ok(drawn)
+}
+
+/// Decides whether a call of the thread began before a moment and had not ended before it.
+fn is_spanned(calls: &[CallRecord], thread: u32, moment: u32) -> bool {
+    for made in calls {
+        if made.thread == thread
+            && made.begun < moment
+            && !matches!(made.ended, Some((end, _)) if end < moment)
+        {
+            return true;
+        }
+    }
+    false
+}
+
+/// Appends a row without the white space at its end.
+fn put_row(out: &mut String, row: &str) -> Result<(), AllocError> {
+    out.push_str(row.trim_end())?;
+    out.push_str("\n")
+}
+
+fn put_lane(
+    alloc: Global,
+    out: &mut String,
+    picture: &Picture,
+    drawing: &Drawing,
+    thread: u32,
+) -> Result<(), AllocError> {
+    let mut drawn = is_spanned(picture.history.calls(), thread, drawing.from);
+    let mut row = format!(in alloc; "thread {thread}")?;
+    fill(&mut row, 0, LABEL, ' ')?;
+    let mut is_first = true;
+    for column in &drawing.columns {
+        drawn = put_cell(&mut row, column, thread, is_first, drawn)?;
+        is_first = false;
+    }
+    if drawn {
+        row.push_str(">")?;
+    }
+    put_row(out, &row)
+}
+
+fn put_moments(alloc: Global, out: &mut String, columns: &[Column]) -> Result<(), AllocError> {
+    let mut row = String::from_str(alloc, "moment    ")?;
+    for column in columns {
+        let start = row.len();
+        let moment = column.moment;
+        write!(&mut row, "{moment}")?;
+        fill(&mut row, start, column.width, ' ')?;
+    }
+    put_row(out, &row)
+}
+
+fn put_sets(alloc: Global, out: &mut String, columns: &[Column]) -> Result<(), AllocError> {
+    let mut row = String::from_str(alloc, "set       ")?;
+    for column in columns {
+        let start = row.len();
+        row.push_str(&column.set)?;
+        fill(&mut row, start, column.width, ' ')?;
+    }
+    put_row(out, &row)
+}
+
+/// Writes the rows: moments, threads and, if points are known, the set.
+fn put_rows(
+    alloc: Global,
+    out: &mut String,
+    picture: &Picture,
+    drawing: &Drawing,
+) -> Result<(), AllocError> {
+    put_moments(alloc, out, &drawing.columns)?;
+    for thread in 0..picture.history.threads() {
+        put_lane(alloc, out, picture, drawing, thread)?;
+    }
+    if drawing.known {
+        put_sets(alloc, out, &drawing.columns)?;
+    }
+    Ok(())
+}
+
+fn has_longer(rows: &str, width: u32) -> bool {
+    for row in rows.lines() {
+        if row.len() > width as usize {
+            return true;
+        }
+    }
+    false
+}
+
+/// Decides whether every row of a drawing fits the width.
+fn fits(
+    alloc: Global,
+    picture: &Picture,
+    drawing: &Drawing,
+    width: u32,
+) -> Result<bool, AllocError> {
+    let mut rows = String::new(alloc);
+    // The row of the moments is nearly always the longest, and writing it alone is quick.
+    put_moments(alloc, &mut rows, &drawing.columns)?;
+    if has_longer(&rows, width) {
+        return Ok(false);
+    }
+    put_rows(alloc, &mut rows, picture, drawing)?;
+    Ok(!has_longer(&rows, width))
+}
+
+/// Drops columns from the end of a drawing until its rows fit the width. At least one column remains.
+fn fit(
+    alloc: Global,
+    picture: &Picture,
+    drawing: &mut Drawing,
+    width: u32,
+) -> Result<(), AllocError> {
+    for _taken in 0..MOST_COLUMNS {
+        if drawing.columns.len() <= 1 || fits(alloc, picture, drawing, width)? {
+            break;
+        }
+        drawing.columns.pop();
+    }
+    end_at_last(picture, drawing);
+    Ok(())
+}
+
+/// Computes the drawing of a window whose rows fit the width.
+fn fitted(
+    alloc: Global,
+    picture: &Picture,
+    window: Window,
+    width: u32,
+) -> Result<Drawing, AllocError> {
+    let mut drawing = drawing_in(alloc, picture, window)?;
+    fit(alloc, picture, &mut drawing, width)?;
+    if let Some(window) = drawing.window_of_clash(picture, window) {
+        drawing = drawing_in(alloc, picture, window)?;
+        fit(alloc, picture, &mut drawing, width)?;
+    }
+    Ok(drawing)
+}
+
+/// Writes the rows, and above them which moments are drawn if some are not. Writes nothing for a history without calls.
+fn put_drawn_rows(
+    alloc: Global,
+    out: &mut String,
+    picture: &Picture,
+    drawing: &Drawing,
+) -> Result<(), AllocError> {
+    if picture.history.calls().is_empty() {
+        return Ok(());
+    }
+    if drawing.is_cut() {
+        put_cut(out, picture, drawing)?;
+        out.push_str("\n")?;
+    }
+    put_rows(alloc, out, picture, drawing)?;
+    out.push_str("\n")
+}
+
+/// Draws a picture as text: a row for each thread, with a bar for each call and its point; the set; and the order.
+///
+/// The moments are those from `window.from` to `window.to`, counted from 1, but only the first 64 at which something
+/// happens, and only as many as fit in rows of `width` characters, at least one. If a window of all moments does not
+/// fit, the drawing of a refused order begins with the call that the refusal is about. Allocates; `AllocError` if that
+/// fails. (The picture with bars and points is Herlihy and Wing's.)
+pub fn write_picture(
+    alloc: Global,
+    picture: &Picture,
+    window: Window,
+    width: u32,
+) -> Result<Vec<u8>, AllocError> {
+    let drawing = fitted(alloc, picture, window, width)?;
+    let mut out = String::new(alloc);
+    put_heading(&mut out, picture)?;
+    out.push_str("\n")?;
+    put_refusal(&mut out, picture)?;
+    out.push_str("\n")?;
+    put_drawn_rows(alloc, &mut out, picture, &drawing)?;
+    let legend = if drawing.is_cut() {
+        LEGEND_OF_CUT
+    } else {
+        LEGEND
+    };
+    put_lines_below(&mut out, picture, &drawing, legend)?;
+    Ok(out.into_bytes())
+}

@@ -1,0 +1,75 @@
+ghost use Rattle.std.specs.Prelude.{◌≡◌, IfSome};
+ghost use Rattle.tool_base.specs.Tools.{Ends};
+ghost use Rattle.tool_replay.specs.Replaying.{Replays, ReplaysText, of_replay};
+
+use broken_lists::{BrokenList, report_broken};
+use lset_replay::{ReplayFault, replay};
+use lset_report::write_report;
+use lset_schedule::read_schedule;
+use lset_text::Cause;
+use std::alloc::Global;
+use std::io::{Read, Write};
+use tool_base::{Answer, Input, Tool, Trouble, run_tool};
+
+/// Maps the error of `replay`.
+fn replay_trouble(fault: ReplayFault) -> Trouble
+    ensures { result ≡ of_replay fault }
+{
+    match fault {
+        ReplayFault::NoThread(line) => Trouble::Line(line, Cause::NoThread),
+        ReplayFault::Busy(line) => Trouble::Line(line, Cause::Busy),
+        ReplayFault::Idle(line) => Trouble::Line(line, Cause::Idle),
+        ReplayFault::Memory => Trouble::Memory,
+    }
+}
+
+/// The command `replay`: the answer for a schedule is the text of its report, with status 0. The error is `Line` with
+/// the first error of the text, or with the first event that is not enabled, or `Memory`.
+#[derive(Clone, Copy)]
+pub struct Replay {}
+
+impl Tool for Replay {
+    ghost answers = { λ tool bytes made. ReplaysText bytes made };
+
+    fn answer(&self, alloc: Global, input: Input<'_>) -> Result<Answer, Trouble> {
+        let schedule = read_schedule(alloc, input.bytes())?;
+        match replay(alloc, &schedule) {
+            Ok(report) => {
+                let text = write_report(alloc, &report)?;
+                Ok(Answer { text, status: 0 })
+            }
+            Err(fault) => Err(replay_trouble(fault)),
+        }
+    }
+}
+
+/// The command `replay --lacks NAME`: the answer for a schedule is the report of its run on the broken list, of version
+/// 2, with status 0. The error is `Line` with an error of `report_broken`, or `Memory`.
+#[derive(Clone, Copy)]
+pub struct ReplayBroken {
+    pub broken: BrokenList,
+}
+
+impl Tool for ReplayBroken {
+    fn answer(&self, alloc: Global, input: Input<'_>) -> Result<Answer, Trouble> {
+        let report = report_broken(alloc, self.broken, input.bytes())?;
+        let text = write_report(alloc, &report)?;
+        Ok(Answer { text, status: 0 })
+    }
+}
+
+/// Implements the command `replay`: reads a schedule from `input`, replays it, and writes its report to `output`.
+///
+/// On an error it writes one line to `faults` and nothing to `output`. Returns the exit status: 0 if the report was
+/// written, 3 if an allocation failed, otherwise 1. Allocates; blocks as its input and output do.
+pub fn tool_replay<R: Read, W: Write, F: Write>(
+    alloc: Global,
+    input: &mut R,
+    output: &mut W,
+    faults: &mut F,
+) -> u8
+    ensures { Ends (λ made. IfSome (R.remaining input.old) (λ bytes. Replays bytes made))
+        (W.contents output.old) (W.contents output.new) (F.contents faults.old) (F.contents faults.new) result }
+{
+    run_tool(alloc, &Replay {}, input, output, faults)
+}

@@ -1,0 +1,146 @@
+//! Writes the line of an event.
+use crate::trace_command::chunks::{Chunk, put, put_number};
+use crate::trace_command::table_words::{TableWord, put_key, put_name, put_node, put_value};
+use lset_replay::{CallEnd, Deed, TracedEvent};
+use lset_steps::{Action, Local};
+use lset_text::call_word;
+use lset_words::{Call, Key, Reply};
+
+fn put_reply(out: &mut Chunk, reply: Reply) {
+    match reply {
+        Reply::True => put(out, "true"),
+        Reply::False => put(out, "false"),
+        Reply::Full => put(out, "full"),
+        Reply::Nothing => put(out, "nothing"),
+        Reply::At(key) => {
+            put(out, "at-");
+            put_number(out, u64::from(key.0));
+        }
+    }
+}
+
+/// Writes an access and the value that it saw. For a store both are one value, which is written once.
+fn put_access(out: &mut Chunk, action: Action, seen: u64) {
+    let (verb, index) = match action {
+        Action::Load(index) => ("load ", index),
+        Action::Store(index, _) => ("store ", index),
+        Action::Exchange(index, _, _) => ("exchange ", index),
+    };
+    let word = TableWord::at(index);
+    put(out, verb);
+    put_name(out, word);
+    match action {
+        Action::Load(_) => {}
+        Action::Store(_, value) => {
+            put(out, " ");
+            return put_value(out, word, value);
+        }
+        Action::Exchange(_, from, to) => {
+            put(out, " from ");
+            put_value(out, word, from);
+            put(out, " to ");
+            put_value(out, word, to);
+        }
+    }
+    put(out, " saw ");
+    put_value(out, word, seen);
+}
+
+/// Writes a node register, if its value changed.
+fn put_node_change(out: &mut Chunk, name: &str, before: u64, after: u64) {
+    if before != after {
+        put(out, name);
+        put_node(out, after);
+    }
+}
+
+/// Writes a key register, if its value changed.
+fn put_key_change(out: &mut Chunk, name: &str, before: u64, after: u64) {
+    if before != after {
+        put(out, name);
+        put_key(out, after);
+    }
+}
+
+/// Writes each part of a thread's state that changed.
+fn put_changes(out: &mut Chunk, before: &Local, after: &Local) {
+    put_node_change(out, " pred ", before.pred, after.pred);
+    put_node_change(out, " curr ", before.curr, after.curr);
+    put_node_change(out, " succ ", before.succ, after.succ);
+    put_node_change(out, " node ", before.node, after.node);
+    put_key_change(out, " pkey ", before.pkey, after.pkey);
+    put_key_change(out, " ckey ", before.ckey, after.ckey);
+    if before.used != after.used {
+        put(out, " used ");
+        put_number(out, u64::from(after.used));
+    }
+    if before.reply != after.reply {
+        put(out, " reply ");
+        match after.reply {
+            Some(reply) => put_reply(out, reply),
+            None => put(out, "none"),
+        }
+    }
+}
+
+/// Writes the number of the call that an event began or ended, if it did.
+fn put_call(out: &mut Chunk, number: Option<u32>) {
+    if let Some(number) = number {
+        put(out, " call ");
+        put_number(out, u64::from(number));
+    }
+}
+
+fn put_begin(out: &mut Chunk, call: Call, number: Option<u32>) {
+    put(out, "begin ");
+    put(out, call_word(call));
+    put(out, " ");
+    put_number(out, u64::from(call.key().0));
+    put_call(out, number);
+}
+
+/// Writes what the event did, the row of the thread after the event, and the registers that changed.
+fn put_deed(out: &mut Chunk, event: &TracedEvent) {
+    match event.deed {
+        Deed::Begin(call) => put_begin(out, call, event.made.call),
+        Deed::Access(action, seen) => put_access(out, action, seen),
+    }
+    put(out, " pc ");
+    put_number(out, u64::from(event.after.pc));
+    if let Deed::Access(_, _) = event.deed {
+        put_changes(out, &event.before, &event.after);
+    }
+}
+
+fn put_change(out: &mut Chunk, change: Option<(Key, bool)>) {
+    if let Some((key, added)) = change {
+        put(out, if added { " put " } else { " took " });
+        put_number(out, u64::from(key.0));
+    }
+}
+
+fn put_end(out: &mut Chunk, number: Option<u32>, end: CallEnd) {
+    put(out, " answer ");
+    put_reply(out, end.reply);
+    put_call(out, number);
+    put(out, " at ");
+    put_number(out, u64::from(end.moment));
+}
+
+/// Appends the line of an event.
+pub(crate) fn put_event(out: &mut Chunk, event: &TracedEvent) {
+    let made = event.made;
+    put(out, "event ");
+    put_number(out, u64::from(made.moment));
+    put(out, " line ");
+    put_number(out, event.line);
+    put(out, " thread ");
+    put_number(out, u64::from(made.thread));
+    put(out, " ");
+    put_deed(out, event);
+    put_change(out, made.change);
+    if let Some(end) = made.end {
+        put_end(out, made.call, end);
+    }
+    put(out, "\n");
+}

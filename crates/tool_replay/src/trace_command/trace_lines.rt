@@ -1,0 +1,135 @@
+//! Builds the text of a trace and passes it to a sink.
+
+use crate::trace_command::chunks::{Chunk, is_full, put, put_number};
+use crate::trace_command::event_line::put_event;
+use lset_replay::TracedEvent;
+use lset_schedule::Schedule;
+use lset_steps::ChainKey;
+use lset_text::{kind_word, put_openings};
+use std::alloc::{AllocError, Global};
+use std::io::Write;
+use tool_base::{Trouble, put as put_out};
+
+/// Line 1 of a trace.
+const TITLE: &str = "listset-trace 1";
+
+/// A destination for text that arrives in pieces.
+pub trait Sink {
+    /// Appends a piece of the text.
+    fn take(&mut self, text: &str) -> Result<(), Trouble>;
+}
+
+/// A sink that collects the text in memory.
+impl Sink for Vec<u8> {
+    fn take(&mut self, text: &str) -> Result<(), Trouble> {
+        Ok(self.extend_from_slice(text.as_bytes())?)
+    }
+}
+
+/// A sink that writes the text to an output.
+#[derive(Drop)]
+pub(crate) struct Output<'a, W> {
+    pub output: &'a mut W,
+}
+
+impl<W: Write> Sink for Output<'_, W> {
+    fn take(&mut self, text: &str) -> Result<(), Trouble> {
+        if put_out(self.output, text.as_bytes()) {
+            Ok(())
+        } else {
+            Err(Trouble::CannotWrite)
+        }
+    }
+}
+
+/// Returns the text of a trace before its first event: the header, with a line `lacks NAME` after the list if `lacks`
+/// names a check, and the opening keys, which are the first chain.
+pub(crate) fn head_of(
+    alloc: Global,
+    schedule: &Schedule,
+    lacks: Option<&str>,
+) -> Result<String, AllocError> {
+    let list = kind_word(schedule.kind);
+    let threads = schedule.threads;
+    let quota = schedule.quota;
+    let mut head = format!(in alloc; "{TITLE}\nlist {list}\n")?;
+    if let Some(lacks) = lacks {
+        writeln!(&mut head, "lacks {lacks}")?;
+    }
+    writeln!(&mut head, "threads {threads}\nquota {quota}")?;
+    put_openings(&mut head, &schedule.opening)?;
+    Ok(head)
+}
+
+/// A trace that is being written. Full chunks have been passed to the sink.
+#[derive(Drop)]
+pub struct Lines<'a, S> {
+    chunk: Chunk,
+    sink: &'a mut S,
+}
+
+impl<S: Sink> Lines<'_, S> {
+    /// Starts a trace, before its first event.
+    pub fn to(sink: &mut S) -> Lines<'_, S> {
+        Lines {
+            chunk: Chunk::new(),
+            sink,
+        }
+    }
+
+    /// Appends the line of an event and, if the event has a chain, the line of the chain.
+    #[inline(always)]
+    pub fn add(&mut self, event: &TracedEvent) -> Result<(), Trouble> {
+        self.pour_full()?;
+        put_event(&mut self.chunk, event);
+        match &event.chain {
+            Some(chain) => self.add_chain(chain),
+            None => Ok(()),
+        }
+    }
+
+    /// Appends the last line: `end` or, if an event could not be made, the number of its line and the name of the
+    /// cause.
+    pub fn end(&mut self, refused: Option<(u64, &str)>) -> Result<(), Trouble> {
+        self.pour_full()?;
+        match refused {
+            None => put(&mut self.chunk, "end\n"),
+            Some((line, cause)) => {
+                put(&mut self.chunk, "refused line ");
+                put_number(&mut self.chunk, line);
+                put(&mut self.chunk, " ");
+                put(&mut self.chunk, cause);
+                put(&mut self.chunk, "\n");
+            }
+        }
+        self.pour()
+    }
+
+    fn pour(&mut self) -> Result<(), Trouble> {
+        self.sink.take(self.chunk.as_str())?;
+        self.chunk.clear();
+        Ok(())
+    }
+
+    fn pour_full(&mut self) -> Result<(), Trouble> {
+        if is_full(&self.chunk) {
+            self.pour()?;
+        }
+        Ok(())
+    }
+
+    /// Appends the line of a chain. A marked node has a star.
+    fn add_chain(&mut self, chain: &[ChainKey]) -> Result<(), Trouble> {
+        put(&mut self.chunk, "chain");
+        for place in chain {
+            self.pour_full()?;
+            put(&mut self.chunk, " ");
+            put_number(&mut self.chunk, u64::from(place.key));
+            if place.marked {
+                put(&mut self.chunk, "*");
+            }
+        }
+        put(&mut self.chunk, "\n");
+        Ok(())
+    }
+}

@@ -1,0 +1,73 @@
+use crate::asking::Form;
+use crate::schedules::picture_of_replay;
+use broken_lists::{BrokenList, report_broken};
+use lset_picture::{
+    Picture, Window, is_past_the_last, picture_of_report, write_picture, write_svg,
+};
+use lset_report::read_report;
+use lset_schedule::read_schedule;
+use std::alloc::Global;
+use tool_base::{Answer, Trouble, ValueName};
+
+/// The first line of a report of version 1.
+const TITLE_ONE: &[u8] = b"listset-report 1\n";
+
+/// The first line of a report of version 2.
+const TITLE_TWO: &[u8] = b"listset-report 2\n";
+
+/// The options of `show`.
+#[derive(Clone, Copy)]
+pub struct Show {
+    /// Text or SVG.
+    pub form: Form,
+    /// The moments to draw.
+    pub window: Window,
+    /// The broken list that runs the schedule; `None` for the list that the schedule names.
+    pub lacks: Option<BrokenList>,
+}
+
+/// Returns 1 if the picture states a refusal, of an order or of an event, otherwise 0.
+fn status_of(picture: &Picture) -> u8 {
+    if picture.refusal.is_none() && picture.refused.is_none() {
+        0
+    } else {
+        1
+    }
+}
+
+impl Show {
+    /// Reads a schedule or a report, and returns its picture. With a broken list the text must be a schedule, and the
+    /// picture is that of the report of its run on that list. Allocates.
+    ///
+    /// The error is `Line` with the first error of `report_broken` for a broken list, of `read_report` for a text whose
+    /// first line is that of a report, and of `read_schedule` for any other; or `Memory`.
+    pub fn picture(self, alloc: Global, bytes: &[u8]) -> Result<Picture, Trouble> {
+        if let Some(broken) = self.lacks {
+            let report = report_broken(alloc, broken, bytes)?;
+            return Ok(picture_of_report(alloc, report)?);
+        }
+        if bytes.starts_with(TITLE_ONE) || bytes.starts_with(TITLE_TWO) {
+            let report = read_report(alloc, bytes)?;
+            return Ok(picture_of_report(alloc, report)?);
+        }
+        let schedule = read_schedule(alloc, bytes)?;
+        Ok(picture_of_replay(alloc, &schedule)?)
+    }
+
+    /// Draws the moments of a picture that are in the window. The status is 1 if the picture states a refusal, of an
+    /// order or of an event, otherwise 0. Allocates. The error is `Bad(From)` if the window begins after the last
+    /// moment at which something happens, or `Memory`.
+    pub fn draw(self, alloc: Global, picture: &Picture) -> Result<Answer, Trouble> {
+        if is_past_the_last(picture, self.window.from) {
+            return Err(Trouble::Bad(ValueName::From));
+        }
+        let text = match self.form {
+            Form::Text(width) => write_picture(alloc, picture, self.window, width)?,
+            Form::Svg => write_svg(alloc, picture, self.window)?,
+        };
+        Ok(Answer {
+            text,
+            status: status_of(picture),
+        })
+    }
+}

@@ -1,0 +1,107 @@
+//! Reads and writes the keys of a set as lines `key K`.
+
+use lset_text::{Cause, LineFault, cut, is_above, number};
+use lset_words::MOST_OPENING;
+use std::alloc::{AllocError, Global};
+
+/// Appends a line `key K` for each key. `AllocError` if an allocation fails.
+pub(crate) fn put_keys(out: &mut String, keys: &[u32]) -> Result<(), AllocError> {
+    for key in keys {
+        writeln!(out, "key {key}")?;
+    }
+    Ok(())
+}
+
+/// The remaining lines of an input, and the number of the first of them.
+#[derive(Clone, Copy)]
+struct Remaining<'a> {
+    line: u64,
+    text: &'a [u8],
+}
+
+/// Returns the second field of a line if the line has exactly two fields and the first is `word`.
+fn piece_after<'a>(line: &'a [u8], word: &[u8]) -> Option<&'a [u8]> {
+    let (first, piece) = cut(line, b' ')?;
+    if first != word {
+        return None;
+    }
+    match cut(piece, b' ') {
+        Some((_, _more)) => None,
+        None => Some(piece),
+    }
+}
+
+impl<'a> Remaining<'a> {
+    /// Drops the first line if it is `word` and one more field.
+    fn without(self, word: &[u8]) -> Remaining<'a> {
+        match cut(self.text, b'\n') {
+            Some((first, rest)) if piece_after(first, word).is_some() => Remaining {
+                line: self.line.saturating_add(1),
+                text: rest,
+            },
+            _ => self,
+        }
+    }
+}
+
+/// Skips the lines that a server prints before its keys. Each of them is optional.
+fn after_head(text: &[u8]) -> Remaining<'_> {
+    let whole = Remaining { line: 1, text };
+    whole
+        .without(b"listening")
+        .without(b"sessions")
+        .without(b"calls")
+}
+
+/// Returns the key in a line `key K`.
+fn key_of_line(line: &[u8]) -> Result<u32, Cause> {
+    let piece = piece_after(line, b"key").ok_or(Cause::Line)?;
+    number(piece, 0, u32::MAX).ok_or(Cause::Number)
+}
+
+/// Appends the key in a line `key K`.
+fn add_key(keys: &mut Vec<u32>, line: &[u8]) -> Result<(), Cause> {
+    let key = key_of_line(line)?;
+    if keys.len() >= MOST_OPENING as usize {
+        return Err(Cause::TooMany);
+    }
+    if !is_above(keys, key) {
+        return Err(Cause::Opening);
+    }
+    keys.push(key)?;
+    Ok(())
+}
+
+/// Reads the remaining lines, each of which must be `key K`.
+fn keys_of_lines(alloc: Global, left: Remaining<'_>) -> Result<Vec<u32>, LineFault> {
+    let mut keys = Vec::new(alloc);
+    let mut line = left.line;
+    let mut rest = left.text;
+    while !rest.is_empty() {
+        let (first, after) = cut(rest, b'\n').ok_or(LineFault::unended(line))?;
+        if let Err(cause) = add_key(&mut keys, first) {
+            return Err(LineFault::at(line, cause));
+        }
+        line = line.saturating_add(1);
+        rest = after;
+    }
+    Ok(keys)
+}
+
+/// Reads the opening keys of a set: lines `key K`, in strictly increasing order. Allocates.
+///
+/// The lines that a server prints before its keys are skipped: `listening A`, `sessions N` and `calls N`, in this
+/// order, each optional, with any A and N. Therefore the output of one server is an input for the next.
+///
+/// # Errors
+///
+/// The first refused line, with the first check that it fails:
+/// - it has bytes and no newline;
+/// - `Line`: it is not `key` and one more field;
+/// - `Number`: the key is not a decimal from 0 to 4,294,967,295 without leading zeros;
+/// - `TooMany`: `MOST_OPENING` keys come before it;
+/// - `Opening`: the key is not above the previous key;
+/// - `Memory`: an allocation failed.
+pub fn read_keys(alloc: Global, text: &[u8]) -> Result<Vec<u32>, LineFault> {
+    keys_of_lines(alloc, after_head(text))
+}

@@ -1,0 +1,126 @@
+use crate::key_lines::{put_keys, read_keys};
+use crate::troubles::{opening_trouble, serve_trouble};
+use lset_coarse::CoarseList;
+use lset_fine::FineList;
+use lset_lazy::LazyList;
+use lset_live::{Running, open_with};
+use lset_lock_free::LockFreeList;
+use lset_optimistic::OptimisticList;
+use lset_server::{Served, serve};
+use lset_words::Kind;
+use std::alloc::{AllocError, Global};
+use std::io::{Read, Write};
+use std::net::{Ipv4Addr, Net, TcpListener, TcpStream};
+use std::sync::Wait;
+use std::thread::Threads;
+use std::time::Clock;
+use tool_base::{Answer, Input, ServeRequest, Trouble, put, read_all};
+
+/// Returns the lines that a server prints at its end: the number of sessions, the number of calls, and each final key.
+fn served_text(alloc: Global, served: &Served) -> Result<Vec<u8>, AllocError> {
+    let mut out = String::new(alloc);
+    let (sessions, calls) = (served.sessions, served.calls);
+    writeln!(out, "sessions {sessions}\ncalls {calls}")?;
+    put_keys(&mut out, &served.keys)?;
+    Ok(out.into_bytes())
+}
+
+/// Writes the line `listening 127.0.0.1:PORT` and flushes it.
+fn announce<W: Write>(alloc: Global, output: &mut W, port: u16) -> Result<(), Trouble> {
+    let line = format!(in alloc; "listening 127.0.0.1:{port}\n")?;
+    if put(output, line.as_bytes()) && output.flush().is_ok() {
+        Ok(())
+    } else {
+        Err(Trouble::CannotWrite)
+    }
+}
+
+/// Listens on a port of the loopback, and announces the port on `output`.
+fn listen<R: Net<Listener = TcpListener, Stream = TcpStream>, W: Write>(
+    rt: &R,
+    alloc: Global,
+    port: u16,
+    output: &mut W,
+) -> Result<TcpListener, Trouble> {
+    let Ok(listener) = TcpListener::bind(rt, (Ipv4Addr::LOCALHOST, port)) else {
+        return Err(Trouble::CannotListen);
+    };
+    let Ok(address) = listener.local_addr() else {
+        return Err(Trouble::CannotListen);
+    };
+    announce(alloc, output, address.port())?;
+    Ok(listener)
+}
+
+/// Opens a set of the list `M` with the keys `keys`, listens, announces the port, and serves. `M` must be the list that
+/// the request names.
+fn serve_list<
+    M: Running + Send + Sync,
+    R: Net<Listener = TcpListener, Stream = TcpStream> + Threads + Wait + Clock + Sync,
+    W: Write,
+>(
+    rt: &R,
+    alloc: Global,
+    request: ServeRequest,
+    keys: &[u32],
+    output: &mut W,
+) -> Result<Answer, Trouble> {
+    let (set, seats) = match open_with::<M>(alloc, request.seats, request.quota, keys) {
+        Ok(opened) => opened,
+        Err(fault) => return Err(opening_trouble(fault)),
+    };
+    let listener = listen(rt, alloc, request.port, output)?;
+    match serve(rt, alloc, listener, set, seats, request.sessions) {
+        Ok(served) => Ok(Answer {
+            text: served_text(alloc, &served)?,
+            status: 0,
+        }),
+        Err(fault) => Err(serve_trouble(fault.cause)),
+    }
+}
+
+/// Serves a set on the loopback. The set opens with the keys `keys`. The answer has status 0 and the lines `sessions
+/// N`, `calls N` and, in increasing order, `key k` for each final key.
+///
+/// The server opens the set, listens, writes `listening 127.0.0.1:P` to `output` and flushes it. Only then does it
+/// start its threads and accept connections, so the line is written even if a thread cannot be started. Allocates, and
+/// blocks until its connections have ended.
+///
+/// The list is chosen by a `match` here, since the tasks of `lset_lists::on_list` are for machines and not for running
+/// sets.
+pub fn serve_set<
+    R: Net<Listener = TcpListener, Stream = TcpStream> + Threads + Wait + Clock + Sync,
+    W: Write,
+>(
+    rt: &R,
+    alloc: Global,
+    request: ServeRequest,
+    keys: &[u32],
+    output: &mut W,
+) -> Result<Answer, Trouble> {
+    match request.kind {
+        Kind::Coarse => serve_list::<CoarseList, R, W>(rt, alloc, request, keys, output),
+        Kind::Fine => serve_list::<FineList, R, W>(rt, alloc, request, keys, output),
+        Kind::Optimistic => serve_list::<OptimisticList, R, W>(rt, alloc, request, keys, output),
+        Kind::Lazy => serve_list::<LazyList, R, W>(rt, alloc, request, keys, output),
+        Kind::LockFree => serve_list::<LockFreeList, R, W>(rt, alloc, request, keys, output),
+    }
+}
+
+/// Serves a set that opens with the keys in `input`, which is read to its end first. The keys have the format of
+/// `read_keys`, so the output of one server opens the next. The server stores nothing.
+pub fn serve_set_of<
+    R: Net<Listener = TcpListener, Stream = TcpStream> + Threads + Wait + Clock + Sync,
+    I: Read,
+    W: Write,
+>(
+    rt: &R,
+    alloc: Global,
+    request: ServeRequest,
+    input: &mut I,
+    output: &mut W,
+) -> Result<Answer, Trouble> {
+    let bytes = read_all(alloc, input)?;
+    let keys = read_keys(alloc, Input::new(&bytes)?.bytes())?;
+    serve_set(rt, alloc, request, &keys, output)
+}
