@@ -2,7 +2,7 @@
 
 use crate::contradictions::{Clash, clashes_of};
 use crate::key_calls::KeyCalls;
-use crate::made::{Made, Operation};
+use crate::made_calls::{Made, Operation};
 use crate::repairs::{Repairs, repairs_of};
 use crate::stretches::{Stretch, stretches_of};
 use lset_words::Presence;
