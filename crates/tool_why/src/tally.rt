@@ -178,7 +178,7 @@ impl Tally {
         let clash = &place.clash;
         let (key, since, until) = (place.key, clash.begun(), clash.until);
         if place.symptom == Symptom::Lost {
-            let changes = neighbours.around(alloc, key, since, until, MOST_BESIDE + 1)?;
+            let changes = neighbours.around(alloc, key, since, until, MOST_BESIDE.saturating_add(1))?;
             self.add_beside(&changes);
             if clash.second.is_some_and(|second| second.changes()) {
                 more(&mut self.readded);
