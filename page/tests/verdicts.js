@@ -443,8 +443,6 @@ const OF_WHY = [
     (it, [some, all, operation], { told }) => told !== null && told.wrong.length === Number(all) && told.wrong.filter((call) => runsBeside(it, call, operation)).length === Number(some)],
   [/^because at all (\d+) wrong answers an? (add|remove) of the key was still running$/, (it, [all, operation], { told }) =>
     told !== null && told.wrong.length === Number(all) && told.wrong.every((call) => runsBeside(it, call, operation))],
-  [/^because at all (\d+) wrong answers a change of another key was running$/, (it, [all], { told }) =>
-    told !== null && told.wrong.length === Number(all) && told.wrong.every((call) => it.calls.some((one) => one.key !== call.key && isChange(one) && inTime(one, call.begun, call.ended)))],
   [/^because it misses present keys$/, (it, found, { told }) => told !== null && told.wrong.some((call) => !needsKey(call))],
   [/^because it misses present keys and never finds an absent one$/, (it, found, { told }) => told !== null && told.isAll && told.wrong.every((call) => !needsKey(call))],
   [/^because it is wrong both ways, and add and remove agree$/, (it, found, { told }) => told !== null && told.wrong.some(needsKey) && !told.wrong.every(needsKey)],
@@ -623,7 +621,8 @@ async function main() {
     checkLacking(ask, Object.keys(LACKING)[number % Object.keys(LACKING).length]);
     checkOwn(ask);
   }
-  const isRare = (pattern) => /which do not increase|have no order\\\.|at first, and|same thread|every other key/.test(pattern.source);
+  // (a recording of few calls has few of the facts for a likely cause)
+  const isRare = (pattern) => /^\^because|which do not increase|have no order\\\.|at first, and/.test(pattern.source);
   const properties = [...OF_RECORDING, ...OF_LACKING, ...OF_OWN];
   result.failed.push(...properties.filter(([pattern]) => CASES >= 150 && !met.has(pattern) && !isRare(pattern)).map(([pattern]) => `no case has ${pattern}`));
   console.log(JSON.stringify(result));
