@@ -111,6 +111,7 @@ const OF_RECORDING = [
   [/^(\d+) of them overlap a change of their key\.$/, (it, [count]) => Number(count) === overlapped(it)],
   [/^That is few, and a race shows only if calls meet: take fewer keys, more threads, or pauses in the set\.$/, (it) => 20 * overlapped(it) < it.calls.length + it.padding.length],
   [/^The recording was cut off: some keys left fit, and those that were left are not known\.$/, (it) => it.keys === null && isExplained(it)],
+  [/^The first 40 calls are drawn\.$/, (it) => it.calls.length + it.padding.length > 40],
   [/^Not linearizable: no order at all explains these calls( and leaves the keys)?\.$/, (it, [keys]) => !isExplained(it) && (keys === undefined) === (leftByOrders(it.calls, it.opening).size === 0 || it.keys === null)],
   [/^No order explains the calls of key (\d+) up to moment (\d+)\.$/, (it, [key, moment], said) => {
     Object.assign(said, { key: Number(key), moment: Number(moment) });
