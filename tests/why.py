@@ -112,9 +112,9 @@ def test_brief_prints_the_verdict_alone(program, path):
 
 
 def test_a_long_recording_is_explained_by_its_first_calls(program, path):
-    """The first two million calls have no order: the message is of these, and says so."""
-    lines = (f"call 0 contains {number % 4} {2 * number + 1} {2 * number + 2} {'true' if number == 9 else 'false'}\n" for number in range(2_100_000))
+    """The first million calls have no order: the message is of these, and says so."""
+    lines = (f"call 0 contains {number % 4} {2 * number + 1} {2 * number + 2} {'true' if number == 9 else 'false'}\n" for number in range(1_100_000))
     with path.open("w") as file:
         file.writelines(itertools.chain(["listset-calls 1\n"], lines, ["end\n"]))
     said = ran(program, "judge", path).stdout
-    assert "only contains is wrong: 1 of its 2000000 answers" in said and "\nonly the first 2000000 calls were looked at\n" in said
+    assert "only contains is wrong: 1 of its 1000000 answers" in said and "\nonly the first 1000000 calls were looked at\n" in said

@@ -11,7 +11,7 @@ use crate::run_reader::Recorded;
 use crate::runs::{Refused, Runs, first_of};
 use crate::splits::{Split, longest_split};
 use crate::stretches::stretches_of;
-use crate::symptoms::{Place, Symptom, places_of, shortest};
+use crate::symptoms::{Place, Symptom, places_of, shortest, symptom_of_reply};
 use crate::tally::Tally;
 use lset_words::Presence;
 use std::alloc::{AllocError, Global};
@@ -152,20 +152,12 @@ fn sound_calls(
     KeyCalls::new(alloc, key, others, opening, left)
 }
 
-/// Returns the symptom of a wrong answer.
-fn symptom_of(call: Made) -> Symptom {
-    match call.needs() {
-        Some(Presence::Present) => Symptom::Found(call.operation),
-        _ => Symptom::Missed(call.operation),
-    }
-}
-
 /// Returns the place of a wrong answer among the right calls.
 fn place_of_answer(sound: &KeyCalls, call: Made, clash: Clash) -> Place {
     Place {
         key: sound.key,
         clash,
-        symptom: symptom_of(call),
+        symptom: symptom_of_reply(call),
         wrong: Some(call),
         silent: None,
         is_turned: true,
@@ -424,7 +416,7 @@ fn places_of_all(
         places: Vec::new(alloc),
         wrong: None,
         odd: None,
-        tally: Tally::new(),
+        tally: Tally::default(),
         split: None,
     };
     for one in refused {
@@ -482,7 +474,7 @@ fn find_all(
         places,
         wrong,
         odd: Some(odd),
-        tally: Tally::new(),
+        tally: Tally::default(),
         split: None,
     })
 }

@@ -622,7 +622,7 @@ pub struct Explained {
 }
 
 /// The number of calls from which on an explanation is of so many first calls alone, if these have no order.
-const MOST_EXPLAINED: usize = 2_000_000;
+const MOST_EXPLAINED: usize = 1_000_000;
 
 /// Returns the explanation of a diagnosis. `recorded` has the calls as they ended later.
 fn explained(

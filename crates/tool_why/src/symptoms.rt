@@ -67,7 +67,7 @@ fn only_turned(
 }
 
 /// Returns the symptom of a call with the one wrong reply.
-fn symptom_of_reply(call: Made) -> Symptom {
+pub(crate) fn symptom_of_reply(call: Made) -> Symptom {
     match call.needs() {
         Some(Presence::Present) => Symptom::Found(call.operation),
         _ => Symptom::Missed(call.operation),

@@ -7,7 +7,7 @@ use lset_words::Presence;
 use std::alloc::{AllocError, Global};
 
 /// The numbers of contradictions of each kind. The contradictions of a key do not overlap one another in time.
-#[derive(Clone, Copy)]
+#[derive(Clone, Copy, Default)]
 pub struct Tally {
     pub places: u64,
     pub lost: u64,
@@ -71,39 +71,6 @@ fn more(count: &mut u64) {
 }
 
 impl Tally {
-    /// Returns a tally of no contradictions.
-    pub(crate) fn new() -> Tally {
-        Tally {
-            places: 0,
-            lost: 0,
-            came_back: 0,
-            both_adds: 0,
-            both_removes: 0,
-            missed: 0,
-            found: 0,
-            others: 0,
-            silent: 0,
-            turned: 0,
-            beside: 0,
-            alone: 0,
-            crossed: 0,
-            sharp: 0,
-            displaced: 0,
-            unlinked: 0,
-            readded: 0,
-            undone: 0,
-            swapped: 0,
-            below: 0,
-            short: 0,
-            least_full: 0,
-            usually_full: 100,
-            usual: 0,
-            apart: 0,
-            keys: 0,
-            begun: 0,
-        }
-    }
-
     /// Returns the number of contradictions in which a key was lost or came back.
     pub fn gone(&self) -> u64 {
         self.lost.saturating_add(self.came_back)
