@@ -1,9 +1,8 @@
-"""Each sentence that `judge`, `check` and `show` print of a verdict is a property here, which a search of all orders decides: of recordings and
-reports of 3 to 9 calls, drawn at random, right and wrong. A line for which no property is written fails. And what `trace` and `show` say of
-a run is what `replay` prints of it.
+"""Checks each sentence that `check` and `show` print of a report: each is a property here, which a search of all orders decides. The reports have
+3 to 9 calls, drawn at random, right and wrong. A line without a property fails. `trace` and `show` must also have the calls of the report that
+`replay` prints. (Sentences on recordings: tests/judging.py.)
 
-The environment variable CASES says how many cases each test draws for each seed; `--few` draws a tenth. Of a refused recording
-tests/judging.py has the lines below the first two.
+The environment variable CASES is the number of cases that each test draws for each seed; `--few` draws a tenth.
 """
 
 import collections
@@ -18,7 +17,7 @@ from harness.programs import KINDS, TOP, ran
 from harness.reports_model import Report, damage, report_text
 from harness.set_model import CHANGES, SetModel, reply_of
 from harness.traces_model import read_schedule, run_of
-from judging import LAST, Call, drawn, moved, spread, text_of, ways_left
+from judging import LAST, STATES, Call, changes, leaves, needs, ways_left
 from trace_and_show_models import drawn_schedule
 
 CASES, SEEDS = int(os.environ.get("CASES", "60")), range(4)
@@ -61,13 +60,9 @@ def is_reply(word, key, reply):
     return reply in ("true", "false") or (word, reply) == ("add", "full")
 
 
-def may_change(it):
-    return it.word in CHANGES and it.reply in ("true", None)
-
-
 def left_by_orders(calls, opening, quota):
     """Returns the final key sets of all orders that explain the calls. A pending call without an effect is in no order."""
-    calls = [it for it in calls if it.end or may_change(it)]
+    calls = [it for it in calls if it.end or changes(it)]
     completed = {number for number, it in enumerate(calls) if it.end}
     before = [{other for other in completed if calls[other].end < it.begin} for it in calls]
     reached, left, seen = [(frozenset(), frozenset(opening))], set(), set()
@@ -75,93 +70,16 @@ def left_by_orders(calls, opening, quota):
         placed, keys = reached.pop()
         if placed >= completed:
             left.add(keys)
-        added = collections.Counter(calls[it].thread for it in placed if calls[it].word == "add" and may_change(calls[it]))
+        added = collections.Counter(calls[it].thread for it in placed if calls[it].word == "add" and changes(calls[it]))
         for number, it in enumerate(calls):
             reply = it.reply or "true"
             if number in placed or not before[number] <= placed or reply_of(it.word, it.key, keys, added[it.thread] < quota) != reply:
                 continue
             changed = keys | {it.key} if it.word == "add" else keys - {it.key}
-            further = placed | {number}, changed if may_change(it) else keys
+            further = placed | {number}, changed if changes(it) else keys
             reached += [further] * (further not in seen)
             seen.add(further)
     return left
-
-
-# ---- a recording
-
-
-class Recorded:
-    def __init__(self, rng, met):
-        self.met = met
-        calls, self.opening, keys = spread(rng, *drawn(rng, rng.randrange(3, 10)))
-        self.calls, self.keys = moved(calls, rng.choice([0, 2**32, LAST - 1000])), None if rng.random() < 0.2 else keys
-        self.text = text_of(self.calls, self.opening, self.keys)
-
-    def left(self, key, upto=LAST):
-        """Returns the states in which orders of the key's calls that began up to a moment can leave the key."""
-        return ways_left([it for it in self.calls if it.key == key and it.begin <= upto], key in self.opening)
-
-    def is_explained(self):
-        """Decides whether some order explains the calls and leaves the final keys, if these are known."""
-        all_keys = {it.key for it in self.calls}.union(self.opening, self.keys or [])
-        return all(self.left(key) if self.keys is None else (key in self.keys) in self.left(key) for key in all_keys)
-
-    def overlapped(self):
-        """Returns the number of calls that overlap another call that changed their key."""
-        def overlap(it, other):
-            return it.begin < (other.end or LAST) and other.begin < (it.end or LAST)
-        turns = [it for it in self.calls if it.end and it.word in CHANGES and it.reply == "true"]
-        return sum(any(it != other and it.key == other.key and overlap(it, other) for other in turns) for it in self.calls)
-
-
-of_judge = Sentences()
-
-
-@of_judge(r"ok (\d+) calls")
-def an_order_explains_the_recording(case, count):
-    return int(count) == len(case.calls) and case.is_explained()
-
-
-@of_judge(r"(\d+) of them overlap a change of their key")
-def so_many_calls_overlap_a_change(case, count):
-    return int(count) == case.overlapped()
-
-
-@of_judge("that is few, and a race shows only if calls meet: take fewer keys, more threads, or pauses in the set")
-def few_calls_overlap(case):
-    return 20 * case.overlapped() < len(case.calls)
-
-
-@of_judge("the recording was cut off: some keys left fit, and those that were left are not known")
-def the_recording_is_cut_off(case):
-    return case.keys is None and case.is_explained()
-
-
-@of_judge("not linearizable")
-def no_order_explains_the_recording(case):
-    return not case.is_explained()
-
-
-@of_judge(r"no order explains the calls of key (\d+) up to moment (\d+)")
-def no_order_explains_what_began_up_to_the_moment(case, key, moment):
-    return not case.left(int(key), int(moment)) and any(int(moment) in (it.begin, it.end) for it in case.calls)
-
-
-@of_judge(r"no order explains the calls of key (\d+) and leaves it as it was left")
-def each_order_leaves_the_key_otherwise(case, key):
-    return case.keys is not None and case.left(int(key)) == {int(key) not in case.keys}
-
-
-@pytest.mark.parametrize("seed", SEEDS)
-def test_what_is_said_of_a_recording_is_true(program, cases, few, seed):
-    rng, met = random.Random(f"recording {seed}"), collections.Counter()
-    for _ in cases:
-        case = Recorded(rng, met)
-        done = ran(program, "judge", text=case.text)
-        lines = done.stdout.splitlines()
-        of_judge.are_true(case, lines if lines[0].startswith("ok ") else lines[:2])
-        assert done.returncode == (not case.is_explained()), case.text
-    assert few or len(met) == len(of_judge.properties), met
 
 
 # ---- a report
@@ -329,7 +247,7 @@ def keys_in(text):
 
 def has_room(case):
     """Decides whether no thread can exceed the quota with its successful adds."""
-    may = collections.Counter(it.thread for it in case.calls if it.word == "add" and may_change(it))
+    may = collections.Counter(it.thread for it in case.calls if it.word == "add" and changes(it))
     return max(may.values(), default=0) <= case.quota
 
 
@@ -441,7 +359,6 @@ def each_order_of_the_report_leaves_the_key_otherwise(case, key):
 
 # Two calls that contradict each other: each is a call of the report, and leaves or needs a key as it is read.
 
-STATES = {"present": True, "absent": False}
 CALL, STATE = r"thread (\d+) (\w+) (\d+) (\S+), (\d+) to (\d+)", "(present|absent)"
 
 
@@ -450,14 +367,6 @@ def look_at(case, call):
     thread, word, key, reply, begin, end = call
     made = Call(int(thread), word, int(key), int(begin), int(end), reply)
     return dict(zip(case.calls, case.read())).get(made)
-
-
-def leaves(it):
-    return it.word == "add" or (it.word, it.reply) == ("contains", "true")
-
-
-def needs(it):
-    return leaves(it) != (it.word in CHANGES and it.reply == "true")
 
 
 @of_show(f"contradiction: {CALL}, leaves key (\\d+) {STATE},")
@@ -490,7 +399,7 @@ def the_key_is_so_at_the_end(case, key, state):
 
 def may_be_made(case, word, key, since, until):
     """Decides whether a call that brings the key into this state, and returned true or is pending, overlaps this time."""
-    return any((it.word, it.key) == (word, key) and may_change(it) and it.begin <= until and since <= (it.end or LAST) for it in case.calls)
+    return any((it.word, it.key) == (word, key) and changes(it) and it.begin <= until and since <= (it.end or LAST) for it in case.calls)
 
 
 @of_show(r"  and no (add|remove) (\d+) that returned true or is pending (?:overlaps (\d+) to|begins before) (\d+)")

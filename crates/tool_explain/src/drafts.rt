@@ -1,6 +1,6 @@
 //! The next steps of a thread: drafts and traces of the lines before an error.
 
-use crate::events::thread_text;
+use crate::event_errors::thread_text;
 use crate::kinds::Place;
 use crate::lined::{Lines, field_or_empty, number_at};
 use std::alloc::{AllocError, Global};

@@ -1,4 +1,4 @@
-use crate::explaining::explain_text;
+use crate::text_explained::explain_text;
 use std::alloc::Global;
 use std::io::{ErrorKind, Read};
 use tool_base::{Answer, LONGEST, READ_SIZE, Trouble};

@@ -2,8 +2,8 @@
 #![tactic(auto)]
 
 mod drafts;
-mod events;
-mod explaining;
+mod event_errors;
+mod text_explained;
 mod files;
 mod keyed;
 mod kinds;
@@ -13,5 +13,5 @@ mod reported;
 mod spoiled;
 mod written;
 
-pub use explaining::explain_text;
+pub use text_explained::explain_text;
 pub use files::{explain_input, explain_unopened};

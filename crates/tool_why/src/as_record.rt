@@ -2,7 +2,7 @@
 
 use crate::diagnosis::{Diagnosis, Mark};
 use crate::likely::state_word;
-use crate::made::{Made, NEVER};
+use crate::made_calls::{Made, NEVER};
 use crate::sentences::{cause_text, put_because, put_headline, put_known};
 use std::alloc::{AllocError, Global};
 

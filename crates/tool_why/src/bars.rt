@@ -2,7 +2,7 @@
 
 use crate::diagnosis::{Diagnosis, Mark};
 use crate::likely::state_word;
-use crate::made::{Made, NEVER};
+use crate::made_calls::{Made, NEVER};
 use std::alloc::{AllocError, Global};
 
 /// The maximum number of columns of the bars.

@@ -3,7 +3,7 @@
 //! of the second, no order explains the two, whatever all other calls did.
 
 use crate::key_calls::KeyCalls;
-use crate::made::{Made, NEVER, other};
+use crate::made_calls::{Made, NEVER, other};
 use crate::stretches::{Stretch, stretch_before};
 use lset_words::Presence;
 use std::alloc::{AllocError, Global};

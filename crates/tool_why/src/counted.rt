@@ -2,7 +2,7 @@
 
 use crate::diagnosis::Diagnosis;
 use crate::key_calls::KeyCalls;
-use crate::made::{Made, NEVER};
+use crate::made_calls::{Made, NEVER};
 use crate::run_reader::Recorded;
 use crate::stretches::{stretches_of, sure_before};
 use lset_judge::{Count, StreamCall, find_count};
@@ -10,7 +10,7 @@ use lset_words::{Key, Presence};
 use std::alloc::{AllocError, Global};
 
 /// The maximum number of calls in which a count is searched. The time of the search grows with the square of their number.
-const MOST_COUNTED: usize = 2_000;
+const MOST_COUNTED: usize = 4_000;
 
 /// Calls of a key in which a count is searched, and the state of the key before them.
 #[derive(Drop)]

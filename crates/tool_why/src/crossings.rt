@@ -1,4 +1,4 @@
-use crate::made::Made;
+use crate::made_calls::Made;
 use std::alloc::{AllocError, Global};
 
 /// The begins of calls at which another call was running.

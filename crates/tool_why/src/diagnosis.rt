@@ -1,8 +1,8 @@
 use crate::contradictions::{Clash, clash_of};
-use crate::crossings::Crossings;
+use crate::fullness::Fullness;
 use crate::key_calls::KeyCalls;
 use crate::likely::{Cause, Evidence, Odd, likely};
-use crate::made::{Made, NEVER, Operation, other};
+use crate::made_calls::{Made, NEVER, Operation, other};
 use crate::merged::merged_keys;
 use crate::neighbours::Neighbours;
 use crate::odd::{WrongAnswers, is_answer, is_explained_without, is_judged_without, without};
@@ -11,7 +11,7 @@ use crate::run_reader::Recorded;
 use crate::runs::{Refused, Runs, first_of};
 use crate::splits::{Split, longest_split};
 use crate::stretches::stretches_of;
-use crate::symptoms::{Place, Symptom, places_of, shortest};
+use crate::symptoms::{Place, Symptom, places_of, shortest, symptom_of_reply};
 use crate::tally::Tally;
 use lset_words::Presence;
 use std::alloc::{AllocError, Global};
@@ -52,8 +52,6 @@ pub struct Diagnosis {
     pub beside: Vec<Made>,
     /// A later call that agrees with the contradicting call or, if one reply alone is wrong, with the other calls.
     pub later: Option<Made>,
-    /// The change that the wrong call did not see, if the change was still running.
-    pub running: Option<Made>,
     pub evidence: Evidence,
     pub cause: Option<Cause>,
     /// The key whose calls are the first to have no order, and the first moment by which they have none. The moment is `NEVER` if no order
@@ -154,20 +152,12 @@ fn sound_calls(
     KeyCalls::new(alloc, key, others, opening, left)
 }
 
-/// Returns the symptom of a wrong answer.
-fn symptom_of(call: Made) -> Symptom {
-    match call.needs() {
-        Some(Presence::Present) => Symptom::Found(call.operation),
-        _ => Symptom::Missed(call.operation),
-    }
-}
-
 /// Returns the place of a wrong answer among the right calls.
 fn place_of_answer(sound: &KeyCalls, call: Made, clash: Clash) -> Place {
     Place {
         key: sound.key,
         clash,
-        symptom: symptom_of(call),
+        symptom: symptom_of_reply(call),
         wrong: Some(call),
         silent: None,
         is_turned: true,
@@ -193,7 +183,10 @@ fn odd_of(found: &OddFound, usual: u64) -> Odd {
         puts_left_aside: found.puts_left_aside,
         keys: 0,
         never_finds: false,
-        of_keys: 0,
+        own: 0,
+        compared: 0,
+        lonely: 0,
+        usually_lonely: 0,
     }
 }
 
@@ -213,18 +206,79 @@ fn places_of_odd(
         let is_same = key.as_ref().is_some_and(|key| key.key == call.key);
         if !is_same {
             odd.keys = odd.keys.saturating_add(1);
-            add_answers(runs.made_of(call.key), &mut odd, &mut finds);
+            let calls = runs.made_of(call.key).iter();
+            finds = finds || calls.copied().any(|one| has_found(one, found.operation));
             key = Some(sound_calls(alloc, runs, call.key, found)?);
         }
         if let Some(sound) = &key {
             count_answer(sound, *call, &mut odd, neighbours);
+            if was_left_so(runs.made_of(call.key), *call) {
+                odd.own = odd.own.saturating_add(1);
+            }
             add_place(alloc, sound, *call, places)?;
         }
     }
     let (of, others) = count_answers(&runs.recorded.calls, found.operation);
     odd.of = of;
     odd.never_finds = !finds && others;
+    if odd.operation == Operation::Contains && odd.found == 0 {
+        count_lonely(alloc, runs, &found.answers.wrong, &mut odd)?;
+    }
     Ok(odd)
+}
+
+/// The maximum number of calls of a key that are searched for the last call of a thread.
+const MOST_OWN: usize = 2_000;
+
+/// Returns whether the last call of a key by the thread of an answer left the key as answered.
+fn was_left_so(calls: &[Made], answer: Made) -> bool {
+    let end = calls.partition_point(|call| call.begun < answer.begun);
+    let earlier = calls.get(..end).unwrap_or(&[]).iter().rev();
+    for call in earlier.take(MOST_OWN) {
+        if call.thread == answer.thread {
+            return call.leaves() == answer.needs();
+        }
+    }
+    false
+}
+
+/// The maximum number of wrong answers that are compared with the other keys.
+const MOST_COMPARED: usize = 200;
+
+/// Returns whether the last of some calls that ended before a moment left the key present.
+fn is_left_present(calls: &[Made], opening: Presence, moment: u64) -> bool {
+    let (mut left, mut latest) = (Some(opening), 0);
+    for call in calls {
+        if call.begun >= moment {
+            break;
+        }
+        if call.ended < moment && call.ended > latest {
+            latest = call.ended;
+            left = call.leaves();
+        }
+    }
+    left == Some(Presence::Present)
+}
+
+/// Counts the wrong answers at which no other key was shown present.
+fn count_lonely(
+    alloc: Global,
+    runs: &Runs<'_>,
+    wrong: &[Made],
+    odd: &mut Odd,
+) -> Result<(), AllocError> {
+    let full = Fullness::of(alloc, runs)?;
+    for call in wrong.iter().take(MOST_COMPARED) {
+        let (key, moment) = (call.key, call.begun);
+        let is_own = is_left_present(runs.made_of(key), runs.recorded.opens(key), moment);
+        let others = full.before(moment).saturating_sub(u64::from(is_own));
+        odd.compared = odd.compared.saturating_add(1);
+        if others == 0 {
+            odd.lonely = odd.lonely.saturating_add(1);
+        }
+    }
+    odd.usually_lonely = full.share_between(&runs.recorded.calls, 0, 1);
+    Ok(())
 }
 
 /// The number of answers that are sampled.
@@ -245,16 +299,6 @@ fn usual_share(calls: &[Made], operation: Operation, neighbours: &Neighbours) ->
         }
     }
     beside.saturating_mul(100).checked_div(tried).unwrap_or(0)
-}
-
-/// Counts the answers of the odd operation for a key with wrong answers. Sets `finds` if any of its calls found the key.
-fn add_answers(calls: &[Made], odd: &mut Odd, finds: &mut bool) {
-    for call in calls {
-        if is_answer(*call, odd.operation) {
-            odd.of_keys = odd.of_keys.saturating_add(1);
-        }
-        *finds = *finds || has_found(*call, odd.operation);
-    }
 }
 
 /// Returns whether a call of an operation found its key present.
@@ -345,6 +389,9 @@ struct Found {
 /// The maximum number of moments of a loss that is compared with removes of other keys. In a longer time any remove can run by chance.
 const MOST_MOMENTS: u64 = 200;
 
+/// The minimum number of losses that are compared with the number of keys.
+const LEAST_LOST: u64 = 10;
+
 /// Returns the places in which a call shows within `MOST_MOMENTS` that a key was lost, in the order of time.
 fn losses_of(alloc: Global, places: &[Place]) -> Result<Vec<Place>, AllocError> {
     let mut losses = Vec::new(alloc);
@@ -369,7 +416,7 @@ fn places_of_all(
         places: Vec::new(alloc),
         wrong: None,
         odd: None,
-        tally: Tally::new(),
+        tally: Tally::default(),
         split: None,
     };
     for one in refused {
@@ -388,11 +435,14 @@ fn places_of_all(
         found.split = larger_split(found.split, longest_split(alloc, &key)?);
     }
     let calls = &runs.recorded.calls;
-    let crossings = Crossings::of(alloc, calls)?;
     let losses = losses_of(alloc, &found.places)?;
     found
         .tally
-        .add_times(&found.places, calls, neighbours, &crossings, &losses);
+        .add_times(alloc, &found.places, calls, neighbours, &losses)?;
+    if found.tally.lost >= LEAST_LOST && found.tally.came_back == 0 {
+        let full = Fullness::of(alloc, runs)?;
+        found.tally.add_fullness(calls, &losses, &full);
+    }
     Ok(found)
 }
 
@@ -424,7 +474,7 @@ fn find_all(
         places,
         wrong,
         odd: Some(odd),
-        tally: Tally::new(),
+        tally: Tally::default(),
         split: None,
     })
 }
@@ -489,7 +539,6 @@ fn begin(alloc: Global, first: Refused, was: Presence, evidence: Evidence) -> Di
         shown: Vec::new(alloc),
         beside: Vec::new(alloc),
         later: None,
-        running: None,
         evidence,
         cause: likely(&evidence),
         first_key: first.key,
@@ -515,6 +564,9 @@ pub fn diagnose(alloc: Global, recorded: &Recorded) -> Result<Option<Diagnosis>,
         split: found.split,
         keys: u64::try_from(keys.len()).unwrap_or(u64::MAX),
         calls: u64::try_from(recorded.calls.len()).unwrap_or(u64::MAX),
+        is_part: recorded.is_part,
+        is_first_spared: is_first_spared(&runs, &keys, &refused),
+        span: span_of(&keys),
     };
     let was = match recorded.leaves(first.key) {
         Some(left) => other(left),
@@ -532,6 +584,23 @@ pub fn diagnose(alloc: Global, recorded: &Recorded) -> Result<Option<Diagnosis>,
     };
     diagnosis.show(alloc, &key, place, &neighbours)?;
     Ok(Some(diagnosis))
+}
+
+/// Returns the difference of the largest and the smallest of some increasing keys.
+fn span_of(keys: &[u32]) -> u32 {
+    match (keys.first(), keys.last()) {
+        (Some(first), Some(last)) => last.saturating_sub(*first),
+        _ => 0,
+    }
+}
+
+/// Returns whether the calls of the smallest key have an order and those of at least two others have none, and it has as many calls as others.
+fn is_first_spared(runs: &Runs<'_>, keys: &[u32], refused: &[Refused]) -> bool {
+    let (Some(first), Some(hit)) = (keys.first(), refused.first()) else {
+        return false;
+    };
+    let calls = runs.made_of(*first).len().saturating_mul(2);
+    refused.len() >= 2 && hit.key != *first && calls >= runs.made_of(hit.key).len()
 }
 
 /// Returns the calls of a key without the answers of the odd operation but one.
@@ -562,7 +631,26 @@ fn add(shown: &mut Vec<Shown>, call: Made) -> Result<(), AllocError> {
     Ok(())
 }
 
+/// Returns the call of a recording that began when `call` did.
+fn recorded_call(calls: &[Made], call: Made) -> Made {
+    let at = calls.partition_point(|one| one.begun < call.begun);
+    match calls.get(at) {
+        Some(one) if one.begun == call.begun => *one,
+        _ => call,
+    }
+}
+
 impl Diagnosis {
+    /// Replaces the calls of the picture by those of a recording, in which pending calls have ended.
+    pub(crate) fn complete(&mut self, calls: &[Made]) {
+        for one in &mut self.shown {
+            one.call = recorded_call(calls, one.call);
+        }
+        for call in &mut self.beside {
+            *call = recorded_call(calls, *call);
+        }
+    }
+
     /// Adds a call, if there is one, to the picture.
     fn add_if(&mut self, call: Option<Made>) -> Result<(), AllocError> {
         match call {
@@ -643,7 +731,6 @@ impl Diagnosis {
             let change = key.change_before(clash.was, call.ended);
             if let Some(change) = change {
                 if change.overlaps(call.begun, call.ended) && call.reads() {
-                    self.running = Some(change);
                     self.add_if(Some(change))?;
                 }
             }

@@ -1,4 +1,4 @@
-use crate::made::{Made, NEVER, Operation};
+use crate::made_calls::{Made, NEVER, Operation};
 use lset_words::Presence;
 use std::alloc::{AllocError, Global};
 

@@ -1,7 +1,7 @@
 //! The judge's rule for the calls of one key: a pending change takes effect only if a call that ends needs it. Of several pending changes the
 //! one with the nearest end takes effect.
 
-use crate::made::{Made, NEVER, other};
+use crate::made_calls::{Made, NEVER, other};
 use lset_words::Presence;
 use std::alloc::{AllocError, Global};
 

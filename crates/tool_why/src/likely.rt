@@ -1,6 +1,6 @@
 //! The likely cause: a guess from the facts of the message. There is no guess if nothing fits.
 
-use crate::made::Operation;
+use crate::made_calls::Operation;
 use crate::splits::Split;
 use crate::tally::Tally;
 use lset_words::Presence;
@@ -37,8 +37,14 @@ pub struct Odd {
     pub keys: u64,
     /// Whether the operation never found any of these keys, and found others.
     pub never_finds: bool,
-    /// The number of its answers for these keys.
-    pub of_keys: u64,
+    /// The number of wrong answers before which the last call of the key by the same thread left it as answered.
+    pub own: u64,
+    /// The number of wrong answers that were compared with the other keys.
+    pub compared: u64,
+    /// Of `compared`: the last call of each other key that had ended left that key absent.
+    pub lonely: u64,
+    /// At how many of 100 of its calls at most one key was shown present.
+    pub usually_lonely: u64,
 }
 
 /// The facts for the guess.
@@ -53,6 +59,12 @@ pub struct Evidence {
     pub keys: u64,
     /// The number of calls of the recording.
     pub calls: u64,
+    /// Whether these are only the first calls of a longer recording.
+    pub is_part: bool,
+    /// Whether the calls of the smallest key have an order, and those of two others have none.
+    pub is_first_spared: bool,
+    /// The difference of the largest and the smallest key.
+    pub span: u32,
 }
 
 /// A likely cause.
@@ -68,6 +80,8 @@ pub enum Cause {
     KeptTwice,
     /// An add of another key removes a key.
     Displaced,
+    /// A remove of another key carries out earlier removes.
+    Batch,
     /// A remove removes another key than its own.
     OtherKey,
     /// The set goes wrong without a race.
@@ -78,6 +92,10 @@ pub enum Cause {
     TakenLater,
     /// `contains` has a shortcut that returns false too early.
     Shortcut,
+    /// `contains` looks at a size first.
+    SizeFirst,
+    /// `contains` reads a cache of its thread.
+    ThreadCache,
     /// `contains` reads a copy that is updated late.
     LateCopy,
     /// One key is treated unlike others.
@@ -106,6 +124,12 @@ pub enum Cause {
     OldCopy,
     /// A link is written without a check that it is current.
     OldLink,
+    /// A node is linked to a node that is being removed.
+    Unlinked,
+    /// Keys are dropped when many are present.
+    Evicted,
+    /// A comparison of keys overflows.
+    Overflow,
     /// An older state is written back beside changes of other keys.
     WrittenBack,
     /// A table is replaced while calls still change the old one.
@@ -125,16 +149,21 @@ fn is_share(some: u64, all: u64, percent: u64) -> bool {
     all >= ENOUGH && is_least(some, all, percent)
 }
 
-/// Returns whether by chance, in fewer than one of four cases, a change of another key would run during all wrong answers.
-fn is_no_chance(odd: Odd) -> bool {
+/// Returns in how many of a million cases something that happens `percent` of 100 times happens `times` times in a row.
+fn share_of_all(percent: u64, times: u64) -> u64 {
     let mut share = 1_000_000u64;
-    for _ in 0..odd.missed.min(40) {
+    for _ in 0..times.min(40) {
         share = share
-            .saturating_mul(odd.usual)
+            .saturating_mul(percent)
             .checked_div(100)
             .unwrap_or(0);
     }
-    share < 250_000
+    share
+}
+
+/// Returns whether by chance, in fewer than one of four cases, a change of another key would run during all wrong answers.
+fn is_no_chance(odd: Odd) -> bool {
+    share_of_all(odd.usual, odd.missed) < 250_000
 }
 
 /// Returns whether at least three quarters of the wrong answers are some of them.
@@ -146,7 +175,9 @@ fn are_most(some: u64, odd: Odd) -> bool {
 fn cause_of_misses(odd: Odd) -> Option<Cause> {
     let only_adds = odd.beside.saturating_sub(odd.removing);
     let is_moved = is_no_chance(odd) && (odd.missed > 1 || odd.adding == 0);
-    if odd.running == odd.missed {
+    if is_size(odd) {
+        Some(Cause::SizeFirst)
+    } else if odd.running == odd.missed {
         Some(Cause::NotSeenYet)
     } else if odd.beside < odd.missed {
         Some(Cause::Shortcut)
@@ -159,9 +190,24 @@ fn cause_of_misses(odd: Odd) -> Option<Cause> {
     }
 }
 
+/// Returns whether contains mostly misses a key if no other key is present, and not by chance.
+fn is_size(odd: Odd) -> bool {
+    let more_often = odd.usually_lonely.saturating_add(35);
+    odd.compared >= 3
+        && is_least(odd.lonely, odd.compared, more_often)
+        && share_of_all(odd.usually_lonely, odd.lonely) < 50_000
+}
+
+/// Returns whether each thread answers what it saw last itself.
+fn is_own(odd: Odd) -> bool {
+    odd.wrong >= 8 && odd.own == odd.wrong
+}
+
 /// Returns the likely cause if contains alone is wrong.
 fn cause_of_contains(odd: Odd) -> Option<Cause> {
-    if odd.missed > 0 && odd.found > 0 {
+    if is_own(odd) && odd.found > 0 && odd.running.saturating_mul(2) < odd.wrong {
+        Some(Cause::ThreadCache)
+    } else if odd.missed > 0 && odd.found > 0 {
         Some(Cause::LateCopy)
     } else if odd.found > 0 && odd.running.saturating_mul(2) >= odd.found {
         Some(Cause::MarkNotRead)
@@ -210,7 +256,8 @@ fn is_beside_by_chance(tally: &Tally) -> bool {
 }
 
 /// Returns the likely cause if keys were lost and came back.
-fn cause_of_gone(tally: &Tally) -> Option<Cause> {
+fn cause_of_gone(evidence: &Evidence) -> Option<Cause> {
+    let tally = &evidence.tally;
     let (lost, back) = (tally.lost, tally.came_back);
     if tally.swapped >= 4 && is_least(tally.swapped, tally.undone, 60) {
         return Some(Cause::OtherKey);
@@ -219,20 +266,32 @@ fn cause_of_gone(tally: &Tally) -> Option<Cause> {
         return None;
     }
     if !is_share(tally.beside, tally.timed(), 90) {
-        return if is_beside_by_chance(tally) {
+        return if evidence.keys > 1 && is_beside_by_chance(tally) {
             Some(Cause::NoLock)
         } else {
             None
         };
     }
     let has_both = tally.both_adds > 0 && tally.both_removes > 0;
-    if lost.saturating_mul(2) >= back.saturating_mul(3) {
+    if !is_least(tally.below, tally.timed(), 85) {
+        Some(Cause::OldCopy)
+    } else if lost.saturating_mul(2) >= back.saturating_mul(3) {
         Some(Cause::OldLink)
     } else if has_both && is_share(tally.both(), tally.places, 5) {
         Some(Cause::OldCopy)
     } else {
         Some(Cause::WrittenBack)
     }
+}
+
+/// Returns whether keys are lost and come back mostly while a smaller key is removed, and the smallest key never is.
+fn is_unlinked(evidence: &Evidence) -> bool {
+    let (tally, timed) = (&evidence.tally, evidence.tally.timed());
+    let is_both_ways = tally.lost > 0 && tally.came_back > 0;
+    is_both_ways
+        && evidence.is_first_spared
+        && timed >= 2 * ENOUGH
+        && is_share(tally.below, timed, 75)
 }
 
 /// Returns whether calls that returned false can have made nearly all contradicting changes.
@@ -253,26 +312,55 @@ fn needs_no_race(tally: &Tally) -> bool {
     tally.gone() >= 2 * ENOUGH && tally.apart >= ENOUGH && is_share(tally.apart, tally.places, 10)
 }
 
-/// Returns the likely cause if the set goes wrong without a race.
-fn cause_in_one_thread(tally: &Tally) -> Option<Cause> {
-    let (lost, back) = (tally.lost, tally.came_back);
-    let is_undone = lost == 0 && back >= 4 && is_least(tally.undone, back, 80);
-    let is_readded = needs_no_race(tally) && back > 0 && lost > 0 && tally.readded == lost;
-    let is_removed = is_share(tally.unlinked, lost, 90);
-    if is_undone || is_readded {
-        Some(Cause::KeptTwice)
-    } else if needs_no_race(tally) && !is_least(tally.others, tally.places, 65) {
-        Some(Cause::OneThread)
-    } else if back == 0
-        && lost >= 2 * ENOUGH
-        && is_least(tally.displaced, lost, 95)
-        && !is_removed
-    {
+/// Returns the likely cause if keys are lost while other keys change, and never come back.
+fn cause_of_losses(tally: &Tally) -> Option<Cause> {
+    let (sharp, adds, removes) = (tally.sharp, tally.displaced, tally.unlinked);
+    let is_only_lost = tally.came_back == 0 && tally.lost >= 2 * ENOUGH;
+    if !is_only_lost {
+        None
+    } else if is_share(adds, sharp, 95) && !is_least(removes, sharp, 90) {
         Some(Cause::Displaced)
+    } else if needs_no_race(tally) && is_share(removes, sharp, 95) && !is_least(adds, sharp, 90) {
+        Some(Cause::Batch)
+    } else if needs_no_race(tally) && is_only_full(tally) {
+        Some(Cause::Evicted)
     } else {
         None
     }
 }
+
+/// Returns whether keys are lost only while many keys are present, and not by chance.
+fn is_only_full(tally: &Tally) -> bool {
+    tally.least_full >= LEAST_FULL && share_of_all(tally.usually_full, tally.short) < 10_000
+}
+
+/// The minimum number of keys that are many.
+const LEAST_FULL: u64 = 4;
+
+/// Returns the likely cause if the set goes wrong without a race.
+fn cause_in_one_thread(evidence: &Evidence) -> Option<Cause> {
+    let tally = &evidence.tally;
+    let (lost, back) = (tally.lost, tally.came_back);
+    let is_undone = lost == 0 && back >= 4 && is_least(tally.undone, back, 80);
+    let is_readded = needs_no_race(tally) && back > 0 && lost > 0 && tally.readded == lost;
+    if is_undone || is_readded {
+        return Some(Cause::KeptTwice);
+    }
+    match cause_of_losses(tally) {
+        Some(cause) => Some(cause),
+        None if needs_no_race(tally) && !is_least(tally.others, tally.places, 65) => {
+            Some(if evidence.span >= WIDE {
+                Cause::Overflow
+            } else {
+                Cause::OneThread
+            })
+        }
+        None => None,
+    }
+}
+
+/// The difference of keys from which on a signed number of 32 bits overflows.
+const WIDE: u32 = 0x8000_0000;
 
 /// Returns the likely cause if changes that overlap go wrong.
 fn cause_of_races(evidence: &Evidence) -> Option<Cause> {
@@ -284,7 +372,8 @@ fn cause_of_races(evidence: &Evidence) -> Option<Cause> {
     if tally.both() == 0 && is_mostly_lost && is_share(tally.crossed, tally.lost, 60) {
         return Some(Cause::GoesOn);
     }
-    if is_share(tally.both(), tally.places, 40) {
+    let is_all_both = tally.places >= 2 && tally.both() == tally.places;
+    if is_all_both || is_share(tally.both(), tally.places, 40) {
         return Some(Cause::CheckThenAct);
     }
     if is_earlier_look(tally) {
@@ -296,11 +385,26 @@ fn cause_of_races(evidence: &Evidence) -> Option<Cause> {
     if tally.others.saturating_mul(2) > tally.places {
         return None;
     }
-    cause_of_gone(tally)
+    cause_of_gone(evidence)
 }
 
-/// Returns the likely cause. `None` if nothing fits.
+/// The minimum number of calls of a recording for a guess.
+const LEAST_CALLS: u64 = 50;
+
+/// The minimum number of answers of the odd operation for a guess.
+const LEAST_ANSWERS: u64 = 10;
+
+/// Returns whether the recording has so many calls that a guess can be made.
+fn is_enough(evidence: &Evidence) -> bool {
+    let answers = evidence.odd.map_or(LEAST_ANSWERS, |odd| odd.of);
+    evidence.calls >= LEAST_CALLS && answers >= LEAST_ANSWERS
+}
+
+/// Returns the likely cause. `None` if nothing fits, or if the recording is too small.
 pub(crate) fn likely(evidence: &Evidence) -> Option<Cause> {
+    if !is_enough(evidence) {
+        return None;
+    }
     if evidence.merged.is_some() {
         return Some(Cause::TwoKeys);
     }
@@ -311,10 +415,13 @@ pub(crate) fn likely(evidence: &Evidence) -> Option<Cause> {
         return Some(Cause::TwoPlaces);
     }
     let tally = &evidence.tally;
+    if is_unlinked(evidence) {
+        return Some(Cause::Unlinked);
+    }
     if is_made_again(tally) {
         return Some(Cause::MadeAgain);
     }
-    match cause_in_one_thread(tally) {
+    match cause_in_one_thread(evidence) {
         Some(cause) => Some(cause),
         None => cause_of_races(evidence),
     }

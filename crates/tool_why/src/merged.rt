@@ -1,7 +1,7 @@
 //! Two keys that are taken for one: each has calls without an order, and as calls of one key their calls have one.
 
 use crate::key_order::has_order;
-use crate::made::Made;
+use crate::made_calls::Made;
 use crate::runs::{Refused, Runs, first_of};
 use std::alloc::{AllocError, Global};
 

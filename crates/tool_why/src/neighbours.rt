@@ -1,4 +1,4 @@
-use crate::made::{Made, Operation};
+use crate::made_calls::{Made, Operation};
 use std::alloc::{AllocError, Global};
 
 /// The maximum number of earlier changes that are looked at.
@@ -60,6 +60,20 @@ impl Neighbours {
         until: u64,
         operation: Option<Operation>,
     ) -> bool {
+        self.has(since, until, |call: Made| {
+            call.key != key && operation.is_none_or(|operation| operation == call.operation)
+        })
+    }
+
+    /// Returns whether a completed remove of a smaller key overlaps the time from `since` to `until`.
+    pub(crate) fn unlink_below(&self, key: u32, since: u64, until: u64) -> bool {
+        self.has(since, until, |call: Made| {
+            call.key < key && call.operation == Operation::Remove
+        })
+    }
+
+    /// Returns whether a completed change that is meant overlaps the time from `since` to `until`.
+    fn has<F: Fn(Made) -> bool + Drop>(&self, since: u64, until: u64, is_meant: F) -> bool {
         let end = self.changes.partition_point(|call| call.begun <= until);
         let changes = self.changes.get(..end).unwrap_or(&[]);
         let latest = self.latest.get(..end).unwrap_or(&[]);
@@ -67,8 +81,7 @@ impl Neighbours {
             if *last < since {
                 return false;
             }
-            let is_meant = operation.is_none_or(|operation| operation == call.operation);
-            if is_meant && call.key != key && call.ended >= since {
+            if call.ended >= since && is_meant(*call) {
                 return true;
             }
         }

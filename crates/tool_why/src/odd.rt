@@ -1,7 +1,7 @@
 //! The odd operation: all calls without its answers (its calls that change nothing) have an order.
 
 use crate::key_order::{KeyState, Pending, has_order};
-use crate::made::{Made, NEVER, Operation};
+use crate::made_calls::{Made, NEVER, Operation};
 use crate::run_reader::Recorded;
 use lset_judge::{Judge, StreamFault, Verdict};
 use lset_words::{Presence, increases};

@@ -3,7 +3,7 @@
 use crate::contradictions::Clash;
 use crate::key_calls::KeyCalls;
 use crate::key_order::has_order;
-use crate::made::{Made, NEVER, Operation, other};
+use crate::made_calls::{Made, NEVER, Operation, other};
 use crate::stretches::{Stretch, sure_before};
 use lset_words::Presence;
 use std::alloc::{AllocError, Global};

@@ -1,4 +1,4 @@
-use crate::made::Made;
+use crate::made_calls::Made;
 use lset_recording::{Line, Section, line_told};
 use lset_words::Presence;
 use std::alloc::{AllocError, Global};
@@ -12,6 +12,8 @@ pub struct Recorded {
     pub(crate) left: Vec<u32>,
     /// Whether the recording was cut off: then the final keys are not known.
     pub(crate) is_cut: bool,
+    /// Whether these are only the first calls of a longer recording.
+    pub(crate) is_part: bool,
 }
 
 impl Recorded {
@@ -57,6 +59,7 @@ impl RunReader {
                 calls: Vec::new(alloc),
                 left: Vec::new(alloc),
                 is_cut: false,
+                is_part: false,
             },
             section: Section::Title,
             line: Vec::new(alloc),
@@ -119,23 +122,58 @@ impl RunReader {
             None
         }
     }
+
+    /// Returns all that was read until now.
+    pub(crate) fn recorded(&self) -> &Recorded {
+        &self.recorded
+    }
+
+    /// Reads to the end of the input, or until more than `most` calls are kept. Returns whether the input has ended, and `None` if a read
+    /// fails. Allocates; blocks as the input does.
+    pub(crate) fn read_calls<R: Read>(
+        &mut self,
+        input: &mut R,
+        most: usize,
+    ) -> Result<Option<bool>, AllocError> {
+        let mut buffer = Vec::from_elem(self.alloc, 0u8, READ_SIZE)?;
+        for _ in 0..u64::MAX {
+            let Ok(count) = input.read(&mut buffer) else {
+                return Ok(None);
+            };
+            if count == 0 {
+                return Ok(Some(true));
+            }
+            self.feed(buffer.get(..count).unwrap_or(&[]))?;
+            if self.recorded.calls.len() > most {
+                return Ok(Some(false));
+            }
+        }
+        Ok(None)
+    }
+
+    /// Returns the first `count` calls as a recording that is cut off just before the next call begins. `None` if fewer calls were read, or
+    /// if a line is wrong. Allocates.
+    pub(crate) fn first_calls(&self, count: usize) -> Result<Option<Recorded>, AllocError> {
+        let Some(next) = self.recorded.calls.get(count) else {
+            return Ok(None);
+        };
+        if !self.is_whole {
+            return Ok(None);
+        }
+        let moment = next.begun.saturating_sub(1);
+        let mut calls = Vec::new(self.alloc);
+        for call in self.recorded.calls.get(..count).unwrap_or(&[]) {
+            calls.push(call.cut_at(moment))?;
+        }
+        Ok(Some(Recorded {
+            opening: Vec::from_slice(self.alloc, &self.recorded.opening)?,
+            calls,
+            left: Vec::new(self.alloc),
+            is_cut: true,
+            is_part: true,
+        }))
+    }
 }
 
 /// The maximum number of bytes of one read.
 const READ_SIZE: usize = 65_536;
-
-/// Reads a recording to its end. Returns `None` if a read fails, or if the text is no recording. Allocates; blocks as the input does.
-pub fn read_run<R: Read>(alloc: Global, input: &mut R) -> Result<Option<Recorded>, AllocError> {
-    let mut reader = RunReader::new(alloc);
-    let mut buffer = Vec::from_elem(alloc, 0u8, READ_SIZE)?;
-    for _ in 0..u64::MAX {
-        let Ok(count) = input.read(&mut buffer) else {
-            return Ok(None);
-        };
-        if count == 0 {
-            break;
-        }
-        reader.feed(buffer.get(..count).unwrap_or(&[]))?;
-    }
-    Ok(reader.finish())
-}

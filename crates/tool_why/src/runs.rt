@@ -1,6 +1,6 @@
 use crate::key_calls::KeyCalls;
 use crate::key_order::failing_moment;
-use crate::made::Made;
+use crate::made_calls::Made;
 use crate::run_reader::Recorded;
 use std::alloc::{AllocError, Global};
 
@@ -129,10 +129,25 @@ impl<'a> Runs<'a> {
         })
     }
 
+    /// Returns the number of keys that have calls.
+    pub(crate) fn places(&self) -> usize {
+        self.keys.len()
+    }
+
+    /// Returns the index of a key among those that have calls. `usize::MAX` if the key has none.
+    pub(crate) fn place(&self, key: u32) -> usize {
+        let place = place_of(&self.keys, key);
+        if self.keys.get(place) == Some(&key) {
+            place
+        } else {
+            usize::MAX
+        }
+    }
+
     /// Returns the calls of a key, in the order of their begins.
     pub(crate) fn made_of(&self, key: u32) -> &[Made] {
-        let place = place_of(&self.keys, key);
-        if self.keys.get(place) != Some(&key) {
+        let place = self.place(key);
+        if place == usize::MAX {
             return &[];
         }
         let start = self.ends.get(place.wrapping_sub(1)).copied().unwrap_or(0);

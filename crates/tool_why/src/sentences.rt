@@ -3,9 +3,9 @@
 use crate::bars::put_picture;
 use crate::counted::count_in;
 use crate::diagnosis::{Diagnosis, diagnose};
-use crate::likely::{Cause, Odd, state_word};
-use crate::made::{Made, NEVER, Operation, other};
-use crate::run_reader::read_run;
+use crate::likely::{Cause, Evidence, Odd, state_word};
+use crate::made_calls::{Made, NEVER, Operation, other};
+use crate::run_reader::{Recorded, RunReader};
 use crate::splits::Split;
 use crate::symptoms::Symptom;
 use crate::tally::Tally;
@@ -259,6 +259,10 @@ fn answers_cause_text(cause: Cause) -> &'static str {
             "contains reads a copy that removed keys leave later (a cache, a replica, a filter)",
         Cause::Shortcut =>
             "contains has a shortcut that returns false too early (a size, a filter, a bucket)",
+        Cause::SizeFirst =>
+            "contains looks at a size first that add updates late (it returns false if the size is 0)",
+        Cause::ThreadCache =>
+            "contains reads a cache of its thread, which changes by other threads do not update",
         Cause::MovedKeys =>
             "contains walks while changes of other keys move its key (an array, a swap, an iterator)",
         Cause::LateCopy =>
@@ -278,8 +282,13 @@ pub(crate) fn cause_text(cause: Cause) -> &'static str {
         Cause::TwoKeys => "two keys are taken for one (a hash, a key cut short, a comparison)",
         Cause::KeptTwice =>
             "the key is in the set twice (two places, a count), and remove takes one of them",
+        Cause::Evicted => "a limit or an eviction drops keys when many are present",
+        Cause::Overflow =>
+            "a comparison overflows (a difference of keys in a signed number of 32 bits)",
         Cause::Displaced =>
             "an add of another key takes its place (a limit, an eviction, a shared slot)",
+        Cause::Batch =>
+            "a remove of another key carries out earlier removes (a batch, a queue), also of keys that were added again",
         Cause::OtherKey =>
             "a remove takes another key than its own (an index found earlier, the next node)",
         Cause::OneThread =>
@@ -294,13 +303,16 @@ pub(crate) fn cause_text(cause: Cause) -> &'static str {
             "the reply does not come from the change itself (from an earlier look, from a size)",
         Cause::MadeAgain =>
             "a call is repeated after it took effect, and returns the reply of the second attempt",
-        Cause::CheckThenAct => "check, then act: both calls look before either changes the set",
+        Cause::CheckThenAct =>
+            "check, then act: both calls look before either changes the set (no lock, or one that lets both in)",
         Cause::NoLock =>
             "calls of one key do not exclude each other (two locks, a lock that fails, a load and then a store)",
         Cause::OldCopy =>
             "an older copy of the set is written over newer changes (copy on write, a whole table)",
         Cause::OldLink =>
             "a link is written without a check that it is current (behind a node that is being unlinked)",
+        Cause::Unlinked =>
+            "a node is linked to a neighbour that is being removed (no marks, or marks that are not checked)",
         Cause::WrittenBack =>
             "an older state of a neighbour is written back (a node, a queue of writes, an unchecked mark)",
         Cause::Replaced => "a table or segment is replaced while calls still change the old one",
@@ -310,7 +322,7 @@ pub(crate) fn cause_text(cause: Cause) -> &'static str {
 
 /// Writes the fact for a cause of contains that finds absent keys, or is wrong both ways.
 fn put_because_of_found(out: &mut String, odd: &Odd, cause: Cause) -> Result<(), AllocError> {
-    let (running, found) = (odd.running, odd.found);
+    let (running, found, own, wrong) = (odd.running, odd.found, odd.own, odd.wrong);
     let only = if odd.is_exact { "only " } else { "" };
     match cause {
         Cause::MarkNotRead if found == 1 => writeln!(
@@ -325,18 +337,19 @@ fn put_because_of_found(out: &mut String, odd: &Odd, cause: Cause) -> Result<(),
             out,
             "it {only}finds absent keys, and at {running} of {found} of these answers a remove of the key still ran"
         ),
+        Cause::ThreadCache => writeln!(
+            out,
+            "before {own} of the {wrong} wrong answers the last call of the key by the same thread left it so"
+        ),
         _ => writeln!(out, "it is wrong both ways, and add and remove agree"),
     }
 }
 
-/// Writes the fact for a cause of the odd operation.
-fn put_because_of_odd(out: &mut String, odd: &Odd, cause: Cause) -> Result<(), AllocError> {
-    let (missed, wrong, removing, adding) = (odd.missed, odd.wrong, odd.removing, odd.adding);
-    let keys = if odd.keys == 1 { "key" } else { "keys" };
+/// Writes the fact for a cause of contains that misses present keys.
+fn put_because_of_missed(out: &mut String, odd: &Odd, cause: Cause) -> Result<(), AllocError> {
+    let (missed, removing) = (odd.missed, odd.removing);
+    let (compared, lonely) = (odd.compared, odd.lonely);
     match cause {
-        Cause::MarkNotRead | Cause::TakenLater | Cause::LateCopy => {
-            put_because_of_found(out, odd, cause)
-        }
         Cause::NotSeenYet if missed == 1 => writeln!(
             out,
             "an add of the key was still running at the wrong answer"
@@ -349,11 +362,29 @@ fn put_because_of_odd(out: &mut String, odd: &Odd, cause: Cause) -> Result<(), A
             out,
             "at {removing} of the {missed} wrong answers a remove of another key was running"
         ),
-        Cause::Shortcut if odd.is_exact => writeln!(
+        Cause::SizeFirst => writeln!(
+            out,
+            "at {lonely} of {compared} wrong answers the last call of every other key had left that key absent"
+        ),
+        _ if odd.is_exact => writeln!(
             out,
             "it misses present keys and never finds an absent one"
         ),
-        Cause::Shortcut => writeln!(out, "it misses present keys"),
+        _ => writeln!(out, "it misses present keys"),
+    }
+}
+
+/// Writes the fact for a cause of the odd operation.
+fn put_because_of_odd(out: &mut String, odd: &Odd, cause: Cause) -> Result<(), AllocError> {
+    let (missed, wrong, adding) = (odd.missed, odd.wrong, odd.adding);
+    let keys = if odd.keys == 1 { "key" } else { "keys" };
+    match cause {
+        Cause::MarkNotRead | Cause::TakenLater | Cause::ThreadCache | Cause::LateCopy => {
+            put_because_of_found(out, odd, cause)
+        }
+        Cause::NotSeenYet | Cause::MovedKeys | Cause::SizeFirst | Cause::Shortcut => {
+            put_because_of_missed(out, odd, cause)
+        }
         Cause::OneKey => writeln!(
             out,
             "it never found the {keys} of its {wrong} wrong answers, and found others"
@@ -394,14 +425,35 @@ fn put_because_of_calls(out: &mut String, tally: &Tally, cause: Cause) -> Result
     }
 }
 
+/// Writes the fact for a cause of keys that are only lost.
+fn put_because_of_lost(out: &mut String, tally: &Tally, cause: Cause) -> Result<(), AllocError> {
+    let (lost, sharp, short) = (tally.lost, tally.sharp, tally.short);
+    let (added, removed, least) = (tally.displaced, tally.unlinked, tally.least_full);
+    write!(out, "keys are lost ({lost}) and never come back, and at ")?;
+    match cause {
+        Cause::Displaced => writeln!(
+            out,
+            "{added} of {sharp} short losses another key was added"
+        ),
+        Cause::Batch => writeln!(
+            out,
+            "{removed} of {sharp} short losses another key was removed"
+        ),
+        _ => writeln!(
+            out,
+            "{short} short losses at least {least} keys were shown present"
+        ),
+    }
+}
+
 /// Writes the fact for a cause that needs no race.
-fn put_because_of_one(out: &mut String, tally: &Tally, cause: Cause) -> Result<(), AllocError> {
-    let (lost, back, displaced, undone) = (
-        tally.lost,
-        tally.came_back,
-        tally.displaced,
-        tally.undone,
-    );
+fn put_because_of_one(
+    out: &mut String,
+    evidence: &Evidence,
+    cause: Cause,
+) -> Result<(), AllocError> {
+    let (tally, span) = (&evidence.tally, evidence.span);
+    let (lost, back, undone) = (tally.lost, tally.came_back, tally.undone);
     let (apart, places) = (tally.apart, tally.places);
     match cause {
         Cause::KeptTwice if lost == 0 => writeln!(
@@ -412,23 +464,25 @@ fn put_because_of_one(out: &mut String, tally: &Tally, cause: Cause) -> Result<(
             out,
             "keys come back ({back}), only an add misses one ({lost}), and at {apart} of {places} no two calls overlapped"
         ),
-        Cause::Displaced => writeln!(
+        Cause::Overflow => writeln!(
             out,
-            "keys are lost ({lost}) and never come back, and at {displaced} losses an add of another key was running"
+            "at {apart} of {places} no two calls overlapped, and keys differ by up to {span}"
         ),
         _ => writeln!(out, "at {apart} of {places} no two calls overlapped"),
     }
 }
 
 /// Writes the fact for a cause of keys that are lost and come back.
-fn put_because_of_gone(out: &mut String, tally: &Tally, cause: Cause) -> Result<(), AllocError> {
+fn put_because_of_gone(
+    out: &mut String,
+    evidence: &Evidence,
+    cause: Cause,
+) -> Result<(), AllocError> {
+    let tally = &evidence.tally;
     let (lost, back, timed, both) = (tally.lost, tally.came_back, tally.timed(), tally.both());
-    let (beside, alone, keys) = (tally.beside, tally.alone, tally.keys);
+    let (beside, alone, below, keys) = (tally.beside, tally.alone, tally.below, tally.keys);
     let (swapped, undone) = (tally.swapped, tally.undone);
     match cause {
-        Cause::KeptTwice | Cause::Displaced | Cause::OneThread => {
-            put_because_of_one(out, tally, cause)
-        }
         Cause::NoLock => writeln!(
             out,
             "at {alone} of {timed} losses and returns no change of another key was running"
@@ -440,6 +494,10 @@ fn put_because_of_gone(out: &mut String, tally: &Tally, cause: Cause) -> Result<
         Cause::OldLink => writeln!(
             out,
             "keys are lost ({lost}) more than they come back ({back}), at {beside} of {timed} beside another change"
+        ),
+        Cause::Unlinked => writeln!(
+            out,
+            "at {below} of {timed} losses and returns a smaller key was removed, and the smallest key is never hit"
         ),
         Cause::WrittenBack => writeln!(
             out,
@@ -476,7 +534,13 @@ pub(crate) fn put_because(
         | Cause::MadeAgain
         | Cause::CheckThenAct
         | Cause::TwoPlaces => put_because_of_calls(out, &evidence.tally, cause),
-        _ => put_because_of_gone(out, &evidence.tally, cause),
+        Cause::Displaced | Cause::Batch | Cause::Evicted => {
+            put_because_of_lost(out, &evidence.tally, cause)
+        }
+        Cause::KeptTwice | Cause::Overflow | Cause::OneThread => {
+            put_because_of_one(out, evidence, cause)
+        }
+        _ => put_because_of_gone(out, evidence, cause),
     }
 }
 
@@ -488,10 +552,18 @@ pub(crate) fn put_known(out: &mut String, diagnosis: &Diagnosis) -> Result<(), A
     }
     if let Some(split) = diagnosis.evidence.split.filter(|split| split.is_long()) {
         put_split(out, &split)?;
-    } else if !matches!(diagnosis.cause, Some(Cause::OneThread)) {
+    } else if !matches!(
+        diagnosis.cause,
+        Some(Cause::OneThread | Cause::Overflow)
+    ) {
         put_apart(out, &diagnosis.evidence.tally)?;
     }
-    put_duration(out, diagnosis)
+    put_duration(out, diagnosis)?;
+    if diagnosis.evidence.is_part {
+        let calls = diagnosis.evidence.calls;
+        writeln!(out, "only the first {calls} calls were looked at")?;
+    }
+    Ok(())
 }
 
 /// Writes the scope, the duration and the likely cause.
@@ -549,25 +621,76 @@ pub struct Explained {
     pub text: String,
 }
 
-/// Reads a recording to its end, and explains why no order explains it. The verdict above the explanation has `used` lines: two without a
-/// clash. Returns `None` if a read fails, if the text is no recording, or if some order explains it. Allocates; blocks as the input does.
+/// The number of calls from which on an explanation is of so many first calls alone, if these have no order.
+const MOST_EXPLAINED: usize = 1_000_000;
+
+/// Returns the explanation of a diagnosis. `recorded` has the calls as they ended later.
+fn explained(
+    alloc: Global,
+    recorded: &Recorded,
+    diagnosis: &Diagnosis,
+    used: usize,
+) -> Result<Explained, AllocError> {
+    let count = if used <= LEAST_USED {
+        count_in(alloc, recorded, diagnosis)?
+    } else {
+        None
+    };
+    let lines = if count.is_some() { COUNT_LINES } else { 0 };
+    let text = diagnosis_text(alloc, diagnosis, used.saturating_add(lines))?;
+    Ok(Explained { count, text })
+}
+
+/// Explains why no order explains the first calls of a recording that is longer. `None` if some order explains them.
+fn explain_first(
+    alloc: Global,
+    reader: &RunReader,
+    used: usize,
+) -> Result<Option<Explained>, AllocError> {
+    let Some(part) = reader.first_calls(MOST_EXPLAINED)? else {
+        return Ok(None);
+    };
+    let Some(mut diagnosis) = diagnose(alloc, &part)? else {
+        return Ok(None);
+    };
+    diagnosis.complete(&reader.recorded().calls);
+    Ok(Some(explained(
+        alloc,
+        reader.recorded(),
+        &diagnosis,
+        used,
+    )?))
+}
+
+/// Reads a recording, and explains why no order explains it. The verdict above the explanation has `used` lines: two without a clash. If no
+/// order explains the first `MOST_EXPLAINED` calls, the explanation is of these, and the other lines are not read. Returns `None` if a read
+/// fails, if the text is no recording, or if some order explains it. Allocates; blocks as the input does.
 pub fn explain<R: Read>(
     alloc: Global,
     input: &mut R,
     used: usize,
 ) -> Result<Option<Explained>, AllocError> {
-    let Some(recorded) = read_run(alloc, input)? else {
+    let mut reader = RunReader::new(alloc);
+    match reader.read_calls(input, MOST_EXPLAINED)? {
+        None => return Ok(None),
+        Some(true) => {}
+        Some(false) => {
+            let first = explain_first(alloc, &reader, used)?;
+            if first.is_some() || reader.read_calls(input, usize::MAX)?.is_none() {
+                return Ok(first);
+            }
+        }
+    }
+    let Some(recorded) = reader.finish() else {
         return Ok(None);
     };
-    let Some(diagnosis) = diagnose(alloc, &recorded)? else {
-        return Ok(None);
-    };
-    let count = if used <= LEAST_USED {
-        count_in(alloc, &recorded, &diagnosis)?
-    } else {
-        None
-    };
-    let lines = if count.is_some() { COUNT_LINES } else { 0 };
-    let text = diagnosis_text(alloc, &diagnosis, used.saturating_add(lines))?;
-    Ok(Some(Explained { count, text }))
+    match diagnose(alloc, &recorded)? {
+        None => Ok(None),
+        Some(diagnosis) => Ok(Some(explained(
+            alloc,
+            &recorded,
+            &diagnosis,
+            used,
+        )?)),
+    }
 }

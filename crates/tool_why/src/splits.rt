@@ -1,5 +1,5 @@
 use crate::key_calls::KeyCalls;
-use crate::made::{Made, NEVER, Operation};
+use crate::made_calls::{Made, NEVER, Operation};
 use lset_words::Presence;
 use std::alloc::{AllocError, Global};
 

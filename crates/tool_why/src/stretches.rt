@@ -1,7 +1,7 @@
 //! Stretches: changes of a key that overlap one another. The state that they leave together follows from their number.
 
 use crate::key_calls::KeyCalls;
-use crate::made::{Made, NEVER};
+use crate::made_calls::{Made, NEVER};
 use lset_words::Presence;
 use std::alloc::{AllocError, Global};
 

@@ -2,7 +2,7 @@
 
 use crate::contradictions::{Clash, clashes_of};
 use crate::key_calls::KeyCalls;
-use crate::made::{Made, Operation};
+use crate::made_calls::{Made, Operation};
 use crate::repairs::{Repairs, repairs_of};
 use crate::stretches::{Stretch, stretches_of};
 use lset_words::Presence;
@@ -67,7 +67,7 @@ fn only_turned(
 }
 
 /// Returns the symptom of a call with the one wrong reply.
-fn symptom_of_reply(call: Made) -> Symptom {
+pub(crate) fn symptom_of_reply(call: Made) -> Symptom {
     match call.needs() {
         Some(Presence::Present) => Symptom::Found(call.operation),
         _ => Symptom::Missed(call.operation),

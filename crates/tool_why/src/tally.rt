@@ -1,11 +1,13 @@
 use crate::crossings::Crossings;
-use crate::made::{Made, Operation};
+use crate::fullness::Fullness;
+use crate::made_calls::{Made, Operation};
 use crate::neighbours::Neighbours;
 use crate::symptoms::{Place, Symptom};
 use lset_words::Presence;
+use std::alloc::{AllocError, Global};
 
 /// The numbers of contradictions of each kind. The contradictions of a key do not overlap one another in time.
-#[derive(Clone, Copy)]
+#[derive(Clone, Copy, Default)]
 pub struct Tally {
     pub places: u64,
     pub lost: u64,
@@ -27,9 +29,11 @@ pub struct Tally {
     pub alone: u64,
     /// Of `lost`: a remove that returned true ran among the overlapping changes before.
     pub crossed: u64,
-    /// Of `lost`: an add of another key that returned true ran at the same time.
+    /// Of `lost`: from one to `MOST_BESIDE` changes of other keys ran at the same time.
+    pub sharp: u64,
+    /// Of `sharp`: one of these changes is an add.
     pub displaced: u64,
-    /// Of `lost`: a remove of another key that returned true ran at the same time.
+    /// Of `sharp`: one of these changes is a remove.
     pub unlinked: u64,
     /// Of `lost`: an add that returned true shows it.
     pub readded: u64,
@@ -37,6 +41,14 @@ pub struct Tally {
     pub undone: u64,
     /// Of `undone`: another key was lost while the remove ran.
     pub swapped: u64,
+    /// Of `lost` and `came_back` that a call shows: a remove of a smaller key that returned true ran at the same time.
+    pub below: u64,
+    /// Of `lost`: a call shows it within a short time.
+    pub short: u64,
+    /// The least number of keys that were shown present at such a loss.
+    pub least_full: u64,
+    /// At how many of 100 moments at least `least_full` keys were shown present.
+    pub usually_full: u64,
     /// At how many of 100 other times of the same length a change of another key ran.
     pub usual: u64,
     /// At how many of all contradictions no two calls of the run overlapped.
@@ -50,40 +62,15 @@ pub struct Tally {
 /// The maximum number of earlier losses that are compared with a key that came back.
 const MOST_LOSSES: usize = 64;
 
+/// The maximum number of changes of other keys among which the cause of a loss is sought.
+const MOST_BESIDE: usize = 6;
+
 /// Adds one to a count.
 fn more(count: &mut u64) {
     *count = count.saturating_add(1);
 }
 
 impl Tally {
-    /// Returns a tally of no contradictions.
-    pub(crate) fn new() -> Tally {
-        Tally {
-            places: 0,
-            lost: 0,
-            came_back: 0,
-            both_adds: 0,
-            both_removes: 0,
-            missed: 0,
-            found: 0,
-            others: 0,
-            silent: 0,
-            turned: 0,
-            beside: 0,
-            alone: 0,
-            crossed: 0,
-            displaced: 0,
-            unlinked: 0,
-            readded: 0,
-            undone: 0,
-            swapped: 0,
-            usual: 0,
-            apart: 0,
-            keys: 0,
-            begun: 0,
-        }
-    }
-
     /// Returns the number of contradictions in which a key was lost or came back.
     pub fn gone(&self) -> u64 {
         self.lost.saturating_add(self.came_back)
@@ -134,17 +121,32 @@ impl Tally {
         }
     }
 
+    /// Counts a loss at whose time these changes of other keys ran.
+    fn add_beside(&mut self, changes: &[Made]) {
+        if changes.is_empty() || changes.len() > MOST_BESIDE {
+            return;
+        }
+        more(&mut self.sharp);
+        if changes.iter().any(|call| call.operation == Operation::Add) {
+            more(&mut self.displaced);
+        }
+        if changes.iter().any(|call| call.operation == Operation::Remove) {
+            more(&mut self.unlinked);
+        }
+    }
+
     /// Counts what ran at the time of a contradiction.
-    fn add_time(&mut self, place: &Place, neighbours: &Neighbours) {
+    fn add_time(
+        &mut self,
+        alloc: Global,
+        place: &Place,
+        neighbours: &Neighbours,
+    ) -> Result<(), AllocError> {
         let clash = &place.clash;
         let (key, since, until) = (place.key, clash.begun(), clash.until);
         if place.symptom == Symptom::Lost {
-            if neighbours.overlap(key, since, until, Some(Operation::Add)) {
-                more(&mut self.displaced);
-            }
-            if neighbours.overlap(key, since, until, Some(Operation::Remove)) {
-                more(&mut self.unlinked);
-            }
+            let changes = neighbours.around(alloc, key, since, until, MOST_BESIDE.saturating_add(1))?;
+            self.add_beside(&changes);
             if clash.second.is_some_and(|second| second.changes()) {
                 more(&mut self.readded);
             }
@@ -153,12 +155,16 @@ impl Tally {
             more(&mut self.undone);
         }
         if place.is_gone() && clash.second.is_some() {
+            if neighbours.unlink_below(key, since, until) {
+                more(&mut self.below);
+            }
             if neighbours.overlap(key, since, until, None) {
                 more(&mut self.beside);
             } else {
                 more(&mut self.alone);
             }
         }
+        Ok(())
     }
 
     /// Counts the keys that came back after a remove during which another key was lost. `losses` are in the order of time.
@@ -176,20 +182,39 @@ impl Tally {
     /// contradictions in which a key was lost, in the order of time.
     pub(crate) fn add_times(
         &mut self,
+        alloc: Global,
         places: &[Place],
         calls: &[Made],
         neighbours: &Neighbours,
-        crossings: &Crossings,
         losses: &[Place],
-    ) {
+    ) -> Result<(), AllocError> {
+        let crossings = Crossings::of(alloc, calls)?;
         self.add_swapped(places, losses);
         self.usual = usual_share(places, neighbours);
         for place in places {
-            self.add_time(place, neighbours);
+            self.add_time(alloc, place, neighbours)?;
             if crossings.has_none(calls, place.clash.since, place.clash.until) {
                 more(&mut self.apart);
             }
         }
+        Ok(())
+    }
+}
+
+impl Tally {
+    /// Compares the number of keys that are present at losses with the number at other moments. `calls` are all calls of the recording, and
+    /// `losses` contradictions in which a key was lost within a short time.
+    pub(crate) fn add_fullness(&mut self, calls: &[Made], losses: &[Place], full: &Fullness) {
+        let mut least = u64::MAX;
+        for loss in losses {
+            more(&mut self.short);
+            least = least.min(full.before(loss.clash.until));
+        }
+        if losses.is_empty() {
+            return;
+        }
+        self.least_full = least;
+        self.usually_full = full.share_between(calls, least, u64::MAX);
     }
 }
 

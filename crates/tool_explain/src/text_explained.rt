@@ -1,4 +1,4 @@
-use crate::events::put_event;
+use crate::event_errors::put_event;
 use crate::keyed::{put_key_line, wrong_key};
 use crate::kinds::{Place, TextKind};
 use crate::lined::{Lines, put_visible, quoted_name};

@@ -2,7 +2,7 @@
 
 use crate::as_record::put_call;
 use crate::key_order::{failing_moment, has_order};
-use crate::made::{Made, NEVER};
+use crate::made_calls::{Made, NEVER};
 use crate::run_reader::Recorded;
 use lset_words::Presence;
 use std::alloc::{AllocError, Global};

@@ -1,0 +1,90 @@
+use crate::made_calls::Made;
+use crate::runs::Runs;
+use lset_words::Presence;
+use std::alloc::{AllocError, Global};
+
+/// How many keys are shown present at each moment: the last call of the key that has ended left it present.
+#[derive(Drop)]
+pub(crate) struct Fullness {
+    /// The moments at which the number changes, in increasing order.
+    ends: Vec<u64>,
+    counts: Vec<u64>,
+    first: u64,
+}
+
+/// Returns the completed calls of a recording in the order of their ends.
+fn by_ends(alloc: Global, calls: &[Made]) -> Result<Vec<Made>, AllocError> {
+    let mut ended = Vec::new(alloc);
+    for call in calls {
+        if call.reply.is_some() {
+            ended.push(*call)?;
+        }
+    }
+    ended.sort_unstable_by_key(|call| call.ended);
+    Ok(ended)
+}
+
+impl Fullness {
+    /// Returns the numbers of a recording. Allocates.
+    pub(crate) fn of(alloc: Global, runs: &Runs<'_>) -> Result<Fullness, AllocError> {
+        let opening = &runs.recorded.opening;
+        let mut present = Vec::from_elem(alloc, false, runs.places())?;
+        for key in opening {
+            if let Some(is_present) = present.get_mut(runs.place(*key)) {
+                *is_present = true;
+            }
+        }
+        let mut count = u64::try_from(opening.len()).unwrap_or(u64::MAX);
+        let mut full = Fullness {
+            ends: Vec::new(alloc),
+            counts: Vec::new(alloc),
+            first: count,
+        };
+        for call in &by_ends(alloc, &runs.recorded.calls)? {
+            let is_left = call.leaves() == Some(Presence::Present);
+            if let Some(is_present) = present.get_mut(runs.place(call.key)) {
+                if *is_present != is_left {
+                    *is_present = is_left;
+                    count = if is_left {
+                        count.saturating_add(1)
+                    } else {
+                        count.saturating_sub(1)
+                    };
+                    full.ends.push(call.ended)?;
+                    full.counts.push(count)?;
+                }
+            }
+        }
+        Ok(full)
+    }
+
+    /// Returns the number of keys that are shown present just before a moment.
+    pub(crate) fn before(&self, moment: u64) -> u64 {
+        let at = self.ends.partition_point(|end| *end < moment);
+        self.counts
+            .get(at.wrapping_sub(1))
+            .copied()
+            .unwrap_or(self.first)
+    }
+
+    /// Returns at how many of 100 begins of calls, in a sample, between `least` and `most` keys are shown present.
+    pub(crate) fn share_between(&self, calls: &[Made], least: u64, most: u64) -> u64 {
+        let step = calls.len().checked_div(SAMPLED).unwrap_or(0);
+        let (mut count, mut tried, mut next) = (0u64, 0u64, 0usize);
+        for (index, call) in calls.iter().enumerate() {
+            if index < next {
+                continue;
+            }
+            next = index.saturating_add(step);
+            tried = tried.saturating_add(1);
+            let present = self.before(call.begun);
+            if present >= least && present <= most {
+                count = count.saturating_add(1);
+            }
+        }
+        count.saturating_mul(100).checked_div(tried).unwrap_or(100)
+    }
+}
+
+/// The number of calls that are sampled.
+const SAMPLED: usize = 500;
