@@ -92,7 +92,13 @@ def named(text, sign, names, others, own=()):
             yield given
 
 
+@functools.cache
 def public_contracts():
+    """Returns what `contracts_in_sources` yields."""
+    return list(contracts_in_sources())
+
+
+def contracts_in_sources():
     """Yields what each library states about its public functions, types and traits: the library, the name of
     the item, the text, and what the names in it can mean."""
     for root in sorted(CRATES.glob("*/src/lib.rt")):
@@ -114,9 +120,11 @@ def public_contracts():
 
 
 @functools.cache
-def reached():
-    """Returns the definitions that public contracts reach, as pairs of module and name."""
-    found, waiting = set(), [it for _, _, text, can_be in public_contracts() for it in named(text, "//", *can_be)]
+def reached(items=""):
+    """Returns the definitions that public contracts reach, as pairs of module and name. If `items` is given, only the
+    contracts of the functions whose library and name it matches."""
+    contracts = [it for it in public_contracts() if re.match(items, f"{it[0]}::{it[1]}")]
+    found, waiting = set(), [it for _, _, text, can_be in contracts for it in named(text, "//", *can_be)]
     while waiting:
         path, name = waiting.pop()
         above, _, behind = path.rpartition(".")
@@ -136,6 +144,23 @@ def print_reached():
             print(f"{module.file}: {', '.join(names)}")
 
 
+# The functions of the rows of the page's table of lines, by the row's first word in code or else its first word
+OF_ROWS = {"check_order": "lset_history::check_order$", "laws": "lset_steps::laws::", "headline": "lset_lists::runs_are_linearizable$",
+           "replay": "lset_replay::replay$", "LiveSet::call": "lset_live::LiveSet::call$", "LiveSet::close": "lset_live::LiveSet::close$",
+           "work": "lset_work::work$", "session": "lset_session::session$", "serve": "lset_server::serve$", "everything": ""}  # fmt: skip
+
+
+def wrong_numbers(page):
+    """Yields the rows of the table of lines whose number differs by a twentieth from the lines that contracts reach."""
+    said = {row: int(number) for row, number in re.findall(r"^\| (.*) \| (\d+) \|$", page, re.M)}
+    for word, items in OF_ROWS.items():
+        row = next((it for it in said if re.search(rf"`{word}`|^(the )?{word}\b", it)), None)
+        lines = [line for path, name in reached(items) for line in modules()[path].definitions[name].splitlines()]
+        count = sum(1 for it in lines if it.strip() and not it.strip().startswith("--"))
+        if row is None or abs(said[row] - count) > count / 20:
+            yield f"has to say that {row or word} takes {count} lines"
+
+
 def entries():
     """Yields each line of believed.txt: a file, and the names of what it defines."""
     for line in BELIEVED.read_text(encoding="utf-8").splitlines():
@@ -146,7 +171,7 @@ def entries():
 
 def problems(top):
     rows = "\n".join(line for line in (top / PAGE).read_text(encoding="utf-8").split("\n") if line.startswith("|"))
-    yield from (f"{PAGE} {it}" for it in [*file_faults(), *name_faults(top, rows), *function_faults(rows)])
+    yield from (f"{PAGE} {it}" for it in [*file_faults(), *name_faults(top, rows), *function_faults(rows), *wrong_numbers(rows)])
 
 
 def file_faults():
