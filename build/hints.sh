@@ -104,6 +104,7 @@ explain_long() {
   why=${why#"$cause"}
   why=$(sed 's/^ *//; s/ *$//' <<<"${why//FILE/$(quoted "$file")}")
   [ -z "$line" ] || why="Line $number is '$line'. $why"
+  [ "$cause" != NotEnded ] || why+=" Write each call in a line of its own, which ends with LF"
   echo "$why"
 }
 

@@ -403,7 +403,8 @@ function longHint(engine, file, number, cause) {
   const [why] = part.split("\n\n");
   const line = lineOf(file, Number(number));
   const shown = why.replace(/\s+/g, " ").trim().slice(cause.length).trim().replaceAll("FILE", quoted(file));
-  return line ? `Line ${number} is '${line}'. ${shown}` : shown;
+  const advice = cause === "NotEnded" ? " Write each call in a line of its own, which ends with LF" : "";
+  return `${line ? `Line ${number} is '${line}'. ` : ""}${shown}${advice}`;
 }
 
 // What helps if recorded calls without lines of final keys are refused for the final keys.

@@ -149,6 +149,12 @@ def test_an_error_in_a_long_recording_is_shown(script):
     assert "grep '^call' 'my long.calls' | sort -n -k 5,5" in hint, hint
 
 
+def test_a_long_line_of_a_long_recording_is_shown(script):
+    (script / "long.calls").write_text("call 0 add 5 1 4 true " * 3_100_000)
+    _, said = at_terminal(["./listset", "judge", "long.calls"], script)
+    assert "listset: line 1: NotEnded\nLine 1 is 'call 0 add 5 1 4 true call " in said and said.endswith("Write each call in a line of its own, which ends with LF\n"), said[:600]
+
+
 @pytest.mark.needs("node")
 def test_node_alone_has_the_hints_too(program, script):
     shutil.copytree(TOP / "page", script / "page", ignore=shutil.ignore_patterns("src", "tests", "shots"))
