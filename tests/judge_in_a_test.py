@@ -217,6 +217,24 @@ def test_calls_before_a_crash_or_a_hang_are_judged(form, program, of):
 
 
 @each(LANGUAGES)
+def test_a_right_set_that_throws_again_and_again_is_not_refused(form, program):
+    """The other threads still make calls while the run is recorded, if all are in one process."""
+    tests = 5 if form.language == "Python" else 25
+    for how in ("pauses=0", "pauses=20"):
+        _, said = form.told(program, "throws", f"threads=4 calls=1000 keys=4 own_process=0 {how}", TESTS=str(tests))
+        assert said.count("verdict: cut short\n") == said.count("\nbefore that: some order explains the calls\n") == tests, said
+
+
+@each(LANGUAGES)
+def test_a_set_that_goes_on_after_it_hung_does_not_change_the_recording(form, program):
+    """A `remove` takes 1.2 s. The judge takes another second."""
+    judge = form.script("judge", f"#!/bin/sh\n[ $1 = --version ] || sleep 1\n'{program}' \"$@\"\n")
+    kind, said = form.told(judge, "naps", "threads=4 calls=1000 keys=4 seconds=1")
+    assert kind == "cut short" and "the set hung: no call began or ended for 1 s" in said and form.recorded(said).count("\ncut\n") == 1, said
+    assert form.recorded(said).endswith("\ncut\n")
+
+
+@each(LANGUAGES)
 def test_a_long_run_is_one_recording(form, program):
     kept = form.room / "kept"
     for own_process, calls in ((0, 4000), (1, 6000)):

@@ -119,6 +119,10 @@ func (c *child) trouble() string {
 func (c *child) stop() {
 	c.process.Process.Kill()
 	<-c.over
+}
+
+func (c *child) close() {
+	c.stop()
 	syscall.Munmap(c.memory)
 }
 

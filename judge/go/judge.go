@@ -380,7 +380,7 @@ func judged(options Options, of func(keys int) (source, error), name string) (ve
 			return verdict, err
 		}
 	}
-	defer t.caller.stop()
+	defer t.caller.close()
 	if t.by, err = findJudge(); err != nil {
 		return verdict, err
 	}

@@ -122,7 +122,8 @@ type caller interface {
 	begin()          // is called when the memory of a run is ready
 	hasEnded() bool  // whether the run has ended
 	trouble() string // then the error, if any
-	stop()
+	stop()           // stops the run; a child process ends
+	close()          // frees the memory of the runs
 }
 
 // here makes runs in this process, where goroutines that hang are left running.
@@ -135,6 +136,8 @@ func (h *here) hasEnded() bool { return atomic.LoadUint32(&h.at) >= over }
 func (h *here) trouble() string { return "" }
 
 func (h *here) stop() { atomic.StoreUint32(&h.isStopping, 1) }
+
+func (h *here) close() { h.stop() }
 
 // made makes the run of a seed. It returns why the run was cut short, if it was.
 func (a *area) made(seed int64, s size, file string, by caller) (trouble string, err error) {
@@ -165,6 +168,9 @@ func (a *area) made(seed int64, s size, file string, by caller) (trouble string,
 		err = errors.New(trouble)
 	} else if trouble != "" && !isBegun {
 		err = fmt.Errorf(sayNotMade, trouble)
+	}
+	if trouble != "" {
+		by.stop() // (so that a set that hung does not go on while its run is judged)
 	}
 	return trouble, err
 }

@@ -10,6 +10,7 @@ import (
 	"sync"
 	"sync/atomic"
 	"testing"
+	"time"
 )
 
 // right is a map with a lock.
@@ -102,6 +103,8 @@ func (s *set) stop() {
 		os.Exit(3)
 	case s.is == "throws" && s.calls == 30:
 		panic("no memory")
+	case s.is == "naps" && s.calls == 30:
+		time.Sleep(1200 * time.Millisecond)
 	case s.is == "crashes" && s.calls == 30 || s.is == "crashes late" && s.calls == 10000:
 		new(sync.Mutex).Unlock()
 	}
@@ -168,7 +171,8 @@ func howOf(words string) Options {
 	return how
 }
 
-// TestSet judges the set that the variable SET names, with the options in HOW, such as "threads=4 runs=2".
+// TestSet judges the set that the variable SET names, with the options in HOW, such as "threads=4 runs=2", once or as
+// often as TESTS says.
 func TestSet(t *testing.T) {
 	how := howOf(os.Getenv("HOW"))
 	switch os.Getenv("SET") {
@@ -178,6 +182,9 @@ func TestSet(t *testing.T) {
 		CheckKeys(told{t}, newRight[string], func(n uint32) string { return fmt.Sprint("key ", n/2) }, how)
 	default:
 		Check(told{t}, newSet, how)
+		for tests, _ := strconv.Atoi(os.Getenv("TESTS")); tests > 1; tests-- {
+			Check(told{t}, newSet, how)
+		}
 	}
 }
 

@@ -506,7 +506,7 @@ public final class Judge {
         String cut() throws IOException {
             List<Row> rows = rows();
             write(rows.stream().map(Row::line).collect(Collectors.joining()) + "cut\n");
-            List<Row> pending = rows.stream().filter(it -> it.end == 0 && it.reply != Calls.UNKNOWN).collect(Collectors.toList());
+            List<Row> pending = rows.stream().filter(it -> it.end == 0).collect(Collectors.toList());
             String first = pending.isEmpty() ? "no call" : pending.get(0).line().strip();
             return pending.size() > 1 ? AND_MORE.formatted(first, pending.size() - 1) : first;
         }
@@ -581,9 +581,9 @@ public final class Judge {
                 does.run();
             } catch (Throwable why) {
                 if (area.next(Area.STOPPING) > 1) return;
+                why.printStackTrace(); // (before the other JVM reads AT, and ends this one)
                 area.putText(Area.WHY, Area.FILE - Area.WHY, (as == Area.UNMADE ? NOT_MADE : THREW).formatted(why));
                 area.set(Area.AT, as);
-                why.printStackTrace();
             }
         }
 
@@ -733,6 +733,7 @@ public final class Judge {
             if (area.get(Area.AT) >= Area.FAILED) trouble = area.text(Area.WHY);
             if (area.get(Area.AT) == Area.UNMADE) throw new NoVerdict(trouble);
             if (trouble != null && area.get(Area.TICKETS) == 0) throw new NoVerdict(NOT_MADE.formatted(trouble));
+            if (trouble != null) close(); // (so that a set that hung does not go on while its run is judged)
             return trouble;
         }
 
@@ -748,10 +749,10 @@ public final class Judge {
             return false;
         }
 
-        /** Stops the other JVM. Threads of this JVM that hang are left running. */
+        /** Ends the other JVM. Threads of this JVM that hang are left running. */
         @Override public void close() {
             if (process == null) area.next(Area.STOPPING);
-            else process.destroyForcibly();
+            else process.destroyForcibly().onExit().join();
         }
     }
 

@@ -1,5 +1,5 @@
-// Judges the set that the variable SET names, with the options in HOW, such as "threads=4 runs=2". Prints the kind of
-// the result, and the result.
+// Judges the set that the variable SET names, with the options in HOW, such as "threads=4 runs=2", once or as often as
+// TESTS says. Prints the kind of the result, and the result.
 #include "../listset_judge.hpp"
 #include <iostream>
 #include <mutex>
@@ -52,6 +52,7 @@ struct Set : Right<unsigned> {
         std::lock_guard held(lock);
         if (++calls != (is == "crashes late" ? 10'000 : 30)) return;
         if (is == "throws") throw std::runtime_error("no memory");
+        if (is == "naps") std::this_thread::sleep_for(std::chrono::milliseconds(1200));
         if (is == "exits") _exit(3);
         if (is == "crashes" || is == "crashes late") abort();
         while (is == "hangs") std::this_thread::sleep_for(std::chrono::hours(1));
@@ -97,7 +98,7 @@ listset::verdict judged(const std::string &set, const listset::options &how) {
     return listset::judge<Set>(how);
 }
 
-int main() {
+void print() {
     std::istringstream words(std::getenv("HOW"));
     try {
         auto verdict = judged(std::getenv("SET"), how_of(words));
@@ -106,4 +107,9 @@ int main() {
     } catch (const listset::no_verdict &why) {
         std::cout << "verdict: none\n" << why.what() << "\n";
     }
+}
+
+int main() {
+    const char *tests = std::getenv("TESTS");
+    for (int i = tests ? std::atoi(tests) : 1; i > 0; i--) print();
 }

@@ -8,8 +8,8 @@ import java.util.concurrent.atomic.AtomicInteger;
 import java.util.concurrent.locks.LockSupport;
 import java.util.function.BooleanSupplier;
 
-/** Judges the set that the variable SET names, with the options in HOW, such as "threads=4 runs=2". Prints the kind of
- * the result, and the result. */
+/** Judges the set that the variable SET names, with the options in HOW, such as "threads=4 runs=2", once or as often as
+ * TESTS says. Prints the kind of the result, and the result. */
 final class Sets {
     private Sets() { }
 
@@ -48,6 +48,7 @@ final class Sets {
             int due = is.equals("crashes late") ? 10_000 : 30;
             if (calls.incrementAndGet() != due) return;
             if (is.equals("throws")) throw new IllegalStateException("no memory");
+            if (is.equals("naps")) LockSupport.parkNanos(1_200_000_000L);
             if (is.startsWith("crashes") || is.equals("exits")) Runtime.getRuntime().halt(3);
             while (is.equals("hangs")) LockSupport.park();
         }
@@ -62,7 +63,7 @@ final class Sets {
 
         @Override public boolean remove(Object key) {
             if (is.equals("first use")) return part(key).remove(key);
-            if (is.matches("hangs|crashes.*|exits|throws")) stop();
+            if (is.matches("hangs|naps|crashes.*|exits|throws")) stop();
             return called(() -> super.remove(place(key)));
         }
 
@@ -140,6 +141,11 @@ final class Sets {
     }
 
     public static void main(String[] none) {
+        int tests = Integer.parseInt(System.getenv().getOrDefault("TESTS", "1"));
+        for (int i = 0; i < tests; i++) print();
+    }
+
+    private static void print() {
         String kind = "ok", text;
         try {
             text = judged(System.getenv("SET"), howOf(System.getenv("HOW"))).toString();

@@ -1,5 +1,5 @@
-"""Judges the set that the variable SET names, with the options in HOW, such as "threads=4 runs=2". Prints the
-kind of the result, and the result."""
+"""Judges the set that the variable SET names, with the options in HOW, such as "threads=4 runs=2", once or as
+often as TESTS says. Prints the kind of the result, and the result."""
 
 import os
 import pathlib
@@ -88,7 +88,7 @@ def fails():
     raise MemoryError("no memory")
 
 
-STOPS = {"hangs": lambda: time.sleep(1 << 20), "crashes": os.abort, "crashes late": os.abort, "exits": lambda: os._exit(3), "throws": fails}
+STOPS = {"hangs": lambda: time.sleep(1 << 20), "naps": lambda: time.sleep(1.2), "crashes": os.abort, "crashes late": os.abort, "exits": lambda: os._exit(3), "throws": fails}
 KEYS = {"texts": lambda number: f"key {number}", "twice": lambda number: f"key {number // 2}"}
 KINDS = {listset_judge.NotLinearizable: "refused", listset_judge.CutShort: "cut short", listset_judge.TooFew: "too few", listset_judge.NoVerdict: "none", unittest.SkipTest: "skipped"}
 
@@ -103,4 +103,5 @@ def judged(name, how):
 
 
 if __name__ == "__main__":
-    print("verdict: {}\n{}".format(*judged(os.environ["SET"], os.environ["HOW"].split())))
+    for _ in range(int(os.environ.get("TESTS", 1))):
+        print("verdict: {}\n{}".format(*judged(os.environ["SET"], os.environ["HOW"].split())))

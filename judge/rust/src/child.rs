@@ -80,7 +80,11 @@ impl Runner {
         let area = &self.area;
         area.begin(seed, of, file);
         if let Some(child) = &self.child {
-            return area.watch(&|| trouble_of(&mut child.borrow_mut()));
+            let trouble = area.watch(&|| trouble_of(&mut child.borrow_mut()))?;
+            if trouble.is_some() {
+                self.end_child(); // (so that a set that hung does not go on while its run is judged)
+            }
+            return Ok(trouble);
         }
         std::thread::scope(|scope| {
             let watcher = scope.spawn(|| {
@@ -92,14 +96,18 @@ impl Runner {
             watcher.join().expect("what watches a run does not panic")
         })
     }
-}
 
-impl Drop for Runner {
-    fn drop(&mut self) {
+    fn end_child(&self) {
         if let Some(child) = &self.child {
             let _ = child.borrow_mut().kill();
             let _ = child.borrow_mut().wait();
         }
+    }
+}
+
+impl Drop for Runner {
+    fn drop(&mut self) {
+        self.end_child();
     }
 }
 

@@ -1,5 +1,5 @@
-//! Judges the set that the variable SET names, with the options in HOW, such as "threads=4 runs=2". Prints the kind of
-//! the result, and the result.
+//! Judges the set that the variable SET names, with the options in HOW, such as "threads=4 runs=2", once or as often as
+//! TESTS says. Prints the kind of the result, and the result.
 use std::collections::{BTreeMap, BTreeSet};
 use std::sync::atomic::{AtomicU32, Ordering::SeqCst};
 use std::sync::{Arc, Mutex};
@@ -75,6 +75,7 @@ impl Set {
             ("crashes", 29) | ("crashes late", 9999) => std::process::abort(),
             ("exits", 29) => std::process::exit(3),
             ("throws", 29) => panic!("no memory"),
+            ("naps", 29) => sleep(Duration::from_millis(1200)),
             _ => {}
         }
     }
@@ -92,7 +93,7 @@ impl Set {
     }
 
     fn remove(&self, key: u32) -> Option<bool> {
-        if ["hangs", "crashes", "crashes late", "exits", "throws"].contains(&&*self.is) {
+        if ["hangs", "naps", "crashes", "crashes late", "exits", "throws"].contains(&&*self.is) {
             self.stop();
         }
         self.called(Right::remove, key)
@@ -141,6 +142,11 @@ fn how_of(words: &str) -> Options {
 
 #[test]
 fn set() {
+    let tests = std::env::var("TESTS").map_or(1, |it| it.parse().unwrap());
+    (0..tests).for_each(|_: u32| print());
+}
+
+fn print() {
     let (kind, text) = match judged(&std::env::var("SET").unwrap(), how_of(&std::env::var("HOW").unwrap())) {
         Ok(verdict) => ("ok", verdict.to_string()),
         Err(why @ Failure::NotLinearizable(_)) => ("refused", why.to_string()),
