@@ -10,7 +10,7 @@ import pytest
 from harness.programs import SECONDS, TOP, ran
 from judging import Call, changes, drawn, spread, text_of, ways_left
 
-COUNT = re.compile(r"contradiction: (.*)\n  need key (\d+) to become (present|absent)(?: (\d+) times)?.*\n  and (?:no|only (\d+)) (\w+) \d+ .*(?: overlaps? | begins? before | runs? after |pending$).*")
+COUNT = re.compile(r"contradiction: (.*)\n  need key (\d+) to become (present|absent)(?: (\d+) times)?.*\n  and (?:no|only (\d+)) (\w+) \d+ .*(?: overlaps? | begins? before | runs? after |pending(?:: |$)).*")
 COUNTED = re.compile(r"(add|remove|contains) (\d+) (true|false) \(thread (\d+), (\d+) to (\d+)\)")
 
 
