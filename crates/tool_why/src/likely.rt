@@ -153,10 +153,7 @@ fn is_share(some: u64, all: u64, percent: u64) -> bool {
 fn share_of_all(percent: u64, times: u64) -> u64 {
     let mut share = 1_000_000u64;
     for _ in 0..times.min(40) {
-        share = share
-            .saturating_mul(percent)
-            .checked_div(100)
-            .unwrap_or(0);
+        share = share.saturating_mul(percent).checked_div(100).unwrap_or(0);
     }
     share
 }

@@ -366,10 +366,7 @@ fn put_because_of_missed(out: &mut String, odd: &Odd, cause: Cause) -> Result<()
             out,
             "at {lonely} of {compared} wrong answers the last call of every other key had left that key absent"
         ),
-        _ if odd.is_exact => writeln!(
-            out,
-            "it misses present keys and never finds an absent one"
-        ),
+        _ if odd.is_exact => writeln!(out, "it misses present keys and never finds an absent one"),
         _ => writeln!(out, "it misses present keys"),
     }
 }
@@ -431,10 +428,7 @@ fn put_because_of_lost(out: &mut String, tally: &Tally, cause: Cause) -> Result<
     let (added, removed, least) = (tally.displaced, tally.unlinked, tally.least_full);
     write!(out, "keys are lost ({lost}) and never come back, and at ")?;
     match cause {
-        Cause::Displaced => writeln!(
-            out,
-            "{added} of {sharp} short losses another key was added"
-        ),
+        Cause::Displaced => writeln!(out, "{added} of {sharp} short losses another key was added"),
         Cause::Batch => writeln!(
             out,
             "{removed} of {sharp} short losses another key was removed"
@@ -552,10 +546,7 @@ pub(crate) fn put_known(out: &mut String, diagnosis: &Diagnosis) -> Result<(), A
     }
     if let Some(split) = diagnosis.evidence.split.filter(|split| split.is_long()) {
         put_split(out, &split)?;
-    } else if !matches!(
-        diagnosis.cause,
-        Some(Cause::OneThread | Cause::Overflow)
-    ) {
+    } else if !matches!(diagnosis.cause, Some(Cause::OneThread | Cause::Overflow)) {
         put_apart(out, &diagnosis.evidence.tally)?;
     }
     put_duration(out, diagnosis)?;
@@ -654,12 +645,7 @@ fn explain_first(
         return Ok(None);
     };
     diagnosis.complete(&reader.recorded().calls);
-    Ok(Some(explained(
-        alloc,
-        reader.recorded(),
-        &diagnosis,
-        used,
-    )?))
+    Ok(Some(explained(alloc, reader.recorded(), &diagnosis, used)?))
 }
 
 /// Reads a recording, and explains why no order explains it. The verdict above the explanation has `used` lines: two without a clash. If no
@@ -686,11 +672,6 @@ pub fn explain<R: Read>(
     };
     match diagnose(alloc, &recorded)? {
         None => Ok(None),
-        Some(diagnosis) => Ok(Some(explained(
-            alloc,
-            &recorded,
-            &diagnosis,
-            used,
-        )?)),
+        Some(diagnosis) => Ok(Some(explained(alloc, &recorded, &diagnosis, used)?)),
     }
 }

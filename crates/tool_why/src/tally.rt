@@ -130,7 +130,10 @@ impl Tally {
         if changes.iter().any(|call| call.operation == Operation::Add) {
             more(&mut self.displaced);
         }
-        if changes.iter().any(|call| call.operation == Operation::Remove) {
+        if changes
+            .iter()
+            .any(|call| call.operation == Operation::Remove)
+        {
             more(&mut self.unlinked);
         }
     }
@@ -145,7 +148,13 @@ impl Tally {
         let clash = &place.clash;
         let (key, since, until) = (place.key, clash.begun(), clash.until);
         if place.symptom == Symptom::Lost {
-            let changes = neighbours.around(alloc, key, since, until, MOST_BESIDE.saturating_add(1))?;
+            let changes = neighbours.around(
+                alloc,
+                key,
+                since,
+                until,
+                MOST_BESIDE.saturating_add(1),
+            )?;
             self.add_beside(&changes);
             if clash.second.is_some_and(|second| second.changes()) {
                 more(&mut self.readded);
