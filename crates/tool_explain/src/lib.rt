@@ -3,7 +3,6 @@
 
 mod drafts;
 mod event_errors;
-mod text_explained;
 mod files;
 mod keyed;
 mod kinds;
@@ -11,7 +10,8 @@ mod lined;
 mod recorded;
 mod reported;
 mod spoiled;
+mod text_explained;
 mod written;
 
-pub use text_explained::explain_text;
 pub use files::{explain_input, explain_unopened};
+pub use text_explained::explain_text;
