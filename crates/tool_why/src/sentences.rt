@@ -615,8 +615,8 @@ pub struct Explained {
 /// The number of calls from which on an explanation is of so many first calls alone, if these have no order.
 const MOST_EXPLAINED: usize = 1_000_000;
 
-/// Returns the explanation of a diagnosis. `recorded` has the calls as they ended later.
-fn explained(
+/// Describes a diagnosis in an explanation. `recorded` has the calls as they ended later.
+fn described(
     alloc: Global,
     recorded: &Recorded,
     diagnosis: &Diagnosis,
@@ -645,7 +645,7 @@ fn explain_first(
         return Ok(None);
     };
     diagnosis.complete(&reader.recorded().calls);
-    Ok(Some(explained(alloc, reader.recorded(), &diagnosis, used)?))
+    Ok(Some(described(alloc, reader.recorded(), &diagnosis, used)?))
 }
 
 /// Reads a recording, and explains why no order explains it. The verdict above the explanation has `used` lines: two without a clash. If no
@@ -672,6 +672,6 @@ pub fn explain<R: Read>(
     };
     match diagnose(alloc, &recorded)? {
         None => Ok(None),
-        Some(diagnosis) => Ok(Some(explained(alloc, &recorded, &diagnosis, used)?)),
+        Some(diagnosis) => Ok(Some(described(alloc, &recorded, &diagnosis, used)?)),
     }
 }
