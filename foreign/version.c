@@ -18,6 +18,6 @@ const char *listset_fault_text(unsigned char fault) {
   case 18: return "not two seats of one set";
   case 19: return "contains_now needs a lazy or a lock-free list";
   case 20: return "timed out: another thread was in a call for too long";
-  default: return "no seat is here: it was moved, gathered or closed, or another thread is in a call from it";
+  default: return "no seat is here: it was moved, dropped, gathered or closed, or another thread is in a call from it";
   }
 }

@@ -238,7 +238,7 @@ def two_users():
     """Expects an error of a call from a seat while another thread is in a call from it."""
     mine = listset.open("lazy", 1, 1)
     with mine._used():
-        text = "no seat is here: it was moved, gathered or closed, or another thread is in a call from it"
+        text = "no seat is here: it was moved, dropped, gathered or closed, or another thread is in a call from it"
         assert [raised(it, 1) for it in (mine.add, mine.contains)] == [(listset.Fault, text)] * 2 and raised(mine.close)[1] == text
     assert mine.add(1) and mine.close() == [1]
 
