@@ -3,13 +3,10 @@ use Rattle.std.specs.Prelude.{◌≡◌, ℕ, Bool, true, false, Option, Some, N
 use Rattle.lset_words.specs.declared.Call.{Call}
 use Rattle.lset_words.specs.declared.Reply.{Reply}
 use Rattle.lset_words.specs.declared.Reply.TheVariants as reply
-use Rattle.lset_words.specs.Words.{sizes}
-use Rattle.lset_words.specs.Records.{thread_of}
 use Rattle.lset_steps.specs.Steps.{Table}
-use Rattle.lset_steps.specs.BoundedReads.{most_reads}
 use Rattle.lset_rule.specs.Runs.{StartsWith}
 use Rattle.lset_live.specs.Seats.{SetValue, SeatValue, ReceiptValue}
-use Rattle.lset_live.specs.Explained.{HasAnswered, HasMadeAtMost}
+use Rattle.lset_live.specs.Explained.{HasAnswered}
 use Rattle.ffi_sets.specs.declared.held.Held.{Held}
 use Rattle.ffi_sets.specs.Sets.{table_in, set_in, seat_in, spare_in, keys_in, number_in, receipt_in, SameSet}
 
@@ -40,20 +37,6 @@ pub record HasCalledHeld (h : Held) (c : Call) (r : Option Reply) (h' : Held) : 
   pub spare : spare_in h' ≡ spare_in h
   pub keys : keys_in h' ≡ keys_in h
   pub called : CallsIn (table_in h) (set_in h) (seat_in h) c r (seat_in h')
-
--- A contains from a seat: it was made, in at most most_reads steps; or the seat had been lost before.
-abbrev pub HasReadOf : SetValue → Option SeatValue → Option SeatValue → Type 0
-HasReadOf set (Some old) (Some new) = HasMadeAtMost (most_reads (sizes set.shape)) (thread_of old.past) new.events
-HasReadOf set None None = Unit {0}
-HasReadOf set old new = ⊥
-
-abbrev pub ReadsIn : Option SetValue → Option SeatValue → Option SeatValue → Type 0
-ReadsIn (Some set) old new = HasReadOf set old new
-ReadsIn None old new = ⊥
-
--- A contains from the value of a seat of C was made, in at most most_reads steps.
-abbrev pub HasReadHeld : Held → Held → Type 0
-HasReadHeld h h' = ReadsIn (set_in h) (seat_in h) (seat_in h')
 
 -- A call c from a seat of C returned n. From an empty seat n is 255, and the seat is still empty.
 abbrev pub HasMade : Bool → Held → Call → ℕ → Bool → Held → Type 0

@@ -1,14 +1,13 @@
 //! What the functions of C do with a `Held`, by a match on its list.
-ghost use Rattle.lset_words.specs.declared.Call.TheVariants.{Contains};
-ghost use Rattle.std.specs.Prelude.{◌≤◌, IfNone, IfSome, IfOk, IfErr};
+ghost use Rattle.std.specs.Prelude.{◌≤◌, IfNone, IfSome};
 ghost use Rattle.ffi_sets.specs.Sets.{Gathers};
-ghost use Rattle.ffi_sets.specs.Calls.{HasCalledHeld, HasHeededHeld, HasNotedHeld, HasReadHeld};
+ghost use Rattle.ffi_sets.specs.Calls.{HasCalledHeld, HasHeededHeld, HasNotedHeld};
 
 use crate::codes::{MAY_BLOCK, NO_MORE, NO_SEAT};
 use crate::held::Held;
 use crate::holding::open_of;
 use lset_live::OpenFault;
-use lset_words::{Call, Key, Reply};
+use lset_words::{Call, Reply};
 use std::alloc::Global;
 
 /// Opens a set of list `kind`: 0 coarse, 1 fine, 2 optimistic, 3 lazy, 4 lock-free. Returns `None` for any other number. Allocates.
@@ -44,17 +43,15 @@ pub fn call_held(held: &mut Held, call: Call) -> Option<Reply>
     }
 }
 
-/// Makes a `contains` from the seat in `held` without blocking. Returns `None` if the seat was lost before. Returns an error and makes
-/// no call: `MAY_BLOCK` on a coarse, fine or optimistic list, `NO_SEAT` if `held` has no seat.
-pub fn read_held(held: &mut Held, key: Key) -> Result<Option<Reply>, u8>
-    ensures read { IfOk result (λ r. HasCalledHeld held.old (Contains key) r held.new × HasReadHeld held.old held.new) }
-    ensures error { IfErr result (λ n. 254 ≤ n) }
+/// Returns the number that says why a `contains` from the seat in `held` can block: `MAY_BLOCK` on a coarse, fine or optimistic list,
+/// `NO_SEAT` if `held` has no seat. Returns `None` if each step of a `contains` is a load, as on the other lists.
+pub fn why_reads_block(held: &Held) -> Option<u8>
+    ensures { IfSome result (λ n. 254 ≤ n) }
 {
     match held {
-        Held::Lazy(of) => Ok(of.contains_now(key)),
-        Held::LockFree(of) => Ok(of.contains_now(key)),
-        Held::Coarse(_) | Held::Fine(_) | Held::Optimistic(_) => Err(MAY_BLOCK),
-        _ => Err(NO_SEAT),
+        Held::Lazy(_) | Held::LockFree(_) => None,
+        Held::Coarse(_) | Held::Fine(_) | Held::Optimistic(_) => Some(MAY_BLOCK),
+        _ => Some(NO_SEAT),
     }
 }
 

@@ -1,18 +1,17 @@
 //! What the functions of C do with a seat of a set, for any list.
 ghost use Rattle.std.specs.Prelude.{◌≡◌, ◌↔◌, ◌+◌, ◌≤◌, [], Some, IfNone, IfSome, IsTrue, length, vec_capacity};
 ghost use Rattle.std.specs.Arc.{arc_value};
-ghost use Rattle.lset_words.specs.declared.Call.TheVariants.{Contains};
 ghost use Rattle.lset_words.specs.Words.{sizes};
 ghost use Rattle.lset_live.specs.Closes.{most_keys};
-ghost use Rattle.ffi_sets.specs.Calls.{HasCalledOf, HasHeededOf, HasReadOf, noted_by};
+ghost use Rattle.ffi_sets.specs.Calls.{HasCalledOf, HasHeededOf, noted_by};
 ghost use Rattle.ffi_sets.specs.Facts.{AreOf};
 ghost use Rattle.ffi_sets.specs.Sets.{IsWhole};
 
 use crate::codes::{NO_MORE, OUT_OF_MEMORY, SEATS_OUT};
 use crate::held::{ReceiptOfSet, SeatOfSet};
 use crate::yielding::Yielding;
-use lset_live::{Bounded, Countless, LiveSet, OpenFault, RunningReads, Seat, open_with};
-use lset_words::{Call, Key, Reply};
+use lset_live::{Bounded, Countless, LiveSet, OpenFault, Seat, open_with};
+use lset_words::{Call, Reply};
 use std::alloc::Global;
 use std::mem::replace;
 use std::sync::Arc;
@@ -219,25 +218,5 @@ impl<M: Bounded> SeatOfSet<M> {
                 Err((kept, OUT_OF_MEMORY))
             }
         }
-    }
-}
-
-impl<M: RunningReads> SeatOfSet<M> {
-    /// Makes a `contains` from this seat without blocking. Returns `None` if the seat was lost before.
-    pub fn contains_now(&mut self, key: Key) -> Option<Reply>
-        ensures set { arc_value self.new.set ≡ arc_value self.old.set }
-        ensures number { self.new.number ≡ self.old.number }
-        ensures spare { self.new.spare.items ≡ self.old.spare.items }
-        ensures called { HasCalledOf M.table (arc_value self.old.set) self.old.seat (Contains key) result self.new.seat }
-        ensures within { HasReadOf (arc_value self.old.set) self.old.seat self.new.seat }
-    {
-        let mut seat = self.seat.take()?;
-        let reply = if self.set.contains_now(&mut seat, key) {
-            Reply::True
-        } else {
-            Reply::False
-        };
-        self.seat = Some(seat);
-        Some(reply)
     }
 }

@@ -48,7 +48,7 @@ impl Running for LockFreeList {}
 /// A machine whose `contains` does not block on shared words.
 ///
 /// A list with bounded reads (`OpenReads`) implements this trait without a body.
-pub trait RunningReads: Bounded + OpenReads {
+pub trait RunningReads: Running + OpenReads {
     /// Makes a `contains` without a runtime, so it cannot block, in at most `OpenReads::bound` steps.
     fn contains_now_on(
         table: &Words<Self>,

@@ -208,11 +208,7 @@ fn many_calls<M: Running, R: Wait>(rt: &R, alloc: Global, calls: &mut Calls) -> 
 }
 
 /// Opens a set whose `contains` does not block, and looks for present and absent keys.
-fn read_now<M: Running + RunningReads, R: Wait>(
-    rt: &R,
-    alloc: Global,
-    calls: &mut Calls,
-) -> Result<()> {
+fn read_now<M: RunningReads, R: Wait>(rt: &R, alloc: Global, calls: &mut Calls) -> Result<()> {
     let (set, mut zero, mut one) = opened::<M>(alloc, calls)?;
     add_six(rt, &set, &mut one)?;
     calls.announce(alloc, "LiveSet::contains_now")?;

@@ -59,7 +59,7 @@ fn a_seat_finds_what_another_added_before_and_after_gathering_it(rt: HostRuntime
     at_each_list!(is_found, rt);
 }
 
-fn finds_now<M: Running + RunningReads, R: Host>(rt: &R, alloc: Global) {
+fn finds_now<M: RunningReads, R: Host>(rt: &R, alloc: Global) {
     let (set, mut zero, mut one) = two_seats::<M, R>(rt, alloc);
     assert!(rt; !set.contains_now(&mut zero, Key(9)));
     make_calls(rt, &set, &mut one, &ADDS);

@@ -277,7 +277,7 @@ fn a_call_waits_for_a_lock_that_another_seat_holds(rt: HostRuntime) {
 
 /// Waits until the other seat has stopped. Then looks for 10 with both `contains` functions and for the first key above
 /// 10, and returns the replies.
-fn reads<M: Running + RunningReads, R: Clock + Wait>(
+fn reads<M: RunningReads, R: Clock + Wait>(
     rt: &R,
     set: &LiveSet<M>,
     mut seat: Seat<M>,
@@ -293,7 +293,7 @@ fn reads<M: Running + RunningReads, R: Clock + Wait>(
 
 /// Removes 10 from seat 1, which stops after step `stops_at` until seat 0 has looked for 10. The set also has the key
 /// 20.
-fn reads_beside<M: Running + RunningReads + Send + Sync, R: Host>(
+fn reads_beside<M: RunningReads + Send + Sync, R: Host>(
     rt: &R,
     alloc: Global,
     stops_at: u64,
@@ -314,7 +314,7 @@ fn reads_beside<M: Running + RunningReads + Send + Sync, R: Host>(
 
 /// Asserts that seat 0 finds 10 if seat 1 stopped before it marked the node, and does not find 10 if seat 1 stopped
 /// after it.
-fn answers_beside<M: Running + RunningReads + Send + Sync, R: Host>(
+fn answers_beside<M: RunningReads + Send + Sync, R: Host>(
     rt: &R,
     alloc: Global,
     before: u64,
