@@ -139,7 +139,7 @@ private:
   friend class seat;
 };
 
-/// Returns the maximum number of steps of `seat::contains_now` of a list that was opened with `seats` seats, this quota and
+/// Returns the maximum number of steps of `seat::contains_now` in the runs of a list that was opened with `seats` seats, this quota and
 /// `opening` keys; 0 if no set opens with these.
 inline uint64_t most_reads(uint32_t seats, uint32_t quota, uint32_t opening) { return listset_most_reads(seats, quota, opening); }
 
@@ -174,8 +174,8 @@ public:
   /// Returns whether a key is in the set.
   bool contains(uint32_t key) { return by(listset_contains, key) == LISTSET_TRUE; }
 
-  /// Makes a `contains` of a lazy or a lock-free list. Such a call waits for no lock, and makes at most `most_reads` steps, whatever the
-  /// other threads do. Throws, with LISTSET_READS_BLOCK, on the other lists.
+  /// Makes a `contains` of a lazy or a lock-free list. Such a call waits for no lock, and has at most `most_reads` steps in every run of the
+  /// list, whatever the other threads do. Throws, with LISTSET_READS_BLOCK, on the other lists.
   bool contains_now(uint32_t key) {
     listset_answer answer = by(listset_contains_now, key);
     if (answer == LISTSET_MAY_BLOCK) throw fault(LISTSET_READS_BLOCK);
