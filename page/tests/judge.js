@@ -296,15 +296,16 @@ function checkSides(ask) {
     }
     check(`no program: ${text}: ${fault}`, fault.length > 10);
   }
-  const both = new Sides(ask, ["coarse", "lazy"], { program, quota: 4, opening: [] });
+  inPage("held").engine = { ask };
+  const both = new Sides(["coarse", "lazy"], { program, quota: 4, opening: [] });
   let turns = 0;
   while (both.turn(0)) turns++;
   const [coarse, lazy] = both.sides;
-  const counts = `${coarse.trace.total} and ${lazy.trace.total} events in ${turns} turns`;
+  const counts = `${coarse.run.trace.total} and ${lazy.run.trace.total} events in ${turns} turns`;
   check(`the shorter one waits: ${counts}`, counts === "15 and 23 events in 23 turns" && turns === both.turns.length);
   check(
     "each is a run by the engine",
-    both.sides.every((side) => ask("listset_replay", side.schedule).text.includes("place 1 true")),
+    both.sides.every(({ run }) => ask("listset_replay", run.schedule).text.includes("place 1 true")),
   );
   const waits = coarse.counts.filter((count, at) => at > 0 && count === coarse.counts[at - 1]).length;
   check(`turns at which it waits: ${waits}`, waits === 8);

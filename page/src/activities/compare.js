@@ -2,15 +2,15 @@
 import { LISTS } from "../../made/rows.js";
 import { byId, redraw } from "../page/dom.js";
 import { toggleLecture } from "../page/play.js";
-import { askNow, now } from "../page/now.js";
+import { now } from "../page/now.js";
 import { linkTo } from "../page/visit.js";
 import { addressOf, readAddress } from "../run/address.js";
 import { chipOf, escaped, listOptions, tag } from "../run/markup.js";
 import { sentenceOf } from "../run/sentences.js";
-import { ProgramFault, programText, readProgram, Sides } from "../run/sides.js";
 import { Figure, STILL } from "../story/figure.js";
-import { ShownRun } from "../story/live_run.js";
+import { RunFault, ShownRun } from "../story/live_run.js";
 import { copyText, head, part, setScene, threadOfKey } from "../story/scene.js";
+import { programText, readProgram, Sides } from "../story/sides.js";
 
 const PRESETS = [
   ["Who waits?", "#sides=coarse.lazy&quota=4&calls=0.add.5,1.contains.5&turns=0.0.0.0.1.1.1"],
@@ -60,12 +60,12 @@ function beginSides(turns = []) {
     const program = readProgram(sidesPart("program").value);
     const opening = sidesPart("opening").value.split(/[\s,]+/).filter((key) => key !== "");
     const kinds = SIDES.map((name) => sidesPart(name).value);
-    Object.assign(shown, { sides: new Sides(askNow, kinds, { program, quota: shown.quota, opening }), opening });
+    Object.assign(shown, { sides: new Sides(kinds, { program, quota: shown.quota, opening }), opening });
     for (const thread of turns) if (!shown.sides.turn(thread)) break;
     part("#scene-told").textContent = "";
     takeTurns();
   } catch (fault) {
-    if (!(fault instanceof ProgramFault)) throw fault;
+    if (!(fault instanceof RunFault)) throw fault;
     part("#scene-told").textContent = fault.message;
   }
 }
@@ -103,33 +103,33 @@ function draw() {
 
 function figuresOf(sides) {
   const { figures } = shown;
-  if (figures.length > 0 && sides.every((side, at) => figures[at].spec.list === side.kind)) return figures;
+  if (figures.length > 0 && sides.every(({ run }, at) => figures[at].spec.list === run.trace.kind)) return figures;
   end();
-  sidesPart("pictures").innerHTML = sides.map(({ kind }) => tag("section", { "aria-label": LISTS[kind].name }, PICTURE)).join("");
+  sidesPart("pictures").innerHTML = sides.map(({ run }) => tag("section", { "aria-label": LISTS[run.trace.kind].name }, PICTURE)).join("");
   const boxes = sidesPart("pictures").querySelectorAll(".pair");
-  const specOf = ({ kind, trace, state }) => ({ ...STILL, list: kind, run: new ShownRun(trace, state), code: false, sentence: sentenceOf, slots: 4 });
+  const specOf = ({ run: { trace, state } }) => ({ ...STILL, list: trace.kind, run: new ShownRun(trace, state), code: false, sentence: sentenceOf, slots: 4 });
   figures.push(...sides.map((side, at) => new Figure(boxes[at], specOf(side))));
   return figures;
 }
 
 const end = () => shown.figures.splice(0).forEach((figure) => figure.end());
 
-function drawSide(side, figure) {
+function drawSide({ run, counts }, figure) {
   const { at, sides: { turns } } = shown;
-  const count = side.counts[at];
+  const count = counts[at];
   const box = figure.box.parentElement;
-  box.querySelector("h2").innerHTML = `${LISTS[side.kind].name} <small>${count} events</small>`;
-  box.querySelector("a").href = addressOf(side.schedule, count) ?? "#";
-  side.state.moveTo(count);
-  figure.showRun(new ShownRun(side.trace, side.state, count), undefined, now.prefs.hides);
-  const hasWaited = at > 0 && count === side.counts[at - 1];
+  box.querySelector("h2").innerHTML = `${LISTS[run.trace.kind].name} <small>${count} events</small>`;
+  box.querySelector("a").href = addressOf(run.schedule, count) ?? "#";
+  run.state.moveTo(count);
+  figure.showRun(new ShownRun(run.trace, run.state, count), undefined, now.prefs.hides);
+  const hasWaited = at > 0 && count === counts[at - 1];
   if (hasWaited) figure.tell(`${chipOf(turns[at - 1])} has ended its call here, and waits for the other list.`);
 }
 
 function addressOfSides() {
   const { sides, quota, opening } = shown;
   const calls = sides.program.flatMap((own, thread) => own.map((call) => `${thread}.${call.replace(" ", ".")}`));
-  const parts = [`sides=${sides.sides.map(({ kind }) => kind).join(".")}`, `quota=${quota}`];
+  const parts = [`sides=${sides.sides.map(({ run }) => run.trace.kind).join(".")}`, `quota=${quota}`];
   if (opening.length > 0) parts.push(`opening=${opening.join(".")}`);
   return `#${[...parts, `calls=${calls.join()}`, `turns=${sides.turns.join(".")}`].join("&")}`;
 }

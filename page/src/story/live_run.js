@@ -20,6 +20,8 @@ export function runOfText(text) {
   };
 }
 
+export class RunFault extends Error {}
+
 export class ShownRun {
   /** @param {any} trace @param {any} state */
   constructor(trace, state, count = 0) {
@@ -59,7 +61,7 @@ export class LiveRun extends ShownRun {
 
   expanded(lines) {
     const { text, fault } = scheduleOfDraft(askNow, this.textOf(lines), this.spec.lacks);
-    if (fault !== null) throw new Error(fault);
+    if (fault !== null) throw new RunFault(fault);
     return linesOf(text);
   }
 
@@ -69,7 +71,7 @@ export class LiveRun extends ShownRun {
 
   traceOf(lines) {
     const { text } = askList(askNow, "listset_trace", this.spec.lacks, this.textOf(lines));
-    if (!isTrace(text)) throw new Error(text.trim());
+    if (!isTrace(text)) throw new RunFault(text.trim());
     return new Trace(text, this.spec.version);
   }
 

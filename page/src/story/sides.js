@@ -1,0 +1,56 @@
+// Two lists side by side run one program of calls. A turn makes the thread's next step in both. A list whose call has returned waits for the other.
+import { letterOf } from "../run/markup.js";
+import { MOST_NUMBER } from "../run/trace.js";
+import { LiveRun, RunFault } from "./live_run.js";
+
+const MOST_TURNS = 500;
+
+export function readProgram(text) {
+  const program = [];
+  for (const line of text.split("\n").filter((one) => one.trim() !== "")) {
+    const [, number, letter, calls] = /^\s*(?:t?(\d+)|([A-Z]))\s*:\s*(.+?)\s*$/i.exec(line) ?? [];
+    const thread = Number(number ?? letter?.toUpperCase().charCodeAt(0) - "A".charCodeAt(0));
+    if (!(thread < 64)) throw new RunFault(`"${line.slice(0, 60)}" is no line as "A: add 5, remove 5"`);
+    for (const call of calls.split(",").map((one) => one.trim())) {
+      const [, operation, key] = /^(add|remove|contains|ceiling) (0|[1-9]\d{0,9})$/.exec(call) ?? [];
+      if (key === undefined || Number(key) > MOST_NUMBER) throw new RunFault(`"${call.slice(0, 40)}" is no call as "add 5"`);
+      (program[thread] ??= []).push(`${operation} ${key}`);
+    }
+  }
+  if (program.length === 0) throw new RunFault('a program has lines as "A: add 5, remove 5"');
+  return Array.from(program, (calls) => calls ?? []);
+}
+
+export function programText(program) {
+  const lines = program.map((calls, thread) => (calls.length === 0 ? "" : `${letterOf(thread)}: ${calls.join(", ")}\n`));
+  return lines.join("");
+}
+
+export class Sides {
+  constructor(kinds, { program, quota, opening }) {
+    this.program = program;
+    this.turns = [];
+    // `counts`: how many events a side has after each turn
+    this.sides = kinds.map((list) => ({ run: new LiveRun({ list, threads: program.length, quota, opening }), counts: [0] }));
+  }
+
+  // Returns what a turn makes in each list: a schedule line, or null if that list waits. Returns null if both are done.
+  linesOf(thread) {
+    if (thread >= this.program.length) return null;
+    const isIdle = this.sides.map(({ run }) => run.isIdle(thread));
+    if (isIdle.includes(false)) return isIdle.map((idle) => (idle ? null : `go ${thread} 1`));
+    const next = this.program[thread]?.[this.sides[0].run.trace.callsOf[thread].length];
+    return next === undefined ? null : this.sides.map(() => `begin ${thread} ${next}`);
+  }
+
+  turn(thread) {
+    const lines = this.linesOf(thread);
+    if (lines === null || this.turns.length === MOST_TURNS) return false;
+    for (const [at, { run, counts }] of this.sides.entries()) {
+      if (lines[at] !== null) run.take([...run.lines, lines[at]]);
+      counts.push(run.trace.total);
+    }
+    this.turns.push(thread);
+    return true;
+  }
+}
