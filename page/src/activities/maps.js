@@ -104,7 +104,8 @@ function judgeHtml() {
   };
   const words = `You see a run without its replies. Say what each call answers, and put a point where it takes effect. The proved
     <code>check</code> judges your order: every order that explains the run is accepted.`;
-  return `${head("", "Judge", "", "title")}${drawRecordedBox()}<h2>Find the order of a run yourself</h2>${lead(words)}
+  const top = `<p class="line"><button data-do="runs">Find the order of a run yourself ↓</button></p>`;
+  return `${head("", "Judge", top, "title")}${drawRecordedBox()}<h2 id="judge-runs">Find the order of a run yourself</h2>${lead(words)}
     ${seedForm("judge-seed", "Judge a run")}<h2>An example, by its question</h2>${cards(examples().map(cardOf))}`;
 }
 
@@ -148,6 +149,6 @@ export const MAPS = {
   "ask map": mapOf(() => "Guess, then see", askHtml),
   "break map": mapOf(() => "Break it", breakHtml),
   "learn map": mapOf(() => learning.panel.course.name, learnHtml, { begin: beginLearn, end: endLearn, deeds: { book: openBook } }),
-  judge: mapOf(() => "Judge", judgeHtml, { begin: beginJudge }),
+  judge: mapOf(() => "Judge", judgeHtml, { begin: beginJudge, deeds: { runs: () => part("#judge-runs").scrollIntoView({ behavior: "smooth" }) } }),
   read: mapOf(() => "Read", readHtml),
 };
