@@ -3,7 +3,7 @@
 /** @type {(id: string) => any} */
 export const byId = (id) => document.getElementById(id);
 
-// Redraws a box. The focused element keeps the focus, else the first button gets it (no field, and not One back or Start over).
+// Redraws a box. The focused element keeps the focus, else the first button gets it (no field, and not Undo or Start over).
 export function redraw(box, html) {
   /** @type {any} */
   const before = box.contains(document.activeElement) ? document.activeElement : null;

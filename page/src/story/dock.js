@@ -6,7 +6,7 @@ import { redraw, setHtml } from "../page/dom.js";
 import { isLecture } from "../page/now.js";
 import { answerText, phaseText } from "./tale.js";
 
-const AGAIN = `<span class="again"><button data-undo class="quiet small" title="undo the last press">↶ One back</button>
+const AGAIN = `<span class="again"><button data-undo class="quiet small" title="undo the last press">↶ Undo</button>
   <button data-again class="quiet small">↺ Start over</button></span>`;
 
 export function showDock(figure) {
@@ -99,7 +99,7 @@ export function showScrub(figure) {
   box.hidden = !figure.isOpen;
 }
 
-// ---- Presses on a figure: a thread's button, a line of code, the ends of the slider, One back, Start over.
+// ---- Presses on a figure: a thread's button, a line of code, the ends of the slider, Undo, Start over.
 const MOST_KEY = 999;
 
 export function pressed(figure, event) {
