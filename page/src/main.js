@@ -13,7 +13,7 @@ import { showHeader, showMarks } from "./page/work.js";
 import { refreshReport } from "./page/files.js";
 import { keysOf, pressKey } from "./page/play.js";
 import { held, now, on, show, takeTrace } from "./page/now.js";
-import { services, showParts } from "./page/seen.js";
+import { showParts } from "./page/seen.js";
 import { keepNow, keepSoon } from "./page/visit.js";
 import { Trace } from "./run/trace.js";
 import { askView } from "./story/ask_view.js";
@@ -78,7 +78,7 @@ async function takeEngine() {
     if (typeof WebAssembly === "undefined") throw new Error("WebAssembly is turned off in it");
     held.engine = await startEngine();
   } catch (fault) {
-    services.hasEngine = false;
+    held.hasEngine = false;
     byId("no-engine-cause").textContent = fault.message; // what needs the engine is not there; the page says so, and why
     byId("schedule").readOnly = true;
     await loadMore();

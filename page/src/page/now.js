@@ -8,8 +8,8 @@ import { exampleIn, reduce, stateAtFirst } from "./reducer.js";
 
 export const NO_ENGINE = "The replayer does not run in this browser: no schedule can be run, no report checked. A file of listset trace can be opened.";
 export const now = stateAtFirst();
-/** @type {{ engine: any, render: () => void }} */
-export const held = { engine: null, render: () => {} };
+/** The engine, or null; `hasEngine` until it is known that there is none. @type {{ engine: any, hasEngine: boolean, render: () => void }} */
+export const held = { engine: null, hasEngine: true, render: () => {} };
 
 // Applies an action without drawing.
 export function change(type, given = {}) {

@@ -1,6 +1,6 @@
 // Which parts of the page are visible in which state. Other parts are visible whenever their parent is.
 import { byId, setHidden } from "./dom.js";
-import { change } from "./now.js";
+import { change, held } from "./now.js";
 
 const isStage = ({ screen }) => screen === "stage";
 
@@ -40,7 +40,7 @@ export const SEEN = {
 };
 
 export function showParts(state) {
-  const facts = factsOf(state, { hasEngine: services.hasEngine });
+  const facts = factsOf(state, held);
   for (const [id, isSeen] of Object.entries(SEEN)) setHidden(byId(id), !isSeen(facts), document.querySelector("main"));
   const { activity, screen, view } = state.place;
   const key = [activity, screen, view, facts.hasEngine].join();
@@ -54,7 +54,6 @@ export function showParts(state) {
   }
 }
 const placed = { key: "" };
-export const services = { hasEngine: true }; // until it is known that there is none
 
 // Sets the view: a slide of a lecture, or the list or the history alone (for a frame).
 export const setView = (view, slide = 0) => change("view", { view, slide });
