@@ -33,7 +33,7 @@ function drawNode(state, name, place, event, room) {
     tag("rect", { class: "box", x, y, width, height: row, rx: 8, ...(isMarked ? { style: "fill:url(#hatch)" } : {}) }),
     tag("line", { class: "side", x1: side, x2: side, y1: y, y2: y + key }),
     drawKey(node, (x + side) / 2, middle, width, isMarked && width > 110, isNamed && width < 90),
-    isNamed ? label({ class: "name", x: x + 6, y: y + 18 }, name) : "",
+    isNamed ? label({ class: "name", x: x + 6, y: y + 24 }, name) : "",
     isMarked ? label({ class: "cross", x: (side + x + width) / 2, y: middle + 9 }, "✗") : "",
     row > key ? drawLock(node.lock, x, y + key, width, row - key) : "",
   );
