@@ -19,7 +19,8 @@ const PRESETS = [
 ];
 const PICTURE = '<header class="line"><h2></h2> <a class="small">Watch this run</a></header><div class="pair"></div>';
 const SIDES = ["one", "other"];
-const shown = { sides: null, at: 0, quota: 4, opening: [], figures: [] }; // at: how many turns are shown
+const QUOTA = 4;
+const shown = { sides: null, at: 0, figures: [] }; // at: how many turns are shown
 const sidesPart = (name) => byId(`sides-${name}`);
 const listsOf = ({ given }) => (given.sides ?? "coarse.lazy").split(".");
 
@@ -40,7 +41,7 @@ function html(place) {
 
 function begin({ given }) {
   /** @type {Record<string, string>} */
-  const { calls, turns = "", quota, opening = "" } = { ...readAddress(PRESETS[0][1]).sides, ...given };
+  const { calls, turns = "", opening = "" } = { ...readAddress(PRESETS[0][1]).sides, ...given };
   const program = [];
   for (const call of calls.split(",").filter((one) => one !== "")) {
     const [thread, operation, key] = call.split(".");
@@ -50,7 +51,7 @@ function begin({ given }) {
   sidesPart("opening").value = opening.replaceAll(".", " ");
   for (const name of SIDES) sidesPart(name).onchange = () => beginSides();
   sidesPart("slider").oninput = () => turnTo(Number(sidesPart("slider").value));
-  Object.assign(shown, { sides: null, quota: Number(quota), figures: [] });
+  Object.assign(shown, { sides: null, figures: [] });
   beginSides(turns.split(".").filter((thread) => thread !== "").map(Number));
   if (now.place.slide > 0) shown.at = 0; // a slide goes through its turns
 }
@@ -60,7 +61,7 @@ function beginSides(turns = []) {
     const program = readProgram(sidesPart("program").value);
     const opening = sidesPart("opening").value.split(/[\s,]+/).filter((key) => key !== "");
     const kinds = SIDES.map((name) => sidesPart(name).value);
-    Object.assign(shown, { sides: new Sides(kinds, { program, quota: shown.quota, opening }), opening });
+    shown.sides = new Sides(kinds, { program, quota: Number(now.place.given.quota ?? QUOTA), opening });
     for (const thread of turns) if (!shown.sides.turn(thread)) break;
     part("#scene-told").textContent = "";
     takeTurns();
@@ -127,7 +128,8 @@ function drawSide({ run, counts }, figure) {
 }
 
 function addressOfSides() {
-  const { sides, quota, opening } = shown;
+  const { sides } = shown;
+  const { quota, opening } = sides.sides[0].run.spec;
   const calls = sides.program.flatMap((own, thread) => own.map((call) => `${thread}.${call.replace(" ", ".")}`));
   const parts = [`sides=${sides.sides.map(({ run }) => run.trace.kind).join(".")}`, `quota=${quota}`];
   if (opening.length > 0) parts.push(`opening=${opening.join(".")}`);

@@ -15,12 +15,15 @@ const SLIDER_KEYS = { ...HALF_STEPS, PageDown: -5, PageUp: 5, Home: -Infinity, E
 const judgePart = (name) => byId(`judge-${name}`);
 
 class Judging {
-  exercise = null;
   answer = null;
   verdict = null;
   held = null; // the call whose point is dragged
   tries = 0; // that were refused
   moment = 0; // of a claim
+
+  get exercise() {
+    return now.exercise;
+  }
 
   // Begins an exercise of this level about the current run. At the third level the report can be that of a broken list.
   begin(level) {
@@ -33,7 +36,7 @@ class Judging {
   }
 
   take(exercise) {
-    Object.assign(this, { exercise, answer: new OwnAnswer(exercise), held: null, verdict: null, tries: 0, moment: 0 });
+    Object.assign(this, { answer: new OwnAnswer(exercise), held: null, verdict: null, tries: 0, moment: 0 });
     if (now.run.lacks === null) judgePart("level").value = exercise.level;
     dispatch("exercise", { exercise });
   }
