@@ -115,11 +115,11 @@ export function seedForm(id, verb) {
     <button id="${id}-go" class="primary">${verb}</button></div>`;
 }
 
-export function listenToSeedForm(id, more) {
+export function listenToSeedForm(id, suffix) {
   byId(`${id}-go`).onclick = () => {
     const kind = byId(`${id}-list`).value;
     const number = Number(byId(`${id}-number`).value);
-    location.hash = `#seed=${number > 0 ? seedOf(kind, number) : anotherSeed(now.task.kind === "seed" ? now.task.id : null, kind)}${more}`;
+    location.hash = `#seed=${number > 0 ? seedOf(kind, number) : anotherSeed(now.task.kind === "seed" ? now.task.id : null, kind)}${suffix}`;
   };
 }
 
@@ -129,24 +129,24 @@ export function openSeed(seed, count) {
 }
 
 function taskOfWatch() {
-  const more = isJudging() ? "&judge" : "";
-  if (now.task.kind === "seed") drawSeedBox(now.task.id, more);
+  const suffix = isJudging() ? "&judge" : "";
+  if (now.task.kind === "seed") drawSeedBox(now.task.id, suffix);
   const names = examples().map(({ name }) => name);
   const at = now.task.kind === "example" ? names.indexOf(now.task.id) : -1;
-  const to = (index) => (at >= 0 && names[index] !== undefined ? `#example=${names[index]}${more}` : null);
-  return { before: to(at - 1), all: more === "" ? ["#ask", "All questions"] : ["#judge", "All runs"], next: to(at + 1) };
+  const to = (index) => (at >= 0 && names[index] !== undefined ? `#example=${names[index]}${suffix}` : null);
+  return { before: to(at - 1), all: suffix === "" ? ["#ask", "All questions"] : ["#judge", "All runs"], next: to(at + 1) };
 }
 
-function drawSeedBox(seed, more) {
+function drawSeedBox(seed, suffix) {
   const { kind, number } = partsOfSeed(seed);
   byId("seed-number").textContent = number;
   if (document.activeElement !== byId("seed-input")) byId("seed-input").value = number;
-  byId("seed-another").href = `#seed=${anotherSeed(seed, kind)}${more}`;
+  byId("seed-another").href = `#seed=${anotherSeed(seed, kind)}${suffix}`;
   byId("seed-judge").href = `#seed=${seed}&judge`;
-  byId("seed-judge").hidden = more !== "";
+  byId("seed-judge").hidden = suffix !== "";
   byId("seed-open").onclick = () => {
     const wanted = Number(byId("seed-input").value);
-    if (wanted > 0) location.hash = `#seed=${seedOf(kind, wanted)}${more}`;
+    if (wanted > 0) location.hash = `#seed=${seedOf(kind, wanted)}${suffix}`;
   };
 }
 

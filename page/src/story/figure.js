@@ -8,14 +8,14 @@ import { LiveRun } from "./live_run.js";
 const BIT = 300; // milliseconds between two steps of one press
 const BETWEEN = 450; // and between two presses that the page makes
 const sleep = (time) => new Promise((done) => setTimeout(done, time));
-const drawn = { count: 0 };
+const made = { count: 0 };
 const tellBusy = (isBusy) => (document.body.dataset.busy = isBusy ? "yes" : "no");
 
 // A spec describes a run, the `calls` of each thread, the threads with a button (`shown`), and the parts beside the list.
 export const STILL = { dock: false, names: true, strip: true, talk: false, again: false }; // of a run that is made elsewhere
 
 export class Figure {
-  id = `f${drawn.count++}`;
+  id = `f${made.count++}`;
   active = 0; // the thread that runs to a line of the code
   past = []; // what stood there before each deed
   isBusy = false; // steps are being shown

@@ -11,41 +11,40 @@ import { toSlide } from "./slide.js";
 
 // The address names a screen and its part: #story=4 is the first part of screen 4, #story=4.2 the next.
 const placeIn = ({ id }) => {
-  const [number, part = "1"] = id.split(".");
-  return { number: Math.max(1, Math.min(LAST, Number(number) || 1)), part: Number(part) };
+  const [number, at = "1"] = id.split(".");
+  return { number: Math.max(1, Math.min(LAST, Number(number) || 1)), at: Number(at) };
 };
 const partsOf = (number) => {
   const screen = SCREENS[number - 1];
   return screen === undefined ? [null] : [screen, ...(screen.parts ?? []).map((one) => ({ id: screen.id, ...one }))];
 };
 const screenOf = (place) => {
-  const { number, part } = placeIn(place);
-  return partsOf(number)[part - 1];
+  const { number, at } = placeIn(place);
+  return partsOf(number)[at - 1];
 };
 const here = () => screenOf(now.place);
-const isLastPart = ({ number, part }) => part === partsOf(number).length;
+const isLastPart = ({ number, at }) => at === partsOf(number).length;
 
-function nextOf({ number, part }, by) {
-  if (by > 0) return isLastPart({ number, part }) ? `${number + 1}` : `${number}.${part + 1}`;
-  if (part > 1) return part === 2 ? `${number}` : `${number}.${part - 1}`;
+function nextOf({ number, at }, by) {
+  if (by > 0) return isLastPart({ number, at }) ? `${number + 1}` : `${number}.${at + 1}`;
+  if (at > 1) return at === 2 ? `${number}` : `${number}.${at - 1}`;
   return partsOf(number - 1).length > 1 ? `${number - 1}.${partsOf(number - 1).length}` : `${number - 1}`;
 }
 
 function goBy(by) {
-  const at = placeIn(now.place);
   if (now.place.slide > 0) return toSlide(by); // a slide has the first part alone
-  location.hash = `#story=${nextOf(at, by)}`;
+  location.hash = `#story=${nextOf(placeIn(now.place), by)}`;
 }
 
 function html(place) {
-  const { number, part } = placeIn(place);
+  const { number, at } = placeIn(place);
   const { done } = keptStory();
   const screen = screenOf(place);
   const path = dots(number, done) + (place.given.gone === "yes" ? GONE : place.given.back === "yes" ? welcome(done) : "");
   if (screen === null) return path + endHtml(done);
   const question = head("", screen.question, `<p class="prose">${screen.prose}</p>`);
   const isFirst = number === 1;
-  return path + onStage(isFirst ? `<div class="two">${HERO}${question}</div>` : question, isFirst ? "first" : "") + barHtml(number, part);
+  return path + onStage(isFirst ? `<div class="two">${HERO}${question}</div>` : question, isFirst ? "first" : "") + barHtml(number, at);
 }
 
 function begin(place) {
@@ -158,7 +157,7 @@ async function showMe() {
 }
 
 function press(event) {
-  const { number, part: at } = placeIn(now.place);
+  const { number, at } = placeIn(now.place);
   const { stage } = now.scene;
   if (event.key === "ArrowLeft" && (number > 1 || at > 1)) return goBy(-1);
   if (["ArrowRight", "PageDown"].includes(event.key) && number < LAST) return stage === "done" && goBy(1);
@@ -191,8 +190,8 @@ function takeBack() {
 
 const isPlace = ({ id }) => {
   if (!/^(\d+(\.\d)?)?$/.test(id) || Number(id.split(".")[0]) > LAST) return false;
-  const { number, part } = placeIn({ id });
-  return part >= 1 && part <= partsOf(number).length;
+  const { number, at } = placeIn({ id });
+  return at >= 1 && at <= partsOf(number).length;
 };
 
 export const pathView = {
