@@ -12,7 +12,7 @@ const NOTHING = { at: 1, done: {}, asks: {}, student: "", number: "", homework: 
 /** @returns {{ at: number, done: Record<string, boolean>, asks: Record<string, string>, student: string, number: string, homework: any }} */
 export const keptStory = () => ({ ...NOTHING, ...keptUnder(STORY) });
 export const keepStory = (change) => keepUnder(STORY, { ...keptStory(), ...change });
-// Of each run and level the line of the order that was right.
+// The lines of orders that were right, by run and level.
 const JUDGED = "listset-judged";
 export const judgedLines = () => Object.fromEntries(textsKept(keptUnder(JUDGED)));
 export const keepJudged = (run, line) => keepUnder(JUDGED, { ...keptUnder(JUDGED), [run]: line });

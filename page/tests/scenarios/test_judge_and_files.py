@@ -1,10 +1,18 @@
 """Judge, Compare, files, and what is told of wrong ones."""
 
+from test_stage import fit
+
 
 def test_what_is_missing_of_a_call_is_told(visitor):
     visitor.open("#example=snip&judge")
     visitor.click("#judge-ask")
     assert "point" in visitor.text("#judge-verdict") and "reply" in visitor.text("#judge-verdict")
+
+
+def test_the_button_that_judges_is_in_sight(visitor):
+    fit(visitor, 1280, 720)
+    visitor.open("#example=snip&judge")
+    assert visitor.in_window("#judge-ask")
 
 
 def test_points_by_keys_keep_the_focus(visitor):
