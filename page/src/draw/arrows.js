@@ -18,6 +18,7 @@ function pathOf(from, to, places, isMarked) {
   if (to.aside) return curve(x, y, x, y + 50, to.x - 30, to.y + to.key / 2, to.x - 5, to.y + to.key / 2);
   const [tx, ty] = [to.x + Math.min(26, to.width / 2), to.y + to.row + 5];
   if (from.aside && y < ty) return curve(x, y, x + 10, ty + 48, tx, ty + 48, tx, ty); // in a gap of the chain: below the nodes on the way
+  if (from.aside && tx < x + 30) return curve(x, y, x, y - 40, tx, ty + 40, tx, ty); // straight up
   const isOver = Object.values(places).some((one) => one.aside && one !== from && one.x > from.x && one.x < tx);
   if (isOver) return curve(x, y, x + 16, y - 96, tx, ty + 56, tx, ty);
   return curve(x, y, Math.max(x + 50, tx - 60), y, tx, ty + 46, tx, ty);
