@@ -141,8 +141,11 @@ async function passed(bytes, stream) {
 async function engineModule() {
   if (typeof DecompressionStream === "undefined")
     return WebAssembly.compile(await (await fetch("listset.wasm")).arrayBuffer());
-  if (typeof ENGINE === "undefined")
+  if (typeof ENGINE === "undefined") {
+    if (document.readyState !== "complete")
+      await new Promise((done) => window.addEventListener("load", done, { once: true }));
     await loadScript("engine.js");
+  }
   return WebAssembly.compile(await passed(bytesOf(ENGINE), new DecompressionStream("gzip")));
 }
 function loadScript(src) {

@@ -103,7 +103,10 @@ export const bytesOf = (base64) => Uint8Array.from(atob(base64), (letter) => let
 // Compiles the module: its bytes are packed in engine.js, a third of listset.wasm. A browser that cannot unpack fetches them as they are.
 async function engineModule() {
   if (typeof DecompressionStream === "undefined") return WebAssembly.compile(await (await fetch("listset.wasm")).arrayBuffer());
-  if (typeof ENGINE === "undefined") await loadScript("engine.js");
+  if (typeof ENGINE === "undefined") {
+    if (document.readyState !== "complete") await new Promise((done) => window.addEventListener("load", done, { once: true })); // the page does not wait for it
+    await loadScript("engine.js");
+  }
   return WebAssembly.compile(await passed(bytesOf(ENGINE), new DecompressionStream("gzip")));
 }
 export const startEngine = async () => new Engine(await engineModule());
