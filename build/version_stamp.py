@@ -24,7 +24,7 @@ def version():
 
 
 def number():
-    """Returns the version as a number for C: 10203 is the version 1.2.3."""
+    """Returns the version as a number for C: version 1.2.3 becomes 10203."""
     first, second, third = map(int, version().split("."))
     return first * 10_000 + second * 100 + third
 

@@ -238,7 +238,7 @@ def test_programs_in_go_use_sets_and_judge(installed):
 
 
 def in_room(installed):
-    """Returns an environment in which refused recordings are written to the room."""
+    """Returns an environment in which refused recordings are written to the temporary folder of the tests."""
     return {**os.environ, "TMPDIR": str(installed.room)}
 
 

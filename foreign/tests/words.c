@@ -14,7 +14,7 @@ static int value_count;
 static bool is_on;
 static const char *options[3];
 
-// Returns what the program prints for a recording: the verdict, and the diagnosis below a refusal.
+// Returns what the program prints for a recording: the verdict and, if it is a refusal, the diagnosis below it.
 static size_t judge_and_why(const char *text, size_t length, char *to, size_t size, uint8_t *status) {
   uint8_t of_why;
   size_t said = listset_judge(text, length, to, size, status);

@@ -168,8 +168,8 @@ func proofIn(version string) string {
 	return "proof unknown"
 }
 
-// ran runs a command. It returns the status, 127 if the command cannot be run, and the output, or the error output if
-// there is no other.
+// ran runs a command. It returns the exit status (127 if the command cannot be run) and the output, or the error output
+// if there is no output.
 func ran(words []string, shown io.Writer) (int, string) {
 	var out, errs bytes.Buffer
 	made := exec.Command(words[0], words[1:]...)

@@ -48,7 +48,7 @@ fn each_list_keeps_what_its_threads_put_in() {
             let split = seats[0].split().unwrap();
             seats.push(split);
         }
-        // Several threads in ceilings of this list can wait for a remove that nobody makes.
+        // With this list, several threads inside `ceiling` calls can wait for a `remove` that no thread ever makes.
         let kinds = if list == List::LockFree { 3 } else { 4 };
         let left: BTreeSet<u32> = scope(|threads| {
             let run = |(thread, seat)| threads.spawn(move || calls_of(seat, thread, kinds));

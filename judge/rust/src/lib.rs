@@ -52,7 +52,7 @@ pub struct Options {
     /// The percentage of calls before which a thread pauses, for at most a few microseconds: 0 to 100. Unless it is 0,
     /// threads in a process of the set's own are also stopped during calls, by the signal SIGURG.
     pub pauses: u32,
-    /// The number of runs: 1 to 1,000,000. A run calls one set, or several new sets one after another. Run `i` has the
+    /// The number of runs: 1 to 1,000,000. A run uses one set, or several new sets one after another. Run `i` uses the
     /// seed `seed + i`.
     pub runs: u32,
     /// The seed of the calls, keys and pauses of the first run.

@@ -36,7 +36,7 @@ function html(place) {
     <p id="scene-told" role="status"></p><div id="sides-pictures"></div></section>
     <footer class="foot"><button class="quiet" data-do="back" aria-label="one turn back">◂</button>
       <input id="sides-slider" type="range" min="0" value="0" aria-label="turn"> <span id="sides-where" class="small"></span> <span id="sides-turns"></span>
-      <button class="quiet" id="sides-lecture" data-do="lecture" title="show this as one slide for a lecture hall; Escape leads back">Lecture view</button></footer>`;
+      <button class="quiet" id="sides-lecture" data-do="lecture" title="show this as a single lecture slide; press Escape to go back">Lecture view</button></footer>`;
 }
 
 function begin({ given }) {

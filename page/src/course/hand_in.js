@@ -75,7 +75,7 @@ export function textsIn(text) {
   return found;
 }
 
-// Tests of folded lines: whether a line begins a part, whether a part is incomplete, and whether a line can continue it.
+// Predicates for folded lines: whether a line begins a part, whether a part is incomplete, and whether a line can continue it.
 const isBegin = (line) => /^(student|course|assignment|judge|break) /.test(line) || /^[a-z][a-z0-9-]* +(\S*#|<?https?:)/.test(line);
 const lacksWords = (line) =>
   /^judge /.test(line) ? line.split(" ").length < 4 : !/^(student|course|assignment) /.test(line) && !line.includes("#");

@@ -22,7 +22,7 @@ export const askList = (ask, name, lacks, text) =>
 
 export const startOfLacking = (name) => scheduleText({ list: LACKING[name], threads: 2, quota: 2, opening: [3, 7] });
 
-// Returns the verdict on a schedule's run: `broken`; `points`, if only its own order is refused; `explained`; or `refused`.
+// Returns the verdict on a schedule's run: `broken`; `points`, if only the order of the run's own points is refused; `explained`; or `refused`.
 export function verdictOnLacking(ask, lacks, schedule) {
   const { status, text } = askList(ask, "listset_replay", lacks, schedule);
   if (status !== 0) return { kind: "refused", says: `The schedule is refused: ${text.trim()}`, report: null };

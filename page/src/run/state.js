@@ -1,4 +1,4 @@
-// The memory words, the threads and the chain after a number of events, as the lines of the trace say.
+// The memory words, the threads and the chain after a number of events, as recorded in the trace.
 import { firstOpeningNode } from "./trace.js";
 
 // A call that has just begun: the row that it made last (`came`, 0: none), and its registers.

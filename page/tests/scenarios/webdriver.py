@@ -165,7 +165,7 @@ class Browser:
         self.at.command("size", {"width": width, "height": height})
 
     def devtools(self, name, **given):
-        """Sends a command of Chromium's DevTools protocol. Does nothing in other browsers."""
+        """Sends a Chrome DevTools Protocol command. Does nothing in other browsers."""
         if self.name == "chromium":
             self.at.command("devtools", {"cmd": name, "params": given})
 
