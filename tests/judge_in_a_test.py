@@ -218,7 +218,7 @@ def test_calls_before_a_crash_or_a_hang_are_judged(form, program, of):
 
 @each(LANGUAGES)
 def test_a_right_set_that_throws_again_and_again_is_not_refused(form, program):
-    """The other threads still make calls while the run is recorded, if all are in one process."""
+    """In Java and Go, threads of one process can still make calls while the run is recorded."""
     tests = 5 if form.language == "Python" else 25
     for how in ("pauses=0", "pauses=20"):
         _, said = form.told(program, "throws", f"threads=4 calls=1000 keys=4 own_process=0 {how}", TESTS=str(tests))
