@@ -168,7 +168,7 @@ def test_tests_without_their_tool_are_listed_and_do_not_pass(room):
     how = {"cwd": TOP, "env": {**os.environ, "TMPDIR": str(room), "PATH": str(bare_path(room / "path", "git", "gcc"))}}
     listed = well(sys.executable, "-c", NOT_RUN, **how)
     for tool, what in {"go": "tests are skipped", "mvn": "tests are skipped", "node": "not run: the step 'page in node'", "wasm-opt": "not run: whether the page's module"}.items():
-        assert re.search(rf"^{tool} is not installed: Debian's package .*; .*{what}", listed, re.M), listed
+        assert re.search(rf"^{tool} is not installed: Debian's packages? .*; .*{what}", listed, re.M), listed
     assert not re.search("^gcc is not", listed, re.M)
     wants(ran(TOP / "page/test", "--node", **how), status=1, output="", tells=["node is missing, and nothing was tried: Debian's package nodejs"])
     for word, status in (("--rows", 1), ("--partly", 0)):
