@@ -66,6 +66,9 @@ inline said of_text(listset_function *function, std::string_view given) {
 inline said replay(std::string_view schedule) { return of_text(listset_replay, schedule); }
 /// Judges a recording. Returns `ok N calls` if some order explains its calls, otherwise calls that show that none does.
 inline said judge_text(std::string_view recording) { return of_text(listset_judge, recording); }
+/// Returns a diagnosis of a recording that `judge_text` refuses, with LISTSET_WRONG_TEXT: calls that show the error, which operation is
+/// wrong and how often, and a likely cause. Returns an empty text if some order explains the recording or the text is no recording.
+inline said why(std::string_view recording) { return of_text(listset_why, recording); }
 /// Returns `ok` if the order of a report explains its calls, otherwise the first error.
 inline said check(std::string_view report) { return of_text(listset_check, report); }
 /// Returns the schedule of a draft.

@@ -41,7 +41,7 @@ import time
 
 __all__ = ["Added", "Fault", "Full", "LISTS", "OwnSeat", "Receipt", "RenewedSet", "Seat", "Shared", "TimedOut", "Wrong", "broken_example", "check",
            "draft", "example", "examples", "faults", "gen", "judge_file", "judge_text", "most_reads", "open_set", "renew", "replay", "show",
-           "trace", "version"]  # fmt: skip
+           "trace", "version", "why"]  # fmt: skip
 
 HERE = pathlib.Path(__file__).resolve().parent
 PLACES = [HERE, HERE / "out" / "lib", HERE.parent.parent / "lib", pathlib.Path("/usr/lib")]
@@ -132,6 +132,15 @@ def judge_file(path):
     with builtins.open(path, "rb") as file:
         length = function(ctypes.c_int32(file.fileno()), room, ctypes.c_size_t(len(room)), ctypes.byref(status))
     return room.raw[:length].decode(errors="replace"), status.value
+
+
+def why(recording):
+    """Returns a diagnosis of a recording that `judge_text` refuses: calls that show the error, which operation is wrong and how often, and a
+    likely cause. Returns an empty text if some order explains the recording or the text is no recording."""
+    diagnosis, status = said("why", _bytes(recording))
+    if status > 1:
+        raise Wrong(diagnosis.decode(), status)
+    return diagnosis.decode()
 
 
 def check(report):

@@ -45,6 +45,9 @@ static void expect_judged() {
   expect(right.is_ok() && begins(right.text, "ok 2 calls\n"), "judged");
   listset::said refused = listset::judge_text(calls + "end\n");
   expect(refused.status == LISTSET_WRONG_TEXT && begins(refused.text, "not linearizable\n"), "judged without a key");
+  const listset::said diagnosis = listset::why(calls + "end\n");
+  expect(diagnosis.status == LISTSET_WRONG_TEXT && has(diagnosis, "5") && !begins(diagnosis.text, "not"), "a diagnosis");
+  for (const char *end : {"key 5\nend\n", "ends\n"}) expect(listset::why(calls + end).is_ok() && listset::why(calls + end).text.empty(), "no diagnosis");
   listset::said wrong = listset::judge_text(calls + "ends\n");
   expect(wrong.status == LISTSET_WRONG_TEXT && wrong.text == "listset: line 4: Line\n", "judged with a wrong line");
 }

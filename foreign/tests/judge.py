@@ -60,6 +60,7 @@ def judges_a_recording():
         raise AssertionError("a key is left out")
     except listset.Wrong as fault:
         assert fault.status == 1 and fault.text.startswith("not linearizable\n") and fault.line is fault.cause is None, fault
+    assert "5" in listset.why(recording.replace("key 5\n", "")) and listset.why(recording) == listset.why("nothing") == ""
     try:
         listset.judge_text(recording.replace("contains", "finds"))
         raise AssertionError("a line is wrong")

@@ -11,6 +11,7 @@ type OfTwoTexts = unsafe extern "C" fn(*const u8, usize, *const u8, usize, *mut 
 extern "C" {
     pub fn listset_replay(text: *const u8, length: usize, room: *mut u8, size: usize, status: *mut u8) -> usize;
     pub fn listset_judge(text: *const u8, length: usize, room: *mut u8, size: usize, status: *mut u8) -> usize;
+    pub fn listset_why(text: *const u8, length: usize, room: *mut u8, size: usize, status: *mut u8) -> usize;
     pub fn listset_check(text: *const u8, length: usize, room: *mut u8, size: usize, status: *mut u8) -> usize;
     pub fn listset_trace(text: *const u8, length: usize, room: *mut u8, size: usize, status: *mut u8) -> usize;
     pub fn listset_trace_with_chains(text: *const u8, length: usize, room: *mut u8, size: usize, status: *mut u8) -> usize;

@@ -73,6 +73,15 @@ pub fn judge_text(recording: impl AsRef<[u8]>) -> Result<String, Wrong> {
     of_text(calls::listset_judge, recording.as_ref())
 }
 
+/// Returns a diagnosis of a recording that [`judge_text`] refuses: calls that show the error, which operation is wrong and how often, and a
+/// likely cause. Returns an empty text if some order explains the recording or the text is no recording.
+pub fn why(recording: impl AsRef<[u8]>) -> Result<String, Wrong> {
+    match of_text(calls::listset_why, recording.as_ref()) {
+        Err(wrong) if wrong.status == 1 => Ok(wrong.text),
+        other => other,
+    }
+}
+
 /// Checks a report. Returns its first error if its order does not explain its calls.
 pub fn check(report: impl AsRef<[u8]>) -> Result<(), Wrong> {
     of_text(calls::listset_check, report.as_ref()).map(|_| ())

@@ -76,6 +76,8 @@ fn a_recording_is_judged() {
     assert!(judge_text(RECORDING).unwrap().starts_with("ok 2 calls\n"));
     let refused = judge_text(RECORDING.replace("key 5\n", "")).unwrap_err();
     assert!(refused.status == 1 && refused.text.starts_with("not linearizable\n"), "{refused}");
+    assert!(why(RECORDING.replace("key 5\n", "")).unwrap().contains('5'));
+    assert_eq!((why(RECORDING), why("nothing")), (Ok(String::new()), Ok(String::new())));
     let wrong = judge_text(RECORDING.replace("calls 1", "calls 2")).unwrap_err();
     assert_eq!((wrong.status, wrong.text.as_str()), (1, "listset: line 1: Header\n"));
 }
