@@ -3,12 +3,27 @@
 
 const fs = require("fs");
 const path = require("path");
+const { Duplex } = require("stream");
 const vm = require("vm");
+const zlib = require("zlib");
 
 const NO_ENGINE = 70; // the status of a tool that has none
 const NOT_RUN = "this node does not run the WebAssembly module; version 18 does";
 
 const bundle = { names: null };
+
+// Version 18 has no global `crypto`, and its streams do not know the format of a course in a link: those of zlib do.
+globalThis.crypto ??= require("crypto").webcrypto;
+try {
+  new CompressionStream("deflate-raw");
+} catch {
+  globalThis.CompressionStream = function () {
+    return Duplex.toWeb(zlib.createDeflateRaw());
+  };
+  globalThis.DecompressionStream = function (format) {
+    return Duplex.toWeb(format === "gzip" ? zlib.createGunzip() : zlib.createInflateRaw());
+  };
+}
 
 // What some words mean in the page: a name that a module exports, or an expression of such names.
 function inPage(words) {

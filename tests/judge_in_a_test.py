@@ -375,7 +375,7 @@ def test_an_error_without_a_verdict_is_one_sentence(form, program):
         kind, said = form.told(program, "right", f"calls=99 runs=1 {how}")
         assert kind == "none" and due in said, said
     kind, said = form.told(program, "not made", FEW)
-    assert kind == "none" and re.search("the set could not be created: .*no room", said), said
+    assert kind == "none" and re.search("the set could not be created: (?:.*\n){0,2}.*no room", said), said
     for name, text in (("LISTSET_SECONDS", "soon"), ("LISTSET_SECONDS", "0"), ("LISTSET_SEED", "4294967296")):
         kind, said = form.told(program, "right", FEW, **{name: text})
         assert kind == "none" and f"the variable {name} is {text}, but must be a number from " in said, said

@@ -44,6 +44,7 @@ def is_count(calls, opening, keys, lines):
     return None if " more " in named else not any(ways_left([*counted, *backs], state) & finals for state in openings)
 
 
+@pytest.mark.needs("node")
 def test_the_program_prints_what_the_engine_in_node_prints(program, path, few):
     for calls, opening, keys in recordings(11, 10 if few else 80):
         path.write_text(text_of(calls, opening, keys))

@@ -60,20 +60,20 @@ impl Neighbours {
         until: u64,
         operation: Option<Operation>,
     ) -> bool {
-        self.has(since, until, |call: Made| {
-            call.key != key && operation.is_none_or(|operation| operation == call.operation)
-        })
+        let sought = match operation {
+            None => Sought::OfOtherKey,
+            Some(operation) => Sought::OfOtherKeyBy(operation),
+        };
+        self.has(key, since, until, sought)
     }
 
     /// Returns whether a completed remove of a smaller key overlaps the time from `since` to `until`.
     pub(crate) fn unlink_below(&self, key: u32, since: u64, until: u64) -> bool {
-        self.has(since, until, |call: Made| {
-            call.key < key && call.operation == Operation::Remove
-        })
+        self.has(key, since, until, Sought::RemoveOfSmallerKey)
     }
 
-    /// Returns whether a completed change that is meant overlaps the time from `since` to `until`.
-    fn has<F: Fn(Made) -> bool + Drop>(&self, since: u64, until: u64, is_meant: F) -> bool {
+    /// Returns whether a completed change that is sought overlaps the time from `since` to `until`.
+    fn has(&self, key: u32, since: u64, until: u64, sought: Sought) -> bool {
         let end = self.changes.partition_point(|call| call.begun <= until);
         let changes = self.changes.get(..end).unwrap_or(&[]);
         let latest = self.latest.get(..end).unwrap_or(&[]);
@@ -81,10 +81,29 @@ impl Neighbours {
             if *last < since {
                 return false;
             }
-            if call.ended >= since && is_meant(*call) {
+            if call.ended >= since && sought.includes(call, key) {
                 return true;
             }
         }
         false
+    }
+}
+
+/// The changes that a search looks for, beside a change of one key.
+#[derive(Clone, Copy)]
+enum Sought {
+    OfOtherKey,
+    OfOtherKeyBy(Operation),
+    RemoveOfSmallerKey,
+}
+
+impl Sought {
+    /// Returns whether a search beside a change of `key` looks for this call.
+    fn includes(self, call: &Made, key: u32) -> bool {
+        match self {
+            Sought::OfOtherKey => call.key != key,
+            Sought::OfOtherKeyBy(operation) => call.key != key && call.operation == operation,
+            Sought::RemoveOfSmallerKey => call.key < key && call.operation == Operation::Remove,
+        }
     }
 }
