@@ -438,6 +438,8 @@ const OF_WHY = [
   [/^fact the first contradiction of the run: the calls of key (\d+) up to moment (\d+)$/, (it, [key, moment]) =>
     !hasOrder(ofKey(it, Number(key)).filter(({ begun }) => begun <= Number(moment)), Number(key), opens(it, Number(key)))],
   [/^(?:fact|because) at (\d+) of (\d+) no two calls overlapped(?:: perhaps one thread alone is enough)?$/, (it, [some, all]) => Number(some) <= Number(all) && isWrongAlone(it)],
+  [/^because (\d+) of (\d+) are two calls that both returned true$/, (it, [some, all]) => Number(some) <= Number(all) &&
+    it.calls.some((one) => isChange(one) && one.reply === "true" && it.calls.some((two) => two !== one && two.key === one.key && two.operation === one.operation && two.reply === "true"))],
   [/^likely (.*)$/, (it, found, why) => why.because.length === 1],
   [/^because an? (add|remove) of the key was still running at the wrong answer$/, (it, [operation], { told }) => told !== null && told.wrong.some((call) => runsBeside(it, call, operation))],
   [/^because (?:it (?:only )?finds absent keys, and )?at (\d+) of (?:the )?(\d+) (?:wrong answers|of these answers) an? (add|remove) of the key (?:was still running|still ran)$/,
