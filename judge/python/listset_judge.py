@@ -40,6 +40,7 @@ from typing import Any, Callable
 __all__ = ["CutShort", "Failed", "NoVerdict", "NotLinearizable", "TooFew", "Verdict", "judge"]
 
 GOING, ENDED, UNMADE = range(3)
+MOST_ASKED = 100  # how often `contains` of a key is called at the beginning and at the end, while its outcome is unknown
 WORDS = ADD, REMOVE, CONTAINS = "add", "remove", "contains"
 NO, YES, UNKNOWN = range(3)
 FIRST_LINE = "listset-calls 1\n"
@@ -519,10 +520,12 @@ class Run:
             raise
 
     def lines_of_keys(self, word, one):
-        """Calls `contains` for each key. Returns a line for each key found."""
+        """Calls `contains` for each key, again while its outcome is unknown. Returns a line for each key found."""
         first, lines = one // self.parts * self.shape.keys, []
         for number in range(self.shape.keys):
-            if self.replies_of[2](self.how.key_of(number, self.shape)):
+            key = self.how.key_of(number, self.shape)
+            replies = (self.replies_of[2](key) for _ in range(MOST_ASKED))
+            if next((it for it in replies if it is not None), False):
                 lines.append(f"{word} {first + number}\n")
             self.count(self.shape.threads, first + number)
         return lines

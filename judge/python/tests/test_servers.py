@@ -132,7 +132,7 @@ class OfRedis(unittest.TestCase):
         self.assertGreater(verdict.overlapped, 0)
         print(verdict)
         with self.assertRaises(listset_judge.NotLinearizable) as refused:
-            listset_judge.judge(lambda: Again(self.port, seconds=0.05), **{**late, "runs": 20})
+            listset_judge.judge(lambda: Again(self.port, seconds=0.05), **{**late, "runs": 100})
         print(refused.exception)
 
 
