@@ -457,11 +457,17 @@ template <class Make, class K> struct maker {
         if (how.ends) how.ends();
     }
 
-    // Calls `contains` for each key. Returns a line for each key found.
+    // How often `contains` of a key is called at the beginning and at the end, while its outcome is unknown.
+    static constexpr unsigned MOST_ASKED = 100;
+
+    // Calls `contains` for each key, again while its outcome is unknown. Returns a line for each key found.
     std::string lines_of_keys(area &run, const char *word, unsigned round) {
         std::string lines;
-        for (unsigned key = 0; key < run.of.keys; key++, run.tickets++)
-            if (contains(*set, keys[key]) == reply::yes) lines += word + std::to_string(round / run.parts * run.of.keys + key) + "\n";
+        for (unsigned key = 0; key < run.of.keys; key++, run.tickets++) {
+            reply found = reply::unknown;
+            for (unsigned asked = 0; found == reply::unknown && asked < MOST_ASKED; asked++) found = contains(*set, keys[key]);
+            if (found == reply::yes) lines += word + std::to_string(round / run.parts * run.of.keys + key) + "\n";
+        }
         return lines;
     }
 

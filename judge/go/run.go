@@ -291,10 +291,17 @@ func (a *area) number(key int) uint32 {
 	return uint32(key * a.times)
 }
 
-// linesOfKeys calls Contains for each key, and returns a line for each key found.
+// mostAsked is how often Contains of a key is called at the beginning and at the end, while its outcome is unknown.
+const mostAsked = 100
+
+// linesOfKeys calls Contains for each key, again while its outcome is unknown, and returns a line for each key found.
 func (a *area) linesOfKeys(word string, set Set, round int) (lines string) {
 	for key := 0; key < a.keys; key++ {
-		if reply(set, 2, a.number(key)) == yes {
+		found := uint32(unknown)
+		for asked := 0; found == unknown && asked < mostAsked; asked++ {
+			found = reply(set, 2, a.number(key))
+		}
+		if found == yes {
 			lines += fmt.Sprintf("%s %d\n", word, round/a.parts()*a.keys+key)
 		}
 		atomic.AddUint32(&a.tickets, 1)

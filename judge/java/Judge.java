@@ -547,6 +547,8 @@ public final class Judge {
 
     /** The threads of a run, and the set that they call. */
     private record Play<S, K>(Area area, Calls<S, K> calls, Shape of, AtomicReference<S> set) {
+        private static final int MOST_ASKED = 100; // how often contains of a key is called at the beginning and at the end, while its outcome is unknown
+
         void all(boolean interrupts) {
             List<Thread> threads = new ArrayList<>();
             for (int i = 0; i < of.threads; i++) {
@@ -630,12 +632,14 @@ public final class Judge {
             area.write(left + "end\n");
         }
 
-        /** Calls contains for each key. Returns a line for each key found. */
+        /** Calls contains for each key, again while its outcome is unknown. Returns a line for each key found. */
         private String linesOfKeys(String word, int round) {
             StringBuilder lines = new StringBuilder();
             for (int key = 0; key < of.keys; key++, area.next(Area.TICKETS)) {
                 int number = round / of.parts() * of.keys + key;
-                if (calls.reply(set.get(), 2, calls.key(key, of.times)) == Calls.YES) lines.append(word).append(number).append('\n');
+                int reply = Calls.UNKNOWN;
+                for (int asked = 0; reply == Calls.UNKNOWN && asked < MOST_ASKED; asked++) reply = calls.reply(set.get(), 2, calls.key(key, of.times));
+                if (reply == Calls.YES) lines.append(word).append(number).append('\n');
             }
             return lines.toString();
         }

@@ -272,6 +272,9 @@ impl Area {
     }
 }
 
+/// How often `contains` of a key is called at the beginning and at the end, while its outcome is unknown.
+const MOST_ASKED: u32 = 100;
+
 /// The calls of one set.
 struct Play<'a, S> {
     area: &'a Area,
@@ -315,11 +318,11 @@ impl<S: Sync> Play<'_, S> {
         left
     }
 
-    /// Calls `contains` for each key. Returns a line for each key found.
+    /// Calls `contains` for each key, again while its outcome is unknown. Returns a line for each key found.
     fn lines_of_keys(&self, word: &str) -> String {
         let is_there = |key: &u32| {
             self.area.next(At::Tickets);
-            (self.reply)(self.set, 2, key * self.of.times) == Some(true)
+            (0..MOST_ASKED).find_map(|_| (self.reply)(self.set, 2, key * self.of.times)) == Some(true)
         };
         (0..self.of.keys).filter(is_there).map(|key| format!("{word} {}\n", self.one * self.of.keys + key)).collect()
     }
