@@ -278,8 +278,8 @@ print_as_called() {
   [ -z "$text" ] || printf '%s\n' "$text"
 }
 
-# Prints a hint for an error of the program with these arguments, or for a refusal, of which the program says nothing on
-# standard error.
+# Prints a hint for an error of the program with these arguments, or for a refusal. A refusal prints nothing on standard
+# error.
 explain_error() {
   local said=$1 word number
   shift

@@ -129,7 +129,7 @@ static void reads_and_receipts(uint8_t kind) {
   expect("a receipt of another set", listset_after(&other, &first), LISTSET_NO_GATHER);
   expect("take it", listset_after(&a, &first), LISTSET_OK);
   expect("take it again", listset_after(&a, &first), LISTSET_NONE_THERE);
-  expect("the set goes on", listset_add(&a, 7).is, LISTSET_TRUE);
+  expect("the set still takes calls", listset_add(&a, 7).is, LISTSET_TRUE);
   uint32_t all = 0;
   expect("seats within", listset_seats_within(&a, &all), 1);
   expect("of two", all, 2);
@@ -172,7 +172,7 @@ static void refused_renewals(uint8_t kind) {
   expect("keys", listset_keys(&seats[0], room, 8), 4);
   expect("are those", memcmp(room, LEFT, sizeof LEFT), 0);
   expect("renew a closed set", listset_renew(seats, 5, kind, 1, 1, 1), LISTSET_OK);
-  expect("it goes on", listset_contains(&seats[0], 3).is, LISTSET_TRUE);
+  expect("it still takes calls", listset_contains(&seats[0], 3).is, LISTSET_TRUE);
   listset_drop(&seats[0]);
 }
 
