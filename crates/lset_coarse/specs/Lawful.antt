@@ -1,4 +1,4 @@
--- The law of every run of CoarseList.
+-- Proof of the law of every run of CoarseList.
 pub mod Outline
 use Rattle.lset_steps.specs.Laws.{Lawful}
 use Rattle.lset_steps.proofs.Discipline.{lawful_of}

@@ -1,4 +1,4 @@
-//! CoarseList: one lock for the whole list (Herlihy and Shavit's coarse-grained list).
+//! CoarseList: a single lock for the whole list (Herlihy and Shavit's coarse-grained list).
 #![tactic(auto)]
 
 ghost use Rattle.std.specs.Prelude.{◌≡◌};
@@ -11,7 +11,7 @@ use lset_steps::rows::{Targets, begun, decide, key_index, link_index, own_slot};
 use lset_steps::{Action, Fed, Local, Machine};
 use lset_words::{Call, HEAD, Key, Kind, LOCK, Reply};
 
-/// The list with one lock for all of it (Herlihy and Shavit's coarse-grained list).
+/// The list with a single lock for all its nodes (Herlihy and Shavit's coarse-grained list).
 #[derive(Clone, Copy)]
 pub struct CoarseList;
 
@@ -22,8 +22,8 @@ const TARGETS: Targets = Targets {
     leaves: 10,
 };
 
-/// Returns the next step of a thread with a pending call, by its row of the table. Its numbers must be small; they are in every
-/// run.
+/// Returns the next step of a thread with a pending call, from its row of the table. The numbers in `local` must be
+/// small, as they are in every run.
 #[inline(always)]
 pub fn next_action(local: &Local) -> Action
     requires { IsSmall local.now }
@@ -42,8 +42,8 @@ pub fn next_action(local: &Local) -> Action
     }
 }
 
-/// Returns the thread's state after it reads a key word: the walk continues if the word is below the call's key, else the call
-/// decides.
+/// Returns the thread's state after it reads a key word. The walk continues if the key is smaller than the call's;
+/// otherwise the call decides.
 #[inline(always)]
 fn at_key(local: &Local, seen: u64) -> Local
     ensures { result ≡ at_key seen local.now }
@@ -122,7 +122,8 @@ pub fn fed_by(local: &Local, seen: u64) -> Fed
     }
 }
 
-/// Returns the key that the thread's next step adds (`true`) or removes (`false`); `None` if the step does not change the set.
+/// Returns the key that the thread's next step adds (`true`) or removes (`false`), or `None` if the step does not
+/// change the set.
 #[inline(always)]
 pub fn effect_of(local: &Local, _seen: u64) -> Option<(Key, bool)>
     ensures { result ≡ effect_of local.now _seen }

@@ -31,7 +31,8 @@ next_action l =
     else if l.pc == 12 then Store (lock_index l.curr) 0
     else Store (lock_index l.pred) 0
 
--- The row after the key word of curr: the walk continues while the word is below the call's key; then the call decides.
+-- Returns the state after a load of curr's key word. The walk continues while the key is smaller than the call's, then
+-- the call decides.
 abbrev pub at_key : ℕ → Local → Local
 at_key seen l =
     if nat_lt seen (target l.call) then record l { pc = 5; ckey = seen }

@@ -1,4 +1,4 @@
--- The law of every run of FineList.
+-- Proof of the law of every run of FineList.
 pub mod Outline
 use Rattle.std.specs.Prelude.{false}
 use Rattle.lset_steps.specs.Laws.{Lawful}

@@ -13,8 +13,8 @@ use lset_steps::rows::{
 use lset_steps::{Action, Fed, Local, Machine};
 use lset_words::{Call, HEAD, Key, Kind, Reply};
 
-/// The list with a lock in each node. A walk locks the next node before it releases the current one (Herlihy and Shavit's
-/// fine-grained list).
+/// The list with one lock for each node. A walk locks the next node before it releases the current one (Herlihy and
+/// Shavit's fine-grained list).
 #[derive(Clone, Copy)]
 pub struct FineList;
 
@@ -25,8 +25,8 @@ const TARGETS: Targets = Targets {
     leaves: 12,
 };
 
-/// Returns the next step of a thread with a pending call, by its row of the table. Its numbers must be small; they are in every
-/// run.
+/// Returns the next step of a thread with a pending call, from its row of the table. The numbers in `local` must be
+/// small, as they are in every run.
 #[inline(always)]
 pub fn next_action(local: &Local) -> Action
     requires { IsSmall local.now }
@@ -47,8 +47,8 @@ pub fn next_action(local: &Local) -> Action
     }
 }
 
-/// Returns the thread's state after it reads a key word: the walk continues if the word is below the call's key, else the call
-/// decides.
+/// Returns the thread's state after it reads a key word. The walk continues if the key is smaller than the call's;
+/// otherwise the call decides.
 #[inline(always)]
 fn at_key(local: &Local, seen: u64) -> Local
     ensures { result ≡ at_key seen local.now }
@@ -127,7 +127,8 @@ pub fn fed_by(local: &Local, seen: u64) -> Fed
     }
 }
 
-/// Returns the key that the thread's next step adds (`true`) or removes (`false`); `None` if the step does not change the set.
+/// Returns the key that the thread's next step adds (`true`) or removes (`false`), or `None` if the step does not
+/// change the set.
 #[inline(always)]
 pub fn effect_of(local: &Local, _seen: u64) -> Option<(Key, bool)>
     ensures { result ≡ effect_of local.now _seen }

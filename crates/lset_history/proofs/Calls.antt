@@ -1,4 +1,5 @@
--- The calls of a log: facts of each call and of each pair of calls, and which calls exist, at every moment of an account.
+-- The calls of a log at every moment of an account: facts about each call and each pair of calls, and which calls
+-- exist.
 use Rattle.std.proofs.Common.{rules, ◌≡◌, ◌≢◌, ℕ, zero, suc, ◌<◌, ◌≤◌, ◌⊎◌, Bool, true, false, ◌||◌, inl, inr, List, [], ◌∷◌, ◌++◌, map, length}
 use Rattle.std.proofs.Common.{sym, refl, ap, ◌∙◌, arith}
 use Rattle.std.specs.Prelude.{slice_index_or, Option, Some, None, is_some, IfSome, IsSomeAnd, All, AllPairs, if◌then◌else◌}
@@ -17,7 +18,7 @@ use Rattle.lset_history.specs.Placement.{traced_at, no_traced}
 use Rattle.lset_words.specs.Words.{Opening}
 use Rattle.lset_words.proofs.Numbers.{equal_test, unequal_test, same_or_not}
 
--- A RUN: its log, its contents and its counts
+-- A RUN: its log, its contents and its counts.
 pub record Run : Type 1 where
   pub threads : ℕ
   pub quota : ℕ
@@ -29,13 +30,13 @@ abbrev pub run_of : ℕ → ℕ → Log → Contents → Counts → Run
 run_of threads quota log contents counts =
     record { threads = threads; quota = quota; log = log; contents = contents; counts = counts }
 
--- The entry that begins a call
+-- The entry that begins a call.
 pub record Beginning (r : Run) (thread : ℕ) (call : Call) (begun : ℕ) : Type 0 where
   pub before : ℕ
   pub is : begun ≡ suc before
   pub entry : r.log before ≡ began thread call
 
--- The entry that makes the change of a call
+-- The entry at which a call makes its change.
 pub record ChangeAt (r : Run) (thread : ℕ) (call : Call) (begun changed : ℕ) : Type 0 where
   pub before : ℕ
   pub is : changed ≡ suc before
@@ -45,7 +46,7 @@ pub record ChangeAt (r : Run) (thread : ℕ) (call : Call) (begun changed : ℕ)
   pub entry : r.log before ≡ stepped thread (Some change) reply
   pub may : MayChange r.quota (r.counts before thread) call false (Some change)
 
--- The entry that ends a call, after the call's change, with a correct reply
+-- The entry at which a call ends with a correct reply, after its change, if any.
 pub record EndAt (r : Run) (thread : ℕ) (call : Call) (begun : ℕ) (changed : Option ℕ) (end : ℕ) (reply : Reply) : Type 0 where
   pub before : ℕ
   pub is : end ≡ suc before
@@ -55,14 +56,14 @@ pub record EndAt (r : Run) (thread : ℕ) (call : Call) (begun : ℕ) (changed :
   pub after_change : (m : ℕ) → changed ≡ Some m → m ≤ end
   pub right : RightReply (is_some changed) r.quota r.contents r.counts begun end thread call (Some reply)
 
--- The values of the log's recursions for a pending call
+-- The log's recursive functions, and their values for a pending call.
 pub record OpenAt (r : Run) (k thread : ℕ) (call : Call) (begun : ℕ) (changed : Option ℕ) : Type 0 where
   pub is : is_open r.log thread k ≡ true
   pub call_is : last_call r.log thread k ≡ call
   pub begun_is : begun_at r.log thread k ≡ begun
   pub changed_is : has_changed r.log thread k ≡ is_some changed
 
--- THE FACTS OF EACH CALL at moment k
+-- The facts about each call at moment k.
 pub record Traced (r : Run) (k : ℕ) (x : TracedCall) : Type 0 where
   pub of_a_thread : x.thread < r.threads
   pub begins : Beginning r x.thread x.call x.begun
@@ -72,7 +73,7 @@ pub record Traced (r : Run) (k : ℕ) (x : TracedCall) : Type 0 where
   pub ends : (m : ℕ) (reply : Reply) → x.ended ≡ Some (m, reply)
       → (m ≤ k) × EndAt r x.thread x.call x.begun x.changed m reply
 
--- THE FACTS OF TWO CALLS, the first with the smaller number
+-- The facts about two calls if `x` has the smaller number.
 pub record Later (x y : TracedCall) : Type 0 where
   pub begins : x.begun < y.begun
   pub one_thread : x.thread ≡ y.thread → IsSomeAnd x.ended (λ (e : ℕ × Reply). e.0 < y.begun)
@@ -80,26 +81,26 @@ pub record Later (x y : TracedCall) : Type 0 where
 abbrev pub IsOpenOf : ℕ → TracedCall → Type 0
 IsOpenOf t x = (x.thread ≡ t) × (x.ended ≡ None)
 
--- Some call of the list satisfies the predicate.
+-- States that some call in the list satisfies the predicate.
 abbrev pub SomeCall : (TracedCall → Type 0) → List TracedCall → Type 0
 SomeCall P xs = (i : ℕ) × (i < length xs) × P (traced_at xs i)
 
--- A fact of the value of an option, from the fact for each value that it can have
+-- If every value that an option can have satisfies `P`, the option does.
 pub if_some : {A : Type 0} (o : Option A) (P : A → Type 0) → ((x : A) → o ≡ Some x → P x) → IfSome o P
 if_some None P f = tt
 if_some (Some x) P f = f x refl
 
--- THE CALLS THAT EXIST at moment k
+-- States which calls exist at moment k.
 pub record Calls (r : Run) (k : ℕ) (xs : List TracedCall) : Type 0 where
   pub each : All (Traced r k) xs
   pub pairs : AllPairs Later xs
-  -- each pending call of the log is in the list,
+  -- Each pending call of the log is in the list.
   pub opens : (t : ℕ) → is_open r.log t k ≡ true → SomeCall (IsOpenOf t) xs
-  -- and for each change the call that made it
+  -- For each change, the list has the call that made it.
   pub changers : (j t : ℕ) (change : Change) (reply : Option Reply) → j < k → r.log j ≡ stepped t (Some change) reply
       → SomeCall (λ x. x.changed ≡ Some (suc j)) xs
 
--- THE LOG'S RECURSIONS at one entry
+-- ---- How the log's recursive functions change with one entry
 pub open_is : (log : Log) (k : ℕ) (e : Entry) → log k ≡ e → (t : ℕ) → is_open log t (suc k) ≡ open_after e t (is_open log t k)
 open_is log k e at t = rw at refl
 
@@ -107,7 +108,7 @@ pub changed_is : (log : Log) (k : ℕ) (e : Entry) → log k ≡ e → (t : ℕ)
     → has_changed log t (suc k) ≡ changed_after e t (has_changed log t k)
 changed_is log k e at t = rw at refl
 
--- AN ENTRY OF ANOTHER THREAD does not change a pending call.
+-- ---- An entry of another thread leaves a pending call unchanged
 abbrev thread_of : Entry → ℕ
 thread_of (began t call) = t
 thread_of (stepped t change reply) = t
@@ -116,7 +117,7 @@ stays_open : {r : Run} {k t begun : ℕ} {call : Call} {changed : Option ℕ} (e
     → OpenAt r k t call begun changed → OpenAt r (suc k) t call begun changed
 stays_open e at other o = grind (arith, nat_tests)
 
--- An entry of any thread does not change a completed call.
+-- No entry changes a completed call.
 waits : {r : Run} {k : ℕ} {x : TracedCall} → (x.ended ≡ None → thread_of (r.log k) ≢ x.thread) → Traced r k x
     → Traced r (suc k) x
 waits other t = record {
@@ -128,7 +129,7 @@ waits other t = record {
   ends = λ m y e. (omega (arith, t.ends m y e), (t.ends m y e).1);
 }
 
--- THE BEGIN OF A CALL
+-- ---- Lemmas about a call that begins
 abbrev pub new_call : ℕ → ℕ → Call → TracedCall
 new_call k t call = record { thread = t; call = call; begun = suc k; changed = None; ended = None }
 
@@ -194,14 +195,14 @@ pub record Stepping (r : Run) (k t : ℕ) (change : Option Change) (reply : Opti
 abbrev pub step_of : ℕ → ℕ → Option Change → Option Reply → TracedCall → TracedCall
 step_of k t change reply x = if is_under_way t x then traced_on (suc k) change reply x else x
 
--- A call that is under way is pending and of the thread.
+-- A call that `is_under_way` accepts is pending and belongs to thread `t`.
 pub way_of : (t : ℕ) (x : TracedCall) → is_under_way t x ≡ true → (t ≡ x.thread) × (x.ended ≡ None)
 way_of t x u = (grind (arith, nat_tests), grind (arith, nat_tests))
 
 pub is_way : (t : ℕ) (x : TracedCall) → x.thread ≡ t → x.ended ≡ None → is_under_way t x ≡ true
 is_way t x e n = rw (equal_test x.thread t e, n) refl
 
--- The change and the end of a call after its step
+-- The change and the end that a call has after its step.
 changed_as : (m n : ℕ) (change : Option Change) (before : Option ℕ) → changed_by m change before ≡ Some n
     → ((change ≡ None) × (before ≡ Some n)) ⊎ ((c : Change) × (change ≡ Some c) × (n ≡ m))
 changed_as m n None before e = inl (refl, e)
@@ -222,7 +223,7 @@ may_be : (quota count : ℕ) (call here : Call) (b : Bool) (c : Change) → here
 may_be quota count call here b (key, true) e m = (sym e ∙ m.0, refl, m.2)
 may_be quota count call here b (key, false) e m = (sym e ∙ m.0, refl)
 
--- The pending call of the thread makes the step.
+-- Lemmas about the pending call whose thread makes the step.
 module _ {r : Run} {k : ℕ} {change : Option Change} {reply : Option Reply} {x : TracedCall} (s : Stepping r k x.thread change reply)
     (none : x.ended ≡ None) (p : Traced r k x) where
   here : OpenAt r k x.thread x.call x.begun x.changed
@@ -345,7 +346,7 @@ module _ {r : Run} {k t : ℕ} {change : Option Change} {reply : Option Reply} (
       opens_as : (u : ℕ) (y : Option Reply) (b : Bool) → open_after (stepped t change y) u b ≡ true → (b ≡ true) × (t ≡ u → y ≡ None)
       opens_as u y b o = (grind (arith, nat_tests), grind (arith, nat_tests))
 
--- AT EVERY MOMENT
+-- The facts hold at every moment of the run.
 pub calls_of : (op : Opening) (last : ℕ) (log : Log) (contents : Contents) (counts : Counts)
     → Account op last log contents counts
     → (k : ℕ) → k ≤ last → Calls (run_of op.threads op.quota log contents counts) k (calls_at log k)

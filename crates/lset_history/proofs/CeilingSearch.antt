@@ -1,5 +1,5 @@
--- The search for the first moment at which a key is the smallest at or above another key: from one recorded change to the next,
--- and after the last one.
+-- The search for the first moment at which a key is the smallest at or above another key. The search goes from one
+-- recorded change to the next, and ends after the last change.
 use Rattle.std.proofs.Common.{rules, ◌≡◌, ◌≢◌, ℕ, ◌+◌, ◌<◌, ◌≤◌, inl, inr, Bool, true, false, not, List, [], ◌∷◌, sym, refl}
 use Rattle.std.proofs.Common.{subst, ap, ◌∙◌, arith}
 use Rattle.std.specs.Prelude.{Option, Some, None, All, IsTrue, ◌==◌, nat_lt, if◌then◌else◌}
@@ -15,7 +15,7 @@ use Rattle.lset_history.proofs.ChangeLaws.{present_past}
 abbrev pub CeilingAt : (ℕ → List ℕ) → ℕ → Option ℕ → ℕ → Type 0
 CeilingAt changes key found m = IsCeiling (λ j. is_present changes j m ≡ true) key found
 
--- No change is after one moment and at or before another.
+-- States that no change happens after the first moment and at or before the second.
 abbrev IsQuiet : List ℕ → ℕ → ℕ → Type 0
 IsQuiet ms a b = All (λ m. a < m → m ≤ b → ⊥) ms
 
@@ -43,7 +43,7 @@ module _ (changes : ℕ → List ℕ) (key : ℕ) (found : Option ℕ) where
       j a
   quiet_against j a b l q = against_same found j a b (quiet_state false (changes j) a b l q)
 
-  -- ---- from one recorded change to the next
+  -- ---- Lemmas about the search from one recorded change to the next
 
   module _ (last : ℕ) (note : ℕ × ℕ) (next : IsNextNote changes last (Some note)) where
     before_note : (j m : ℕ) → last ≤ m → m < note.0 → is_against changes key found j m ≡ is_against changes key found j last
@@ -117,9 +117,10 @@ module _ (changes : ℕ → List ℕ) (key : ℕ) (found : Option ℕ) where
     ];
   }
 
--- ---- after the last change
+-- ---- Lemmas about the search after the last change
 
--- The keys that refute `found`
+-- A key from `key` to just below the found key refutes `found` if and only if it is present. The found key itself
+-- refutes `found` if and only if it is absent.
 against_below : (changes : ℕ → List ℕ) (key : ℕ) (o : Option ℕ) (j m : ℕ) → key ≤ j → IsBelow j o
     → is_against changes key o j m ≡ is_present changes j m
 against_below changes key None j m l u = if_not_below j key l false (is_present changes j m)
@@ -138,7 +139,7 @@ against_is_not : (changes : ℕ → List ℕ) (key : ℕ) (o : Option ℕ) (j m 
 against_is_not changes key None j m e h = search rules
 against_is_not changes key (Some x) j m e h = search rules
 
--- A moment such that no change of the key is later
+-- Returns a moment that no change in the list exceeds.
 upto : (ms : List ℕ) → (last : ℕ) × All (λ m. m ≤ last) ms
 upto [] = (0, All-nil (λ m. m ≤ 0))
 upto (x ∷ ms) = (
@@ -167,7 +168,7 @@ module _ (changes : ℕ → List ℕ) (key : ℕ) (found : Option ℕ) (from mom
     | inr g ↦ against_is_not changes key found j m ((s m g).stays j m e g (omega arith)) h
   ]
 
-  -- The results of the search
+  -- ---- The results of the search
   pub past_the_end : (to : ℕ) → to < moment → IsFirst (CeilingAt changes key found) from to None
   past_the_end to l = λ m a b h. let k = (s moment (omega arith)).before m a (omega arith) in
       against_is_not changes key found k.0 m k.1 h
@@ -207,13 +208,14 @@ module _ (changes : ℕ → List ℕ) (key : ℕ) (found : Option ℕ) (from mom
   it_is_too_low to x e l = subst (λ o. IsFirst (CeilingAt changes key o) from to None) (sym e) (λ m a b h. let g : key ≤ x = h.0
       in omega arith)
 
--- ---- the keys that are present now
+-- ---- Lemmas about the keys present after the last change
 
 abbrev pub IsFrom : ℕ → Option ℕ → Type 0
 IsFrom key None = Unit {0}
 IsFrom key (Some k) = key ≤ k
 
--- The keys below a key and below the end
+-- States that each key from `key` to just below `next` and `end` that is present after the last change was absent at
+-- this moment.
 abbrev pub CameUpTo : (ℕ → List ℕ) → ℕ → Option ℕ → Option ℕ → ℕ → Type 0
 CameUpTo changes key next end moment =
     (j : ℕ) → key ≤ j → IsBelow j next → IsBelow j end → is_present_now changes j ≡ true → is_present changes j moment ≡ false

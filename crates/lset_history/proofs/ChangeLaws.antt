@@ -1,4 +1,4 @@
--- The effect of a further change of a key on whether keys are present.
+-- How one more change of a key affects whether keys are present.
 use Rattle.std.proofs.lemmas.Grind.{common_steps}
 use Rattle.std.proofs.Common.{◌≡◌, ◌≢◌, ℕ, zero, suc, ◌<◌, ◌≤◌, Bool, true, false, not, List, [], ◌∷◌, ◌++◌, length, get_or}
 use Rattle.std.proofs.Common.{sym, refl, ap, ◌∙◌, arith}
@@ -9,12 +9,13 @@ use Rattle.lset_words.proofs.Numbers.{equal_test, unequal_test}
 use Rattle.lset_history.specs.Changes.{ChangesValue, moments_of, state_at, state_after, is_present, is_present_now, with_change}
 use Rattle.std.proofs.lemmas.Bool.Decides.{nat_tests}
 
--- A Bool, negated n times
+-- Negates a `Bool` n times.
 abbrev pub turned : ℕ → Bool → Bool
 turned zero b = b
 turned (suc i) b = turned i (not b)
 
--- The state at a moment m, if the first i changes are at most m and the others are above m
+-- If the first i changes are at most m and the others are after m, the key's presence at m is the first presence,
+-- negated i times.
 pub state_between : (b : Bool) (ms : List ℕ) (i m : ℕ) → i ≤ length ms → ((j : ℕ) → j < i → get_or ms j 0 ≤ m)
     → (i < length ms → m < get_or ms i 0) → state_at b ms m ≡ turned i b
 state_between b [] zero m l f g = refl
@@ -29,7 +30,7 @@ state_past b [] m f = refl
 state_past b (x ∷ ms) m f = rw (le-ltb m x (f 0 (omega arith)))
     (state_past (not b) ms m (λ j n. f (suc j) (omega arith)))
 
--- A further change, later than the others
+-- A change later than all others does not affect earlier moments.
 pub state_before_change : (b : Bool) (ms : List ℕ) (at m : ℕ) → m < at → state_at b (ms ++ at ∷ []) m ≡ state_at b ms m
 state_before_change b [] at m l = rw (lt-ltb m at l) refl
 state_before_change b (x ∷ ms) at m l = ap (λ z. if nat_lt m x then b else z) (state_before_change (not b) ms at m l)
@@ -55,12 +56,12 @@ module _ (changes : ℕ → List ℕ) (key at : ℕ) where
       → is_present (with_change changes key at) key at ≡ not (is_present_now changes key)
   turns_there h = grind (arith, common_steps, nat_tests, equal_test, state_from_change)
 
--- The state after all changes
+-- From the last change on, a key's presence is its final presence.
 pub present_past : (changes : ℕ → List ℕ) (k m : ℕ) → All (λ x. x ≤ m) (changes k)
     → is_present changes k m ≡ is_present_now changes k
 present_past changes k m h = state_past false (changes k) m (λ j n. All-get_or (λ x. x ≤ m) (changes k) j 0 n h)
 
--- All changes are up to a moment, and so they are with a further one.
+-- If all changes are at most at moment k, they and a change at a later moment `at` are at most at `at`.
 all_pushed : (ms : List ℕ) (k at : ℕ) → All (λ x. x ≤ k) ms → k ≤ at → All (λ x. x ≤ at) (ms ++ at ∷ [])
 all_pushed ms k at h l = grind (arith, common_steps)
 
@@ -76,7 +77,7 @@ pub all_upto_change : (changes : ℕ → List ℕ) (key k at j : ℕ) → All (�
     → All (λ x. x ≤ at) (with_change changes key at j)
 all_upto_change changes key k at j h l = grind (arith, common_steps, nat_tests)
 
--- A further change of a key negates its state.
+-- One more change of a key negates its final presence.
 state_after_change : (b : Bool) (ms : List ℕ) (at : ℕ) → state_after b (ms ++ at ∷ []) ≡ not (state_after b ms)
 state_after_change b [] at = refl
 state_after_change b (m ∷ ms) at = state_after_change (not b) ms at

@@ -1,4 +1,4 @@
--- The map of changes after a further change.
+-- The map of changes after one more change.
 use Rattle.std.proofs.lemmas.Grind.{common_steps}
 use Rattle.std.proofs.Common.{◌≡◌, ◌≢◌, ℕ, ◌<◌, ◌^◌, ◌≤◌, inl, inr, Bool, true, false, List, [], ◌∷◌, ◌++◌, get_or, map, sym}
 use Rattle.std.proofs.Common.{refl, subst, ap, ◌∙◌, arith, append_assoc}
@@ -38,7 +38,7 @@ pub noted_in : (keys : List ℕ) (m : Kept) (k : ℕ) → noted_of (changes_in k
 noted_in keys m k = ap moments_in (lookup-map_values (λ (v : Vec ℕ Global). v.items) (is_at (nat_cmp k)) m.entries)
     ∙ items_mapped (get nat_cmp m k)
 
--- The new moments of the key
+-- The moments of the key after the change.
 noted_items : (m n : Kept) (key at : ℕ) (w : Vec ℕ Global) → UpdatesBy nat_cmp (nat_cmp key) m n (Some w)
     → w.items ≡ items_in (get nat_cmp m key) ++ at ∷ [] → (k : ℕ) → items_in (get nat_cmp n k)
     ≡ (if k == key then items_in (get nat_cmp m k) ++ at ∷ [] else items_in (get nat_cmp m k))
@@ -72,17 +72,17 @@ increase_noted c d key at increase later is k = subst (λ z. IsStrictlyIncreasin
     by_test true = increases_more (moments_of c k) at (increase k) (later.1 k)
     by_test false = increase k
 
--- No key from 2^32 on has changes.
+-- Keys from 2^32 on still have no changes.
 bounded_noted : (c d : ChangesValue) (key at : ℕ) → key < 2 ^ 32 → IsBounded (moments_of c)
     → ((k : ℕ) → moments_of d k ≡ with_change (moments_of c) key at k) → IsBounded (moments_of d)
 bounded_noted c d key at low bounded is k high =
     is k ∙ if_other k key (λ e. omega arith) (moments_of c k ++ at ∷ []) (moments_of c k) ∙ bounded k high
 
--- Each recorded moment has its key.
+-- If P and Q together imply R, and a list satisfies both, it satisfies R.
 all_both : (P Q R : ℕ → Type 0) → ((m : ℕ) → P m → Q m → R m) → (ms : List ℕ) → All P ms → All Q ms → All R ms
 all_both P Q R f ms p q = All-from_get_or R ms 0 (λ i l. f (get_or ms i 0) (All-get_or P ms i 0 l p) (All-get_or Q ms i 0 l q))
 
--- A further change of a key
+-- Lemmas about one more change of a key.
 module _ (c d : ChangesValue) (key at : ℕ) (noted : (k : ℕ) → moments_of d k ≡ with_change (moments_of c) key at k) where
   listed_noted : (keys_at : BTreeMap ℕ ℕ) → (0 < at → get nat_cmp keys_at at ≡ Some key)
       → ((k : ℕ) → All (IsListed keys_at k) (moments_of c k)) → (k : ℕ) → All (IsListed keys_at k) (moments_of d k)
@@ -106,7 +106,7 @@ module _ (c d : ChangesValue) (key at : ℕ) (noted : (k : ℕ) → moments_of d
   ]
 
 module _ (c : ChangesValue) (key at : ℕ) (later : IsLaterThanAll (moments_of c) at) where
-  -- Each recorded moment still has its key after an insertion.
+  -- Inserting a moment keeps the key recorded for each other moment.
   listed_beside : (old new : BTreeMap ℕ ℕ) → UpdatesBy nat_cmp (nat_cmp at) old new (Some key)
       → ((k : ℕ) → All (IsListed old k) (moments_of c k)) → (k : ℕ) → All (IsListed new k) (moments_of c k)
   listed_beside old new up listed k = all_both (λ m. m < at) (IsListed old k) (IsListed new k)
@@ -130,7 +130,7 @@ module _ (c : ChangesValue) (key at : ℕ) (later : IsLaterThanAll (moments_of c
     present = present_noted c d key at noted present old new turn others own kept.present;
   }
 
--- The invariant holds of maps with the same entries.
+-- The invariant depends only on the entries of the maps.
 pub kept_listed : (c : ChangesValue) (old new : BTreeMap ℕ ℕ) (now : BTreeSet ℕ) → new.entries ≡ old.entries → AreKept c old now →
     AreKept c new now
 kept_listed c old new now e kept =
@@ -143,7 +143,7 @@ pub kept_present : (c : ChangesValue) (keys_at : BTreeMap ℕ ℕ) (old new : BT
     AreKept c keys_at new
 kept_present c keys_at old new more kept = grind (arith, common_steps, nat_tests)
 
--- The keys of a tree after an insertion or a removal
+-- ---- Lemmas about the keys of a tree after an insertion or a removal
 pub has_after : (key : ℕ) (old new : BTreeSet ℕ) → Updates nat_cmp old new key true → (k : ℕ) → IsTrue (contains nat_cmp old k)
     → IsTrue (contains nat_cmp new k)
 has_after key old new up k has = grind (arith, common_steps, nat_tests, same_or_not, same_test, unequal_test)
@@ -152,7 +152,7 @@ pub others_after : (key : ℕ) (old new : BTreeSet ℕ) → set.UpdatesBy nat_cm
     → IsTrue (contains nat_cmp old k) → IsTrue (contains nat_cmp new k)
 others_after key old new up k n has = up.2 k (sym (same_test key k) ∙ unequal_test k key n) ∙ has
 
--- A fact of the opening changes of a key, by whether it is an opening key
+-- To prove P of a key's changes at the opening, prove it for a key that is an opening key and for one that is not.
 opened_then : (P : List ℕ → Type 0) → P [] → P (0 ∷ []) → (b : Bool) → P ((if b then 0 ∷ [] else []) ++ [])
 opened_then P none one true = one
 opened_then P none one false = none
@@ -166,7 +166,7 @@ pub kept_opened : (keys : List ℕ) (keys_at : BTreeMap ℕ ℕ) (now : BTreeSet
     → AreKept (record { opening = keys; entries = [] }) keys_at now
 kept_opened keys keys_at now increasing small has = grind (arith, common_steps, nat_tests, opened_then, has_false, present_opened)
 
--- A value that is written back with the same items
+-- Returns the entries of the map as plain lists. Writing back a value with the same items does not change them.
 abbrev pub shown : List (ℕ × Vec ℕ Global) → List (ℕ × List ℕ)
 shown es = map (λ (e : ℕ × Vec ℕ Global). (e.0, e.1.items)) es
 

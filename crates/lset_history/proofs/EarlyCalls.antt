@@ -1,4 +1,5 @@
--- The loop from the last place of an order to the first: the smallest end so far, and the calls that are too early.
+-- The loop from the last place of an order to the first. It keeps the smallest end so far, and finds calls that are too
+-- early.
 use Rattle.std.proofs.Common.{rules, ◌≡◌, ℕ, ◌<◌, ◌≤◌, List, length, Option, Some, None, refl, subst, inl, inr, ◌⊎◌}
 use Rattle.std.proofs.Common.{suc, arith}
 use Rattle.std.proofs.lemmas.Bool.{cases_order, cases_lt}
@@ -11,7 +12,7 @@ use Rattle.lset_history.specs.Faults.{place_at, placed_call, IsTooEarly, Passes,
 use Rattle.std.proofs.lemmas.Grind.{common_steps}
 use Rattle.std.proofs.lemmas.Bool.Decides.{nat_tests}
 
--- A call that ended before a moment is at a place from i on.
+-- States that the call at place i or a later place ended before a given moment.
 abbrev pub EndsBefore : ℕ → Option (ℕ × Reply) → Type 0
 EndsBefore moment ended = IsSomeAnd ended (λ (end : ℕ × Reply). end.0 < moment)
 
@@ -19,12 +20,12 @@ abbrev pub EndsFrom : List CallRecord → List Placed → ℕ → ℕ → Type 0
 EndsFrom calls order i moment =
     (later : ℕ) × (i ≤ later) × (later < length order) × EndsBefore moment (placed_call calls order later).ended
 
--- The smallest end of the calls at the places from i on, if one of them has ended
+-- `smallest` is the smallest end among the calls at place i and later, or `None` if none of them has ended.
 pub record EndsSmallest (calls : List CallRecord) (order : List Placed) (i : ℕ) (smallest : Option ℕ) : Type 0 where
   pub below : (moment : ℕ) → IsSomeAnd smallest (λ end. end < moment) → EndsFrom calls order i moment
   pub ends : (moment : ℕ) → EndsFrom calls order i moment → IsSomeAnd smallest (λ end. end < moment)
 
--- The first place from i on whose call is too early
+-- The first place from i on whose call is too early.
 pub record EarlyFrom (calls : List CallRecord) (order : List Placed) (i number : ℕ) : Type 0 where
   pub place : ℕ
   pub from : i ≤ place
@@ -38,8 +39,7 @@ FindsEarly calls order i early =
     MatchOption early ((place : ℕ) → i ≤ place → place < length order → IsTooEarly calls order place → ⊥)
     (EarlyFrom calls order i)
 
--- ONE PLACE EARLIER
--- A place from j on is j or a later place.
+-- A place from j on is j itself or a later place. (The loop moves from place j + 1 to place j.)
 first_or_later : (calls : List CallRecord) (order : List Placed) (j moment : ℕ) → EndsFrom calls order j moment
     → EndsBefore moment (placed_call calls order j).ended ⊎ EndsFrom calls order (suc j) moment
 first_or_later calls order j moment (k, from, inside, ends) =
@@ -75,7 +75,7 @@ pub smallest_more : (calls : List CallRecord) (order : List Placed) (j : ℕ) (s
 smallest_more calls order j smallest ended inside e h = smallest_by calls order j smallest ended
     (λ m here. (j, omega arith, inside, rw e at here)) (λ m from. rw e (first_or_later calls order j m from)) h
 
--- The place itself is too early, or it is not.
+-- The loop decides whether place j itself is too early.
 too_early_here : (calls : List CallRecord) (order : List Placed) (j : ℕ)
     → EndsFrom calls order (suc j) (placed_call calls order j).begun → IsTooEarly calls order j
 too_early_here calls order j (k, from, inside, ends) = (k, omega arith, inside, ends)
@@ -110,7 +110,7 @@ early_later calls order j moment smallest early e h other found = later early fo
       ];
     }
 
--- The loop has ended.
+-- When the loop has ended, it has found the first call that is too early, or there is none.
 pub early_first : (calls : List CallRecord) (order : List Placed) (early : Option ℕ) → FindsEarly calls order 0 early
     → MatchOption early (Passes (IsTooEarly calls order) order) (RefusesFirst (IsTooEarly calls order) order)
 early_first calls order None found = λ place inside. found place (omega arith) inside

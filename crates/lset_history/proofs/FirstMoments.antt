@@ -1,4 +1,4 @@
--- The first moment at which a predicate holds, as the last moment grows.
+-- The first moment at which a predicate holds, and how it depends on the last moment searched.
 use Rattle.std.proofs.Common.{◌≡◌, ℕ, zero, suc, ◌+◌, ◌<◌, ◌≤◌, ◌⊎◌, inl, inr, Bool, true, false, refl, ap, subst, arith}
 use Rattle.std.specs.Prelude.{Option, Some, None}
 use Rattle.lset_history.specs.Changes.{IsFirst, is_same, first_passing}

@@ -1,4 +1,4 @@
--- The keys of the sequential set, and the keys of a tree of std.
+-- The keys of the sequential set are those of the tree (std's `BTreeSet`) in which the code keeps them.
 use Rattle.std.proofs.Common.{◌≡◌, ℕ, ◌<◌, ◌==◌, ◌||◌, false, List, [], ◌∷◌, refl, sym, ap, ◌∙◌, inl, inr, subst}
 use Rattle.std.proofs.Common.{arith}
 use Rattle.std.specs.List.{list_any, AllByRecursion}

@@ -1,4 +1,4 @@
--- Lists of keys: their members, and the effect of adding and removing a key.
+-- Lists of keys: membership, and the effect of adding or removing a key.
 use Rattle.std.proofs.Common.{◌≡◌, ◌≢◌, ℕ, ◌+◌, ◌<◌, ◌≤◌, ◌⊎◌, true, false, inl, inr, List, [], ◌∷◌, sym, refl, ◌∙◌, arith}
 use Rattle.std.specs.Prelude.{Contains, nat_lt, ◌==◌}
 use Rattle.std.proofs.lemmas.Bool.Decides.{nat_tests}
@@ -8,7 +8,7 @@ use Rattle.lset_words.proofs.Numbers.{same_number, equal_test, unequal_test, sam
 use Rattle.std.proofs.lemmas.Bool.{cases_Bool}
 use Rattle.std.proofs.lemmas.Grind.{common_steps}
 
--- MEMBERSHIP, as a test
+-- ---- Lemmas about membership as a `Bool`
 pub has_true : (k : ℕ) (xs : List ℕ) → Contains xs k → has_key k xs ≡ true
 has_true k [] c = absurd (contains-nil k c)
 has_true k (x ∷ xs) c = elim (cases_Bool (x == k)) [
@@ -32,11 +32,11 @@ has_false k xs h = elim (cases_Bool (has_key k xs)) [ inl e ↦ absurd (h (has_f
 pub has_none : (k : ℕ) (xs : List ℕ) → has_key k xs ≡ false → Contains xs k → ⊥
 has_none k xs e c = let f : has_key k xs ≡ true = has_true k xs c in absurd (cc)
 
--- A key is in the list, or is not.
+-- A key is in the list or not: membership is decidable.
 pub member_or_not : (k : ℕ) (xs : List ℕ) → Contains xs k ⊎ (Contains xs k → ⊥)
 member_or_not k xs = elim (cases_Bool (has_key k xs)) [ inl e ↦ inl (has_from k xs e) | inr e ↦ inr (has_none k xs e) ]
 
--- ADDING AND REMOVING A KEY: membership as a test
+-- ---- Lemmas about adding and removing a key, with membership as a `Bool`
 pub has_with : (k : ℕ) (xs : List ℕ) → has_key k (with_key k xs) ≡ true
 has_with k [] = rw (equal_test k k refl) refl
 has_with k (x ∷ xs) = grind (arith, common_steps, nat_tests, cases_Bool, equal_test, has_with k xs)
@@ -53,7 +53,7 @@ pub has_without_other : (k j : ℕ) (xs : List ℕ) → j ≢ k → has_key k (w
 has_without_other k j [] n = refl
 has_without_other k j (x ∷ xs) n = grind (arith, common_steps, nat_tests, cases_Bool, unequal_test, same_number, has_without_other k j xs n)
 
--- Membership as a proposition
+-- ---- Lemmas about adding and removing a key, with membership as a proposition
 pub with_keeps : (k j : ℕ) (xs : List ℕ) → (j ≡ k) ⊎ Contains xs j → Contains (with_key k xs) j
 with_keeps k j xs h = grind (arith, common_steps, nat_tests, same_or_not, has_from, has_with, has_with_other, has_true)
 
@@ -72,7 +72,7 @@ without_from k j xs c = elim (same_or_not k j) [
   | inr n ↦ (has_from j xs (sym (has_without_other j k xs n) ∙ has_true j (without_key k xs) c), λ e. n (sym e))
 ]
 
--- INCREASING LISTS
+-- ---- Lemmas about increasing lists
 pub with_increases : (k lo : ℕ) (xs : List ℕ) → IncreasesFrom lo xs → lo ≤ k → (Contains xs k → ⊥) → IncreasesFrom lo (with_key k xs)
 with_increases k lo [] r l h = (l, tt)
 with_increases k lo (x ∷ xs) r l h = elim (cases_Bool (nat_lt k x)) [

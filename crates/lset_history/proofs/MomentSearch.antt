@@ -1,4 +1,4 @@
--- Binary search among increasing moments, and its result.
+-- Binary search in a list of increasing moments, and its result.
 use Rattle.std.proofs.Common.{rules, ◌≡◌, ◌≢◌, ℕ, zero, suc, ◌+◌, ◌-◌, ◌*◌, ◌^◌, ◌%◌, ◌<◌, ◌≤◌, ◌⊎◌, inl, inr, Bool, true, false}
 use Rattle.std.proofs.Common.{not, List, [], ◌∷◌, ◌++◌, length, get_or, sym, refl, subst, ap, ◌∙◌, arith}
 use Rattle.std.specs.Prelude.{◌==◌, Option, Some, None, Contains, if◌then◌else◌}
@@ -23,7 +23,7 @@ pub halved : (b low high next_low next_high : ℕ) → high - low < 2 ^ b → lo
 halved zero low high next_low next_high h l g = absurd (let k : high - low < 1 = h in omega arith)
 halved (suc b) low high next_low next_high h l g = grind (arith, common_steps, nat_tests, pow-suc)
 
--- Lower bound on the comparisons: at least half of the range remains.
+-- A lower bound on the comparisons: at least half of the range remains after each.
 pub half_needed : (k low high next_low next_high : ℕ) → 2 ^ k ≤ high - low + 1 → high - low ≤ 2 * (next_high - next_low) + 2
     → 2 ^ (k - 1) ≤ next_high - next_low + 1
 half_needed zero low high next_low next_high h l = let one : 2 ^ (zero - 1) ≡ 1 = refl in omega arith
@@ -53,7 +53,7 @@ odd_or_even (suc n) = elim (odd_or_even n) [
 pub turned_is : (n : ℕ) → (n % 2 == 1) ≡ turned n false
 turned_is n = grind (arith, common_steps, nat_tests, odd_or_even, equal_test, unequal_test)
 
--- A Bool, negated n times, from its first value on
+-- Lemmas about a `Bool` that is negated n times from a first value.
 differ : (x there : Bool) → not (beq x there) ≡ (if there then not x else x)
 differ true true = refl
 differ true false = refl
@@ -108,7 +108,7 @@ module _ (there : Bool) (ms : List ℕ) (increase : IsStrictlyIncreasing ms) (wa
       → IsFirst Wanted from to (Some (get_or ms count 0))
   found_next n k l = grind (arith, common_steps, nat_tests, next_above, turns, other_turned, turned, stays)
 
--- An opening key is present from moment 0 on.
+-- From moment 0 on, an opening key is present.
 pub state_opened : (b : Bool) (ms : List ℕ) (m : ℕ) → state_at false ((if b then 0 ∷ [] else []) ++ ms) m ≡ state_at b ms m
 state_opened true ms m = rw (le-ltb m 0 (omega arith)) refl
 state_opened false ms m = refl
@@ -122,7 +122,7 @@ no_longer : (b : Bool) (ms : List ℕ) (n : ℕ) → length ((if b then 0 ∷ []
 no_longer true ms n l = omega arith
 no_longer false ms n l = l
 
--- Bounds on the number of comparisons
+-- ---- Bounds on the number of comparisons
 at_most_20 : (n looked : ℕ) → ((b : ℕ) → b ≤ 64 → n < 2 ^ b → looked ≤ b) → n ≤ 1000000 → looked ≤ 20
 at_most_20 n looked h l = h 20 (omega arith) (let e : 2 ^ 20 ≡ 1048576 = refl in omega arith)
 
@@ -134,7 +134,7 @@ module _ (there : Bool) (ms all : List ℕ) (is : all ≡ (if there then 0 ∷ [
   pub few_looks : (looked : ℕ) → ((b : ℕ) → b ≤ 64 → length ms < 2 ^ b → looked ≤ b) → length all ≤ 1000000 → looked ≤ 20
   few_looks looked h few = at_most_20 (length ms) looked h (no_longer there ms 1000000 (subst (λ z. length z ≤ 1000000) is few))
 
--- Whether a key is the last of the keys up to it
+-- How the count of keys up to `upto` decides whether `key` is the last of them.
 module _ (keys : List ℕ) (key upto : ℕ) (increase : IsStrictlyIncreasing keys) (h : IsCountUpTo keys key upto) where
   has_none_equal : ((i : ℕ) → i < length keys → get_or keys i 0 ≢ key) → has_key key keys ≡ false
   has_none_equal other = has_false key keys (λ c. All-contains (λ x. x ≢ key) keys key (All-from_get_or (λ x. x ≢ key) keys 0 other) c refl)

@@ -1,4 +1,4 @@
--- Facts of each element of a list and each later element.
+-- Lemmas about predicates that relate each element of a list to each later element.
 use Rattle.std.proofs.Common.{◌≡◌, ℕ, suc, zero, ◌<◌, ◌≢◌, List, ◌∷◌, length, get_or, inl, inr, ◌∙◌, arith}
 use Rattle.std.specs.List.{All, AllPairs}
 use Rattle.std.proofs.Math.ListN.{set}
@@ -11,7 +11,7 @@ pairs_head R x xs pairs j d b = pairs zero (suc j) d (omega arith) (omega arith)
 pub pairs_tail : {X : Type 0} (R : X → X → Type 0) (x : X) (xs : List X) → AllPairs R (x ∷ xs) → AllPairs R xs
 pairs_tail R x xs pairs i j d a b = pairs (suc i) (suc j) d (omega arith) (omega arith)
 
--- The element that is read after a write: the written one, or the old one
+-- Reading an element after a write: the new value at the written index, the old value elsewhere.
 pub read_written : {X : Type 0} (xs : List X) (n k : ℕ) (z d : X) → k ≡ n → n < length xs → get_or (set xs n z) k d ≡ z
 read_written xs n k z d e inside = rw e (get_or-set_same xs n z d inside)
 
@@ -19,7 +19,7 @@ pub read_other : {X : Type 0} (xs : List X) (n k : ℕ) (z d e : X) → k ≢ n 
     → get_or (set xs n z) k d ≡ get_or xs k e
 read_other xs n k z d e ne low = get_or-set_other xs n k z d ne ∙ get_or_default xs k d e low
 
--- A write at n keeps a fact of all pairs, if the fact holds of the new element and each element before and after it.
+-- Writing z at n preserves a relation of all pairs, if it relates z to each element before and after n.
 pub pairs_set : {X : Type 0} (R : X → X → Type 0) (xs : List X) (n : ℕ) (z e : X) → n < length xs
     → ((k : ℕ) → k < n → R (get_or xs k e) z) → ((k : ℕ) → n < k → k < length xs → R z (get_or xs k e)) → AllPairs R xs
     → AllPairs R (set xs n z)

@@ -1,4 +1,4 @@
--- THE PLACEMENT THEOREM: the order of placement linearizes the history of a run, and leaves its last content.
+-- The placement theorem: the order of placement linearizes a run's history and leaves the run's last content.
 use Rattle.std.proofs.Common.{◌≡◌, ◌≢◌, ℕ, zero, suc, ◌<◌, ◌≤◌, true, false, inl, inr, List, [], ◌∷◌, sym, refl, subst, ap}
 use Rattle.std.proofs.Common.{◌∙◌, arith, length, map}
 use Rattle.std.specs.Prelude.{◌==◌, Option, Some, None, IfSome, IsSomeAnd, slice_index, Contains, All, AllPairs}
@@ -35,15 +35,15 @@ use Rattle.lset_history.proofs.SetStates.{Shows, keys_after, counts_after, set_a
 use Rattle.lset_history.proofs.Standings.{Stood, Changing, changing, Reading, IsStanding, during, ended_place, EndedPlace, reading, stood}
 use Rattle.lset_history.proofs.Standings.{has_place}
 
--- A call, with its reply in the order
+-- Converts a call with a linearization point to a call with its reply in the order.
 abbrev pub answered_of : Standing → Answered
 answered_of s = record { thread = s.traced.thread; call = s.traced.call; reply = reply_by s.traced.changed s.traced.ended }
 
--- The set returns the replies in turn, and its state changes from s to t.
+-- States that the set returns the replies of these calls in turn, and that its state changes from s to t.
 abbrev Leads : ℕ → SetState → SetState → List Standing → Type 0
 Leads quota s t xs = IsLegal quota s (map answered_of xs) × (set_left s (map answered_of xs) ≡ t)
 
--- The set returns the reply of one call, and its state changes from s to t, or stays.
+-- States that the set returns the reply of one call, and that its state changes from s to t.
 abbrev LeadsTo : ℕ → SetState → SetState → Standing → Type 0
 LeadsTo quota s t x = let b = answered_of x in
     (reply_to quota s b.thread b.call ≡ b.reply) × (after_call s b.thread b.call b.reply ≡ t)
@@ -55,7 +55,7 @@ leads_first : (quota : ℕ) (s t u : SetState) (x : Standing) (xs : List Standin
     → Leads quota s u (x ∷ xs)
 leads_first quota s t u x xs a b = let c = rw (← a.1) at b in ((a.0, c.0), c.1)
 
--- THE REPLY OF THE SET to a call that changes the set
+-- ---- The set's reply to a call that changes the set
 pub change_replies : (threads quota : ℕ) (content after : Content) (counts : ℕ → ℕ) (s : SetState) (t : ℕ) (call : Call)
     (change : Change) → Shows threads content counts s → t < threads → Changes (Some change) content after
     → MayChange quota (counts t) call false (Some change) → (reply_to quota s t call ≡ True)
@@ -76,7 +76,7 @@ change_replies threads quota content after counts s t call (key, false) w l c m 
     let a : has_key key.0 s.keys ≡ true = has_true key.0 s.keys ((w.keys key.0).0 c.0) in
     (rw (e, a) refl, rw e refl)
 
--- THE REPLY OF THE SET to a call that changes nothing
+-- ---- The set's reply to a call that changes nothing
 pub reading_stays : (r : Run) (s : Standing) (state : SetState) → Reading r s → SameKeys (r.contents s.moment) state.keys
     → IncreasesFrom 0 state.keys
     → count_of state s.traced.thread ≡ r.counts s.moment s.traced.thread → Stays r.quota state s
@@ -92,11 +92,11 @@ reading_stays r s state h same increasing n =
         → reply_by changed ended ≡ h.end.1
     replied changed ended e f = rw (e, f) refl
 
--- The call of the later place does not precede the call of the earlier one.
+-- States that the call at the later place does not precede the call at the earlier place.
 abbrev InTime : List CallRecord → Placed → Placed → Type 0
 InTime history p q = Precedes (call_numbered history q.call) (call_numbered history p.call) → ⊥
 
--- A change at moment m
+-- States that the call makes a change at moment m.
 abbrev ChangesIn : ℕ → Standing → Type 0
 ChangesIn m q = (makes_change q ≡ true) × (q.moment ≡ m)
 
@@ -128,7 +128,7 @@ module _ (op : Opening) (last : ℕ) (log : Log) (contents : Contents) (counts :
   shown : (k : ℕ) → k ≤ last → Shows op.threads (contents k) (counts k) (set_at op log k)
   shown = shows_at op last log contents counts a
 
-  -- The calls of the history
+  -- The call numbered i in the history is the record of the traced call i.
   record_is : (i : ℕ) → call_numbered history i ≡ record_of (traced_at calls i)
   record_is i = get_or-map record_of calls i no_traced
 
@@ -141,7 +141,7 @@ module _ (op : Opening) (last : ℕ) (log : Log) (contents : Contents) (counts :
       answer : CallRecord → Answered
       answer c = record { thread = c.thread; call = c.call; reply = reply_by s.traced.changed s.traced.ended }
 
-  -- BETWEEN TWO CHANGES the set stays the same.
+  -- ---- Between two changes, the set stays the same
   unchanged : (e : Entry) (s : SetState) → ((t : ℕ) (change : Change) (reply : Option Reply) → e ≡ stepped t (Some change) reply → ⊥)
       → set_after e s ≡ s
   unchanged (began t call) s none = refl
@@ -157,7 +157,7 @@ module _ (op : Opening) (last : ℕ) (log : Log) (contents : Contents) (counts :
         ∙ quiet j m (omega arith) (λ i t change reply from below e. none i t change reply from (omega arith) e)
   ]
 
-  -- A CALL AT ITS LINEARIZATION POINT
+  -- ---- Lemmas about a call at its linearization point
   changed : (x : Standing) → Stands x → (c : Changing r x) → LeadsTo op.quota (set_at op log c.change.before) (set_at op log x.moment) x
   changed x h c =
       let j : ℕ = c.change.before in
@@ -176,13 +176,13 @@ module _ (op : Opening) (last : ℕ) (log : Log) (contents : Contents) (counts :
       reading_stays r x (set_at op log x.moment) (reading h still) w.keys w.increasing
       (w.numbers x.traced.thread h.trace.of_a_thread)
 
-  -- A call that ends at its point or later does not end before it.
+  -- A call that ends at its linearization point or later has not ended before the point.
   no_end : (o : Option (ℕ × Reply)) (moment begun : ℕ) → IfSome o (λ (e : ℕ × Reply). moment ≤ e.0)
       → IsSomeAnd o (λ (e : ℕ × Reply). e.0 < begun) → begun ≤ moment → ⊥
   no_end None moment begun f p l = p
   no_end (Some e) moment begun f p l = omega arith
 
-  -- Two calls do not change the set at one moment.
+  -- Two different calls never change the set at the same moment.
   clash : (s q : Standing) → Stands s → Stands q → s.number < q.number → s.moment ≡ q.moment → makes_change s ≡ true
       → makes_change q ≡ true → ⊥
   clash s q h i l e f g =
@@ -192,7 +192,7 @@ module _ (op : Opening) (last : ℕ) (log : Log) (contents : Contents) (counts :
       let same : s.traced.thread ≡ q.traced.thread = cc (before, c.change.entry, d.change.entry) in
       no_end s.traced.ended s.moment q.traced.begun (during h).in_call (later.one_thread same) (omega (arith, (during i).from))
 
-  -- TWO CALLS IN THE ORDER
+  -- ---- Lemmas about two calls in the order
   comes_on : (s q : Standing) → Stands s → Stands q → ComesBefore s q → (s.moment ≤ q.moment) × (makes_change q ≡ true → s.moment < q.moment)
   comes_on s q h i b = (moments, later)
     where
@@ -208,7 +208,7 @@ module _ (op : Opening) (last : ℕ) (log : Log) (contents : Contents) (counts :
         | inr f ↦ grind arith
       ]
 
-  -- The calls of the list have their points after moment j, or at j without a change.
+  -- States that each call of the list has its linearization point after moment j, or at j without a change.
   abbrev Late : ℕ → List Standing → Type 0
   Late m xs = AllByRecursion (λ q. (m ≤ q.moment) × (makes_change q ≡ true → m < q.moment)) xs
 
@@ -221,12 +221,12 @@ module _ (op : Opening) (last : ℕ) (log : Log) (contents : Contents) (counts :
   none_due m i (q ∷ xs) late l (inl s) = let b : m < q.moment = late.0.1 s.0 in omega (arith, s.1)
   none_due m i (q ∷ xs) late l (inr s) = none_due m i xs late.1 l s
 
-  -- Each change after moment j is a call of the list.
+  -- States that each change after moment j was made by a call of the list.
   abbrev Due : ℕ → List Standing → Type 0
   Due j xs = (i t : ℕ) (change : Change) (reply : Option Reply) → j ≤ i → i < last → log i ≡ stepped t (Some change) reply
       → SomeOf (ChangesIn (suc i)) xs
 
-  -- LEGAL, from the set at moment j on
+  -- The order is legal, beginning with the set at moment j.
   leads : (xs : List Standing) (j : ℕ) → j ≤ last → AllByRecursion Stands xs → Pairs ComesBefore xs → Late j xs → Due j xs
       → Leads op.quota (set_at op log j) (set_at op log last) xs
   leads [] j l s b late due = (tt, sym (quiet j last l due))
@@ -271,7 +271,7 @@ module _ (op : Opening) (last : ℕ) (log : Log) (contents : Contents) (counts :
     pairs : Pairs ComesBefore sorted
     pairs = pairs_rec ComesBefore sorted rises
 
-    -- A call with a point is in the sorted list.
+    -- A call that has a linearization point is in the sorted list.
     some_sorted : (P : Standing → Type 0) → SomeOf P ss → (z : Standing) × P z × Contains sorted z
     some_sorted P s =
         let o : (z : Standing) × P z × SomeOf (λ x. x ≡ z) ss = some_one P ss s in
@@ -293,7 +293,7 @@ module _ (op : Opening) (last : ℕ) (log : Log) (contents : Contents) (counts :
     leaves : set_left (opening_set op) (map (answered history) (map placed_of sorted)) ≡ set_at op log last
     leaves = rw answers_are led.1
 
-    -- EACH CALL ONCE, AND IN REAL-TIME ORDER
+    -- ---- The order has each call once, and keeps real-time order
     is_once : AllPairs (λ (p q : Placed). p.call ≢ q.call) (map placed_of sorted)
     is_once = pairs_std (λ (p q : Placed). p.call ≢ q.call) (map placed_of sorted)
         (pairs_map placed_of (λ (p q : Placed). p.call ≢ q.call) sorted
@@ -314,7 +314,7 @@ module _ (op : Opening) (last : ℕ) (log : Log) (contents : Contents) (counts :
         each s q h i b p = no_end q.traced.ended q.moment s.traced.begun (during i).in_call (rw (numbered q i, numbered s h) at p)
             (omega (arith, (during h).from, (comes_on s q h i b).0))
 
-    -- EACH COMPLETED CALL, AND ONLY CALLS OF THE HISTORY
+    -- ---- The order has each completed call, and only calls of the history
     is_known : All (λ (p : Placed). p.call < length history) (map placed_of sorted)
     is_known = All-from_recursion (λ (p : Placed). p.call < length history) (map placed_of sorted)
         (all_map placed_of (λ (p : Placed). p.call < length history) sorted
@@ -334,14 +334,14 @@ module _ (op : Opening) (last : ℕ) (log : Log) (contents : Contents) (counts :
     placed_linearizes : Linearizes op.quota (opening_set op) history (map placed_of sorted)
     placed_linearizes = record { known = is_known; once = is_once; ended = is_ended; legal = is_legal; in_time = is_in_time }
 
--- THE THEOREM
+-- The placement theorem: a run's order of placement linearizes its history.
 pub linearizes : (op : Opening) (last : ℕ) (log : Log) (contents : Contents) (counts : Counts) (order : List Placed)
     → Account op last log contents counts → IsPlacement op.quota (calls_at log last) contents counts order
     → Linearizes op.quota (opening_set op) (history_at log last) order
 linearizes op last log contents counts order a p = rw p.in_order
     (placed_linearizes op last log contents counts a p.places p.stands p.sorted p.moved p.rises)
 
--- The set that the order leaves has the last content and counts.
+-- After the order's calls, the set has the run's last content and counts.
 pub leaves_set : (op : Opening) (last : ℕ) (log : Log) (contents : Contents) (counts : Counts) (order : List Placed)
     → Account op last log contents counts → IsPlacement op.quota (calls_at log last) contents counts order
     → Shows op.threads (contents last) (counts last) (set_left (opening_set op) (map (answered (history_at log last)) order))
@@ -350,7 +350,7 @@ leaves_set op last log contents counts order a p = rw (
   leaves op last log contents counts a p.places p.stands p.sorted p.moved p.rises,
 ) (shows_at op last log contents counts a last (omega arith))
 
--- Its keys are the keys of the last content, in increasing order.
+-- After the order's calls, the set's keys are the keys of the run's last content, in increasing order.
 pub leaves_keys : (op : Opening) (last : ℕ) (log : Log) (contents : Contents) (counts : Counts) (order : List Placed)
     → Account op last log contents counts → IsPlacement op.quota (calls_at log last) contents counts order
     → (keys : List ℕ) → IsStrictlyIncreasing keys

@@ -1,4 +1,4 @@
--- The replies of the sequential set, from its tree of keys and its counts.
+-- The replies of the sequential set, computed from its tree of keys and its counts.
 use Rattle.std.proofs.Common.{rules, ◌≡◌, ℕ, ◌≤◌, ◌<◌, ◌≢◌, ◌==◌, ◌+◌, Bool, true, false, cond, List, [], ◌∷◌, get_or, refl, sym}
 use Rattle.std.proofs.Common.{ap, inl, inr, ◌∙◌, arith}
 use Rattle.std.specs.Prelude.{filter}
@@ -70,7 +70,7 @@ pub contained : (o : OracleValue) (t : ℕ) (k : Key) (found : Bool) → found �
 contained o t k true e = grind (arith, common_steps, nat_tests, cond-true, has_key_tree)
 contained o t k false e = grind (arith, common_steps, nat_tests, cond-false, has_key_tree)
 
--- The first key of a range of the tree is the smallest.
+-- Returns the keys from k on. The first of them is the smallest at or above k.
 abbrev from_on : ℕ → List ℕ → List ℕ
 from_on k keys = filter (range_contains nat_cmp (Included k) Unbounded) keys
 

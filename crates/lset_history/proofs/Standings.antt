@@ -1,4 +1,4 @@
--- The calls of a run with a linearization point: the number, the trace and the point of each.
+-- The calls of a run that have a linearization point, each with its number and point.
 use Rattle.std.proofs.Common.{◌≡◌, ℕ, zero, suc, ◌+◌, ◌<◌, ◌≤◌, true, false, inl, inr, List, [], ◌∷◌, length, sym, refl, subst}
 use Rattle.std.proofs.Common.{ap, arith}
 use Rattle.std.specs.Prelude.{◌⊎◌, Option, Some, None, IfSome, is_some}
@@ -11,7 +11,7 @@ use Rattle.lset_history.proofs.Lists.{Pairs, SomeOf, all_imply, pairs_rec}
 use Rattle.lset_words.specs.Account.{RightReply}
 use Rattle.lset_history.proofs.Calls.{Run, ChangeAt, Traced, Later, Calls, if_some}
 
--- THE CALLS AND THEIR POINTS
+-- ---- Lemmas about the calls and their linearization points
 standing_each : (Q : ℕ → TracedCall → Option ℕ → Type 0) (n : ℕ) (xs : List TracedCall) (ps : List (Option ℕ))
     → ((i : ℕ) → i < length xs → Q (n + i) (traced_at xs i) (place_at ps i))
     → AllByRecursion (λ (s : Standing). Q s.number s.traced (Some s.moment)) (standing n xs ps)
@@ -41,7 +41,7 @@ standing_above P n (x ∷ xs) (Some m ∷ ps) a = (
       (standing_above P (suc n) xs ps a.1),
 )
 
--- The numbers increase.
+-- States that the second call has the larger number.
 abbrev pub Follows : Standing → Standing → Type 0
 Follows s r = (s.number < r.number) × Later s.traced r.traced
 
@@ -56,7 +56,7 @@ standing_pairs n (x ∷ xs) (Some m ∷ ps) a = (
   standing_pairs (suc n) xs ps a.1,
 )
 
--- A call with a point is in `standing`.
+-- States that a call with this linearization point is in `standing`.
 abbrev pub IsStanding : ℕ → TracedCall → ℕ → Standing → Type 0
 IsStanding number x m s = (s.number ≡ number) × (s.traced ≡ x) × (s.moment ≡ m)
 
@@ -72,7 +72,7 @@ standing_has n (x ∷ xs) (Some p ∷ ps) (suc i) m l e = let f : suc n + i ≡ 
     (standing_has (suc n) xs ps i m (omega arith) e))
 standing_has n xs ps i m l e = absurd cc
 
--- THE FACTS OF A CALL WITH A POINT
+-- The facts about a call that has a linearization point.
 pub record Stood (r : Run) (last : ℕ) (calls : List TracedCall) (places : List (Option ℕ)) (s : Standing) : Type 0 where
   pub known : s.number < length calls
   pub call_is : traced_at calls s.number ≡ s.traced
@@ -80,19 +80,19 @@ pub record Stood (r : Run) (last : ℕ) (calls : List TracedCall) (places : List
   pub trace : Traced r last s.traced
   pub stands : StandsAt r.quota r.contents r.counts s.traced (Some s.moment)
 
--- A call whose point is its change
+-- A call whose linearization point is its change.
 pub record Changing (r : Run) (s : Standing) : Type 0 where
   pub is : s.traced.changed ≡ Some s.moment
   pub change : ChangeAt r s.traced.thread s.traced.call s.traced.begun s.moment
 
--- A completed call without a change: its point is the first moment that its reply fits.
+-- A completed call without a change. Its linearization point is the first moment at which its reply fits.
 pub record Reading (r : Run) (s : Standing) : Type 0 where
   pub no_change : s.traced.changed ≡ None
   pub end : ℕ × Reply
   pub ended : s.traced.ended ≡ Some end
   pub fit : IsSmallestFit r.quota r.contents r.counts s.traced end.0 end.1 s.moment
 
--- The point is between begin and end.
+-- The linearization point is while the call is pending: not before it begins, and not after it ends.
 pub record During (last begun moment : ℕ) (ended : Option (ℕ × Reply)) : Type 0 where
   pub from : begun ≤ moment
   pub upto : moment ≤ last
@@ -130,7 +130,7 @@ module _ {r : Run} {last : ℕ} {calls : List TracedCall} {places : List (Option
     }
   ]
 
--- A completed call has a point, and its own reply in the order.
+-- A completed call has a linearization point, and the order has it with its own reply.
 pub record EndedPlace (changed : Option ℕ) (ended : Option (ℕ × Reply)) (reply : Reply) (place : Option ℕ) : Type 0 where
   pub moment : ℕ
   pub is : place ≡ Some moment
@@ -148,7 +148,7 @@ ended_place r last x end place e t s = by_change x.changed x.ended e s (t.ends e
     by_change None None e s right = absurd cc
     by_change None (Some d) e s right = let is : d ≡ end = cc in record { moment = s.0; is = s.1; reply_is = ap (λ z. z.1) is }
 
--- ALL CALLS WITH A POINT
+-- ---- Lemmas about all calls that have a linearization point
 module _ (r : Run) (last : ℕ) (calls : List TracedCall) (places : List (Option ℕ)) (h : Calls r last calls)
     (stands : (i : ℕ) → i < length calls → StandsAt r.quota r.contents r.counts (traced_at calls i) (place_at places i)) where
   traced_of : (i : ℕ) → i < length calls → Traced r last (traced_at calls i)

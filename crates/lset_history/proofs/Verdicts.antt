@@ -1,4 +1,4 @@
--- From the single checks of an order: the first error, or that the order explains the history.
+-- Combines the single checks of an order: they find the first error, or the order explains the history.
 use Rattle.std.proofs.Common.{rules, ◌≡◌, ◌≢◌, ℕ, ◌<◌, ◌==◌, Bool, true, false, List, [], length, get_or, Option, Some, None}
 use Rattle.std.proofs.Common.{refl, sym, ap, ◌∙◌, subst, inl, inr, ◌⊎◌, arith}
 use Rattle.std.proofs.lemmas.Grind.{common_steps}
@@ -24,16 +24,16 @@ use Rattle.lset_history.specs.Checks.{HasKnownCalls, stands, MarksCalls, IsLeftO
 use Rattle.lset_history.proofs.EarlierPlaces.{stands_earlier, legal_at, passes_replies}
 use Rattle.std.proofs.lemmas.Bool.Decides.{nat_tests}
 
--- A place, read with any default
+-- Reading a place inside the order returns the same place for every default.
 read_place : (order : List Placed) (i : ℕ) (d : Placed) → i < length order → get_or order i d ≡ place_at order i
 read_place order i d low = get_or_default order i d (place_at [] 0) low
 
--- NO UNKNOWN CALL
+-- ---- The order has no unknown call
 pub passes_known : (calls : List CallRecord) (order : List Placed) → HasKnownCalls calls order
     → Passes (IsUnknown calls order) order
 passes_known calls order known place low unknown = let h = known place (place_at [] 0) low in omega arith
 
--- NO MISSING CALL
+-- ---- The order misses no completed call
 absent_stands : (order : List Placed) (n : ℕ) → All (λ (p : Placed). p.call ≢ n) order → stands order n ≡ false
 absent_stands order n absent = list_any_none (λ (p : Placed). p.call == n) order (λ k d low. ne_eqb _ n (absent k d low))
 
@@ -56,7 +56,7 @@ misses_first calls order marks n holds h = record {
   smallest = λ k low m. h.1 k low (left_out calls order marks k holds m);
 }
 
--- THE ORDER LINEARIZES THE HISTORY
+-- ---- Proof that the order linearizes the history
 pairs_of_places : (R : Placed → Placed → Type 0) (order : List Placed)
     → ((i j : ℕ) → i < j → j < length order → R (place_at order i) (place_at order j)) → AllPairs R order
 pairs_of_places R order h i j d low inside = rw (read_place order i d (omega arith), read_place order j d inside) (h i j low inside)
@@ -98,16 +98,16 @@ linearizes o calls order known once none replies early = record {
               (reply_of_end _ end reply _ e recorded)),
         )
 
--- THE RESULTS of the check, from its single checks
+-- ---- The result of the whole check follows from the single checks
 
--- The calls of the order are known and each has one place. These calls have marks, and no others.
+-- All calls of the order are known, each has one place, and exactly these calls are marked.
 pub record StandsOnce (h : HistoryValue) (calls : List CallRecord) (order : List Placed) (marks : List Bool) : Type 0 where
   pub calls_are : calls ≡ h.calls
   pub known : HasKnownCalls calls order
   pub once : Passes (IsTwice order) order
   pub holds : MarksCalls marks order
 
--- No completed call is left out, and the sequential set is in its opening state.
+-- The order leaves out no completed call, and the sequential set is in its opening state.
 pub record LeavesNoneOut (h : HistoryValue) (calls : List CallRecord) (order : List Placed) (marks : List Bool)
     (oracle : OracleValue) : Type 0 where
   pub stands_once : StandsOnce h calls order marks
@@ -125,7 +125,7 @@ pub leaves_none_out : (h : HistoryValue) (calls : List CallRecord) (order : List
 leaves_none_out h calls order marks oracle once none opens =
     record { stands_once = once; none_out = none; opens = opens }
 
--- The threads of the calls are threads of the set.
+-- The thread of each call is a thread of the set.
 pub threads_below : (h : HistoryValue) (calls : List CallRecord) (oracle : OracleValue) → calls ≡ h.calls
     → IsHistory h.opening.threads h.calls → oracle ≡ set_opened h.opening
     → All (λ (x : CallRecord). x.thread < oracle.threads) calls
@@ -142,7 +142,7 @@ pub missing_fault : (h : HistoryValue) (calls : List CallRecord) (order : List P
 missing_fault h calls order keys marks number s out =
     (passes_known h.calls order (rw s.calls_are at s.known), s.once, misses_first h.calls order marks number s.holds (rw s.calls_are at out))
 
--- The replies and the earlier checks, for the calls of the history and the opening state of its set
+-- The results for the replies and for the earlier checks hold for the history's own calls and opening state.
 settled : (h : HistoryValue) (calls : List CallRecord) (order : List Placed) (marks : List Bool) (oracle : OracleValue)
     → LeavesNoneOut h calls order marks oracle → LeavesNoneOut h h.calls order marks (set_opened h.opening)
 settled h calls order marks oracle l =
@@ -176,7 +176,7 @@ too_early_fault h calls order keys marks oracle number l r e =
       rw l.stands_once.calls_are at e,
     )
 
--- The keys of the set after the order
+-- The keys of the set after the order's calls.
 keys_after : (h : HistoryValue) (calls : List CallRecord) (order : List Placed) (marks : List Bool) (oracle : OracleValue)
     → LeavesNoneOut h calls order marks oracle
     → (after_order oracle calls order).state.keys ≡ (set_left_by (opening_set h.opening) h.calls order).keys
@@ -209,7 +209,7 @@ explained h calls order keys marks oracle now l r e after same increasing =
       increasing = subst IsStrictlyIncreasing same increasing;
     }
 
--- AN ORDER WITH AN ERROR DOES NOT EXPLAIN THE HISTORY
+-- ---- Proof that an order with an error does not explain the history
 pair_of_places : (R : Placed → Placed → Type 0) (order : List Placed) (i j : ℕ) → AllPairs R order → i < j → j < length order
     → R (place_at order i) (place_at order j)
 pair_of_places R order i j pairs low inside = pairs i j (place_at [] 0) low inside

@@ -9,7 +9,8 @@ use Rattle.std.specs.BTreeMap.{BTreeMap, get, is_at}
 use Rattle.std.specs.BTreeSet.{BTreeSet, contains}
 use Rattle.lset_words.specs.SequentialSet.{has_key}
 
--- The opening keys, and for each key the moments above 0 at which it was added and removed, in turn, in increasing order
+-- The opening keys, and for each key the moments above 0 at which it was added and removed, alternately and in
+-- increasing order.
 pub record ChangesValue : Type 0 where
   pub opening : List ℕ
   pub entries : List (ℕ × List ℕ)
@@ -17,7 +18,7 @@ pub record ChangesValue : Type 0 where
 abbrev pub no_changes : ChangesValue
 no_changes = record { opening = []; entries = [] }
 
--- The changes at the opening: the opening keys are added at moment 0
+-- Returns the changes of a key at the opening: an opening key is added at moment 0.
 abbrev pub opened_moments : List ℕ → ℕ → List ℕ
 opened_moments keys key = if has_key key keys then 0 ∷ [] else []
 
@@ -28,42 +29,45 @@ moments_in (Some ms) = ms
 abbrev pub noted_of : ChangesValue → ℕ → List ℕ
 noted_of c key = moments_in (lookup (is_at (nat_cmp key)) c.entries)
 
--- All moments of a key, moment 0 included if it is an opening key
+-- Returns all moments of a key, including moment 0 if it is an opening key.
 abbrev pub moments_of : ChangesValue → ℕ → List ℕ
 moments_of c key = opened_moments c.opening key ++ noted_of c key
 
--- Whether a key is present at a moment. `present` is whether it was present before all of these moments.
+-- Returns whether a key with these moments is present at a moment. `present` is whether it was present before the first
+-- of them.
 abbrev pub state_at : Bool → List ℕ → ℕ → Bool
 state_at present [] moment = present
 state_at present (m ∷ ms) moment = if nat_lt moment m then present else state_at (not present) ms moment
 
--- Whether a key is present after all of these moments. `present` is whether it was present before them.
+-- Returns whether a key is present after all of these moments. `present` is whether it was present before the first of
+-- them.
 abbrev pub state_after : Bool → List ℕ → Bool
 state_after present [] = present
 state_after present (m ∷ ms) = state_after (not present) ms
 
--- Whether a key is present at a moment, from the moments of each key
+-- Returns whether a key is present at a moment. `changes` maps each key to its moments.
 abbrev pub is_present : (ℕ → List ℕ) → ℕ → ℕ → Bool
 is_present changes key moment = state_at false (changes key) moment
 
 abbrev pub is_present_now : (ℕ → List ℕ) → ℕ → Bool
 is_present_now changes key = state_after false (changes key)
 
--- The moment is above 0 and above every recorded moment.
+-- States that the moment is above 0 and after every recorded moment.
 abbrev pub IsLaterThanAll : (ℕ → List ℕ) → ℕ → Type 0
 IsLaterThanAll changes moment = (0 < moment) × ((key : ℕ) → All (λ m. m < moment) (changes key))
 
--- The moments of each key after a further change of a key
+-- Returns the moments of each key after one more change of one key.
 abbrev pub with_change : (ℕ → List ℕ) → ℕ → ℕ → ℕ → List ℕ
 with_change changes key moment k = if k == key then changes k ++ moment ∷ [] else changes k
 
--- THE FIRST MOMENT from `first` to `last` at which a predicate holds, or None if there is no such moment
+-- States that this is the first moment from `first` to `last` at which P holds. `None` states that there is no such
+-- moment.
 abbrev pub IsFirst : (ℕ → Type 0) → ℕ → ℕ → Option ℕ → Type 0
 IsFirst P first last None = (m : ℕ) → first ≤ m → m ≤ last → P m → ⊥
 IsFirst P first last (Some k) = (first ≤ k) × (k ≤ last) × P k × ((m : ℕ) → first ≤ m → m < k → P m → ⊥)
 
--- The first moment, by a test that is computed: from a moment on, within a number of moments, the first at which the test has
--- the wanted value
+-- The first moment that passes a test, by computation. `first_passing` tries `first` and the next n moments, and
+-- returns the first at which the test's value is `asked`.
 abbrev pub is_same : Bool → Bool → Bool
 is_same true b = b
 is_same false b = not b
@@ -72,8 +76,8 @@ abbrev pub first_passing : Bool → (ℕ → Bool) → ℕ → ℕ → Option �
 first_passing asked f first zero = if is_same asked (f first) then Some first else None
 first_passing asked f first (suc n) = if is_same asked (f first) then Some first else first_passing asked f (suc first) n
 
--- Whether `found` is the smallest key at or above another key that is present at a moment, if all keys are below 2^32. None means
--- that there is no such key.
+-- A computable test whether `found` is the smallest key at or above `key` that is present at a moment. `None` means
+-- that there is no such key. All keys must be below 2^32.
 abbrev pub same_key : Option ℕ → Option ℕ → Bool
 same_key None None = true
 same_key None (Some b) = false
@@ -86,22 +90,23 @@ smallest_present changes key m = first_passing true (λ j. is_present changes j 
 abbrev pub has_ceiling : (ℕ → List ℕ) → ℕ → Option ℕ → ℕ → Bool
 has_ceiling changes key found m = same_key (smallest_present changes key m) found
 
--- The value of the fields of Changes
+-- Returns the model value of the fields of `Changes`.
 abbrev pub changes_in : List ℕ → BTreeMap ℕ (Vec ℕ Global) → ChangesValue
 changes_in opening kept = record { opening = opening; entries = map (λ (e : ℕ × Vec ℕ Global). (e.0, e.1.items)) kept.entries }
 
 abbrev pub Increase : ChangesValue → Type 0
 Increase c = (key : ℕ) → IsStrictlyIncreasing (moments_of c key)
 
--- No key from 2^32 on has changes.
+-- States that keys from 2^32 on have no changes.
 abbrev pub IsBounded : (ℕ → List ℕ) → Type 0
 IsBounded changes = (key : ℕ) → 2 ^ 32 ≤ key → changes key ≡ []
 
--- The moment is above 0 and is recorded with this key.
+-- States that the moment is recorded with this key, unless it is moment 0.
 abbrev pub IsListed : BTreeMap ℕ ℕ → ℕ → ℕ → Type 0
 IsListed keys_at key moment = 0 < moment → get nat_cmp keys_at moment ≡ Some key
 
--- The fields keys_at and keys_now agree with the changes: each recorded moment has its key, and each present key is in keys_now.
+-- The invariant of `Changes`. In particular, `keys_at` has the key of each recorded moment, and `keys_now` has each
+-- present key.
 pub record AreKept (c : ChangesValue) (keys_at : BTreeMap ℕ ℕ) (keys_now : BTreeSet ℕ) : Type 0 where
   pub opening : IsStrictlyIncreasing c.opening
   pub increase : Increase c
@@ -109,7 +114,7 @@ pub record AreKept (c : ChangesValue) (keys_at : BTreeMap ℕ ℕ) (keys_now : B
   pub listed : (key : ℕ) → All (IsListed keys_at key) (moments_of c key)
   pub present : (key : ℕ) → is_present_now (moments_of c) key ≡ true → IsTrue (contains nat_cmp keys_now key)
 
--- The number of moments that are at most `moment`, if the moments increase
+-- States that `count` of the increasing moments are at most `moment`.
 pub record IsCountUpTo (ms : List ℕ) (moment count : ℕ) : Type 0 where
   pub inside : count ≤ length ms
   pub upto : (i : ℕ) → i < count → slice_index ms i ≤ moment

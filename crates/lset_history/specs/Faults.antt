@@ -1,4 +1,4 @@
--- When an order of calls explains a history, and the first error if it does not.
+-- Defines when an order of calls explains a history, and which error is the first one otherwise.
 use Rattle.std.specs.Prelude.{◌≡◌, ◌≢◌, ℕ, ◌<◌, ◌≤◌, ◌⊎◌, List, map, take, length, All, IsSome, IsSomeAnd, slice_index_or}
 use Rattle.std.specs.List.Sorted.{IsStrictlyIncreasing}
 use Rattle.lset_words.specs.declared.Reply.{Reply}
@@ -12,33 +12,34 @@ use Rattle.lset_history.specs.declared.fault.OrderFault.TheVariants.{Unknown, Tw
 use Rattle.lset_history.specs.declared.fault.OrderFault.TheVariants.{Memory}
 use Rattle.lset_history.specs.History.{HistoryValue}
 
--- The set after the calls of an order
+-- Returns the set after the calls of an order.
 abbrev pub set_left_by : SetState → List CallRecord → List Placed → SetState
 set_left_by start calls order = set_left start (map (answered calls) order)
 
--- The order linearizes the history, and the keys are those of the set that it leaves, in strictly increasing order.
+-- The order linearizes the history and leaves exactly these keys. The keys increase strictly.
 pub record Explains (h : HistoryValue) (order : List Placed) (keys : List ℕ) : Type 0 where
   pub linearizes : Linearizes h.opening.quota (opening_set h.opening) h.calls order
   pub keys_left : keys ≡ (set_left_by (opening_set h.opening) h.calls order).keys
   pub increasing : IsStrictlyIncreasing keys
 
--- THE CHECKS of a place in the order
+-- Returns the place at an index of the order.
 abbrev pub place_at : List Placed → ℕ → Placed
 place_at order i = slice_index_or order i (record { call = 0; reply = True })
 
--- The call at a place
+-- Returns the call at a place.
 abbrev pub placed_call : List CallRecord → List Placed → ℕ → CallRecord
 placed_call calls order i = call_numbered calls (place_at order i).call
 
--- No call has this number.
+-- States that the history has no call with the number at this place.
 abbrev pub IsUnknown : List CallRecord → List Placed → ℕ → Type 0
 IsUnknown calls order i = length calls ≤ (place_at order i).call
 
--- The call is at an earlier place too.
+-- States that the call is at an earlier place as well.
 abbrev pub IsTwice : List Placed → ℕ → Type 0
 IsTwice order i = (earlier : ℕ) × (earlier < i) × ((place_at order earlier).call ≡ (place_at order i).call)
 
--- The history has another reply, or the sequential set returns another reply after the earlier places.
+-- States that the place's reply differs from the reply in the history, or from the sequential set's reply after the
+-- earlier places.
 abbrev pub HasWrongReply : ℕ → SetState → List CallRecord → List Placed → ℕ → Type 0
 HasWrongReply quota start calls order i =
     let x = placed_call calls order i in
@@ -46,23 +47,22 @@ HasWrongReply quota start calls order i =
     IsSomeAnd x.ended (λ (end : ℕ × Reply). end.1 ≢ reply)
     ⊎ (reply_to quota (set_left_by start calls (take i order)) x.thread x.call ≢ reply)
 
--- A call that ended before this one began has a later place.
+-- States that a call at a later place ended before this call began.
 abbrev pub IsTooEarly : List CallRecord → List Placed → ℕ → Type 0
 IsTooEarly calls order i =
     (later : ℕ) × (i < later) × (later < length order) × Precedes (placed_call calls order later) (placed_call calls order i)
 
--- A completed call that is not in the order
+-- A completed call that is not in the order.
 pub record IsMissing (calls : List CallRecord) (order : List Placed) (number : ℕ) : Type 0 where
   pub known : number < length calls
   pub ended : IsSome (call_numbered calls number).ended
   pub absent : All (λ (p : Placed). p.call ≢ number) order
 
--- THE FIRST ERROR
--- The check refuses no place.
+-- States that the check accepts every place.
 abbrev pub Passes : (ℕ → Type 0) → List Placed → Type 0
 Passes Refuses order = (place : ℕ) → place < length order → Refuses place → ⊥
 
--- The first place that the check refuses is a place of the call with this number.
+-- `number` is the call at the first place that the check refuses.
 pub record RefusesFirst (Refuses : ℕ → Type 0) (order : List Placed) (number : ℕ) : Type 0 where
   pub place : ℕ
   pub inside : place < length order
@@ -77,7 +77,7 @@ pub record MissesFirst (calls : List CallRecord) (order : List Placed) (number :
   pub missing : IsMissing calls order number
   pub smallest : (smaller : ℕ) → smaller < number → IsMissing calls order smaller → ⊥
 
--- This is the error, and no earlier check failed.
+-- States that this is the order's error, and that all earlier checks passed.
 abbrev pub IsFault : HistoryValue → List Placed → List ℕ → OrderFault → Type 0
 IsFault h order keys (Unknown number) = RefusesFirst (IsUnknown h.calls order) order number
 IsFault h order keys (Twice number) = Passes (IsUnknown h.calls order) order × RefusesFirst (IsTwice order) order number

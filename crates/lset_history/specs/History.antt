@@ -1,4 +1,4 @@
--- The value of a History, and the begins and ends that it accepts.
+-- The value of a `History`, and the conditions under which it lets a call begin or end.
 use Rattle.std.specs.Prelude.{◌≡◌, ℕ, ◌<◌, ◌≤◌, ◌^◌, ◌==◌, ◌&&◌, max, Bool, true, false, List, [], ◌∷◌, ◌++◌, length, Option}
 use Rattle.std.specs.Prelude.{Some, None, is_none, All, IfSome, slice_index_or, slice_set}
 use Rattle.std.specs.List.{list_any}
@@ -9,28 +9,28 @@ use Rattle.lset_words.specs.History.{IsHistory, call_numbered}
 use Rattle.lset_history.specs.declared.fault.HistoryFault.{HistoryFault}
 use Rattle.lset_history.specs.declared.fault.HistoryFault.TheVariants.{NoThread, Busy, NotOpen, Time, Memory}
 
--- The opening of the set, and the calls by their numbers
+-- The opening of the set, and the calls, indexed by their numbers.
 pub record HistoryValue : Type 0 where
   pub opening : Opening
   pub calls : List CallRecord
 
--- Whether a thread has a pending call
+-- Returns whether a thread has a pending call.
 abbrev pub has_open : List CallRecord → ℕ → Bool
 has_open calls thread = list_any (λ x. x.thread == thread && is_none x.ended) calls
 
--- A moment from 1 on that is above every earlier moment
+-- States that the moment is at least 1 and after every earlier moment.
 pub record IsLater (calls : List CallRecord) (at : ℕ) : Type 0 where
   pub counted : 0 < at
   pub begins : All (λ (x : CallRecord). x.begun < at) calls
   pub ends : All (λ (x : CallRecord). IfSome x.ended (λ (e : ℕ × Reply). e.0 < at)) calls
 
--- A CALL BEGINS
+-- The conditions under which a thread can begin a call at a moment.
 pub record MayBegin (h : HistoryValue) (thread at : ℕ) : Type 0 where
   pub of_a_thread : thread < h.opening.threads
   pub idle : has_open h.calls thread ≡ false
   pub later : IsLater h.calls at
 
--- The first reason why the history refuses the begin of a call
+-- States that this is the first reason why the history does not let a call begin.
 abbrev pub CannotBegin : HistoryValue → ℕ → ℕ → HistoryFault → Type 0
 CannotBegin h thread at NoThread = h.opening.threads ≤ thread
 CannotBegin h thread at Busy = (thread < h.opening.threads) × (has_open h.calls thread ≡ true)
@@ -41,8 +41,7 @@ CannotBegin h thread at Memory = MayBegin h thread at
 abbrev pub with_begun : HistoryValue → CallRecord → HistoryValue
 with_begun h x = record h { calls = h.calls ++ x ∷ [] }
 
--- A CALL ENDS
--- A pending call has this number.
+-- The call with this number exists and is pending, so it can end.
 pub record IsOpen (calls : List CallRecord) (number : ℕ) : Type 0 where
   pub known : number < length calls
   pub not_ended : (call_numbered calls number).ended ≡ None
@@ -51,7 +50,7 @@ pub record MayEnd (h : HistoryValue) (number at : ℕ) : Type 0 where
   pub open_call : IsOpen h.calls number
   pub later : IsLater h.calls at
 
--- The first reason why the history refuses the end of a call
+-- States that this is the first reason why the history does not let a call end.
 abbrev pub CannotEnd : HistoryValue → ℕ → ℕ → HistoryFault → Type 0
 CannotEnd h number at NotOpen = IsOpen h.calls number → ⊥
 CannotEnd h number at Time = IsOpen h.calls number × (IsLater h.calls at → ⊥)
@@ -59,23 +58,23 @@ CannotEnd h number at NoThread = ⊥
 CannotEnd h number at Busy = ⊥
 CannotEnd h number at Memory = ⊥
 
--- The call with its end: a moment and a reply
+-- Returns the call, ended at a moment with a reply.
 abbrev pub ended_with : CallRecord → ℕ × Reply → CallRecord
 ended_with x end = record x { ended = Some end }
 
 abbrev pub with_ended : HistoryValue → ℕ → ℕ × Reply → HistoryValue
 with_ended h number end = record h { calls = slice_set h.calls number (ended_with (call_numbered h.calls number) end) }
 
--- THE INVARIANT of a History
+-- Returns the moment of an end, or 0 if there is none.
 abbrev pub moment_of : Option (ℕ × Reply) → ℕ
 moment_of None = 0
 moment_of (Some end) = end.0
 
--- The last moment of a call
+-- Returns the moment at which a call ends or, if it is pending, the moment at which it begins.
 abbrev pub last_moment : CallRecord → ℕ
 last_moment x = max x.begun (moment_of x.ended)
 
--- The latest moment of the calls; 0 if there is no call
+-- Returns the latest moment in the calls, or 0 if there are none.
 abbrev pub latest_moment : List CallRecord → ℕ
 latest_moment [] = 0
 latest_moment (x ∷ xs) = max (last_moment x) (latest_moment xs)

@@ -1,4 +1,4 @@
--- The laws of placement, as public functions state them. They name no machine.
+-- The laws of placement, as the public functions state them. They mention no machine.
 use Rattle.std.specs.Prelude.{◌≡◌, ◌↔◌, ℕ, ◌≤◌, List, map, Contains}
 use Rattle.std.specs.List.Sorted.{IsStrictlyIncreasing}
 use Rattle.lset_words.specs.declared.Call.{Call}
@@ -12,56 +12,57 @@ use Rattle.lset_words.specs.Account.{Content, Contents, Counts, Fits, Account}
 use Rattle.lset_history.specs.Placement.{IsPlacement}
 use Rattle.lset_words.specs.Words.{Opening}
 
--- The content with the keys of a list, and the contents with the keys of a list at each moment
+-- Returns the content with the keys of a list. `contents_of_lists` does the same for each moment.
 abbrev pub content_of : List ℕ → Content
 content_of keys j = Contains keys j
 
 abbrev pub contents_of_lists : (ℕ → List ℕ) → Contents
 contents_of_lists lists m = content_of (lists m)
 
--- The keys of the set are the keys of the content, in strictly increasing order. No other increasing list has these keys.
+-- The set's keys are the keys of the content, in strictly increasing order. No other increasing list has the same keys.
 pub record HasKeysOf (s : SetState) (content : List ℕ) : Type 0 where
   pub increasing : IsStrictlyIncreasing s.keys
   pub members : (j : ℕ) → Contains content j ↔ Contains s.keys j
   pub alone : (keys : List ℕ) → IsStrictlyIncreasing keys → ((j : ℕ) → Contains content j ↔ Contains keys j) → s.keys ≡ keys
 
--- The set after the calls of a log, made in this order from the opening set
+-- Returns the set after a log's calls are made in this order, beginning with the opening set.
 abbrev pub set_of_order : Opening → Log → ℕ → List Placed → SetState
 set_of_order op log last order = set_left (opening_set op) (map (answered (history_at log last)) order)
 
--- THE PLACEMENT THEOREM: the order of placement linearizes the history from the opening set, and leaves the last content.
+-- The placement theorem: the order of placement linearizes the history from the opening set, and leaves the run's last
+-- content.
 abbrev pub PlacementLinearizes : Type 0
 PlacementLinearizes = (op : Opening) (last : ℕ) (log : Log) (lists : ℕ → List ℕ) (counts : Counts) (order : List Placed)
     → Account op last log (contents_of_lists lists) counts
     → IsPlacement op.quota (calls_at log last) (contents_of_lists lists) counts order
     → Linearizes op.quota (opening_set op) (history_at log last) order × HasKeysOf (set_of_order op log last order) (lists last)
 
--- Every run has a placement, so every call that changed the set or ended has a place.
+-- States that every run has a placement. So every call that changed the set or ended has a place in an order.
 abbrev pub EveryCallHasAPlace : Type 0
 EveryCallHasAPlace = (op : Opening) (last : ℕ) (log : Log) (lists : ℕ → List ℕ) (counts : Counts)
     → Account op last log (contents_of_lists lists) counts
     → (order : List Placed) × IsPlacement op.quota (calls_at log last) (contents_of_lists lists) counts order
 
--- The calls of a run, at each of its moments, are a history.
+-- States that at each moment of a run its calls form a history.
 abbrev pub LogsTellHistories : Type 0
 LogsTellHistories = (op : Opening) (last : ℕ) (log : Log) (lists : ℕ → List ℕ) (counts : Counts)
     → Account op last log (contents_of_lists lists) counts → (k : ℕ) → k ≤ last → IsHistory op.threads (history_at log k)
 
--- The keys increase strictly, if the call is a Ceiling.
+-- States that the keys increase strictly if the call is a `Ceiling`.
 abbrev pub IncreasesFor : Call → List ℕ → Type 0
 IncreasesFor (call.Add k) keys = Unit {0}
 IncreasesFor (call.Remove k) keys = Unit {0}
 IncreasesFor (call.Contains k) keys = Unit {0}
 IncreasesFor (call.Ceiling k) keys = IsStrictlyIncreasing keys
 
--- A reply fits exactly if the sequential set returns it and does not change.
+-- States that a reply fits if and only if the sequential set returns it and does not change.
 abbrev pub FitsAreReplies : Type 0
 FitsAreReplies = (quota thread count : ℕ) (keys : List ℕ) (s : SetState) (call : Call) (reply : Reply)
     → ((j : ℕ) → Contains keys j ↔ Contains s.keys j) → IncreasesFor call s.keys → count_of s thread ≡ count
     → Fits quota (content_of keys) count call reply
     ↔ ((reply_to quota s thread call ≡ reply) × (after_call s thread call reply ≡ s))
 
--- A run has at most one placement.
+-- States that a run has at most one placement.
 abbrev pub PlacementIsOneOrder : Type 0
 PlacementIsOneOrder = (quota : ℕ) (calls : List TracedCall) (lists : ℕ → List ℕ) (counts : Counts)
     (order other : List Placed)

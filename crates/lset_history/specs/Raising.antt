@@ -1,28 +1,30 @@
--- Definitions for private contracts: the search for the first moment at which a key is the smallest at or above another key.
+-- Definitions for private contracts of the search for the first moment at which a key is the smallest at or above
+-- another key.
 use Rattle.std.specs.Prelude.{◌≡◌, ℕ, ◌<◌, ◌≤◌, ◌==◌, nat_lt, Bool, true, false, not, if◌then◌else◌, List, All, Option, Some}
 use Rattle.std.specs.Prelude.{None}
 use Rattle.lset_history.specs.Changes.{is_present, is_present_now}
 
--- The next moment after `moment` at which a key is added or removed, and that key
+-- States that this is the next moment after `moment` at which a key changes, together with that key.
 abbrev pub IsNextNote : (ℕ → List ℕ) → ℕ → Option (ℕ × ℕ) → Type 0
 IsNextNote changes moment None = (j : ℕ) → All (λ m. m ≤ moment) (changes j)
 IsNextNote changes moment (Some n) = (moment < n.0)
     × ((j : ℕ) → All (λ m. moment < m → m ≤ n.0 → (m ≡ n.0) × (j ≡ n.1)) (changes j))
 
--- The next key after another that is present now
+-- States that this is the next larger key that is present after the last change.
 abbrev pub IsNextPresent : (ℕ → List ℕ) → ℕ → Option ℕ → Type 0
 IsNextPresent changes key None = (j : ℕ) → key < j → is_present_now changes j ≡ false
 IsNextPresent changes key (Some k) = (key < k) × ((j : ℕ) → key < j → j < k → is_present_now changes j ≡ false)
 
--- Whether key j refutes, at a moment, that `found` is the smallest key at or above `key` (None: that there is no such key)
+-- Returns whether key j shows, at a moment, that `found` is not the smallest key at or above `key`. `found` is `None`
+-- for the claim that there is no such key.
 abbrev pub is_against : (ℕ → List ℕ) → ℕ → Option ℕ → ℕ → ℕ → Bool
 is_against changes key None j moment = if nat_lt j key then false else is_present changes j moment
 is_against changes key (Some x) j moment =
     if nat_lt j key then false else if nat_lt x j then false else if x == j then not (is_present changes j moment)
     else is_present changes j moment
 
--- At each moment from `from` on, below `moment`, some key refutes `found`. A key that refutes `found` at `moment` does so up to
--- `last`.
+-- At each moment from `from` to just before `moment`, some key refutes `found`. A key that refutes `found` at `moment`
+-- keeps doing so up to `last`.
 pub record IsCandidateUpTo (changes : ℕ → List ℕ) (key : ℕ) (found : Option ℕ) (from moment last : ℕ) : Type 0 where
   pub low : from ≤ moment
   pub before : (m : ℕ) → from ≤ m → m < moment → (j : ℕ) × (is_against changes key found j m ≡ true)
@@ -36,11 +38,12 @@ abbrev pub IsBelow : ℕ → Option ℕ → Type 0
 IsBelow j None = Unit {0}
 IsBelow j (Some end) = j < end
 
--- Some key from `key` on, below `end`, is present.
+-- States that some key at or above `key` and below `end` is present at this moment.
 abbrev pub IsSomeThere : (ℕ → List ℕ) → ℕ → Option ℕ → ℕ → Type 0
 IsSomeThere changes key end moment = (j : ℕ) × (key ≤ j) × IsBelow j end × (is_present changes j moment ≡ true)
 
--- No key from `key` on, below `end`, that is present now was present at the moment.
+-- States that the keys at or above `key` and below `end` that are present after the last change were all absent at this
+-- moment.
 abbrev pub CameAfter : (ℕ → List ℕ) → ℕ → Option ℕ → ℕ → Type 0
 CameAfter changes key end moment = (j : ℕ) → key ≤ j → IsBelow j end → is_present_now changes j ≡ true →
     is_present changes j moment ≡ false

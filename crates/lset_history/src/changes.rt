@@ -32,17 +32,17 @@ use std::collections::{BTreeMap, BTreeSet};
 use std::marker::Model;
 use std::ops::Bound;
 
-/// The keys of a set at each moment, recorded by changes: when each key was added or removed. At moment 0 the set contains
-/// the opening keys and no other key.
+/// A record of the keys of a set at each moment, stored as changes: when each key was added or removed. At moment 0,
+/// the set contains exactly the opening keys.
 #[derive(Drop)]
 pub struct Changes {
     alloc: Global,
-    /// The opening keys, in increasing order. Moment 0 of these keys is in no other field.
+    /// The opening keys, in increasing order. The other fields do not mention moment 0.
     opening: Vec<u32>,
-    /// For each key that changed: the moments above 0 at which it was added and removed, in turn.
+    /// For each key that changed, the moments above 0 at which it was added and removed, alternately.
     moments: BTreeMap<u32, Vec<u32>>,
-    /// For each moment of a change, the key that changed. After a failed allocation in `note`, this map and `keys_now` can each
-    /// have an entry too many.
+    /// The key that changed at each moment of a change. After a failed allocation in `note`, this map and `keys_now`
+    /// can each have a surplus entry.
     keys_at: BTreeMap<u32, u32>,
     /// The keys of the set after the last change.
     keys_now: BTreeSet<u32>,
@@ -58,7 +58,7 @@ impl Model for Changes {
     ghost invariant = { λ c. AreKept (changes_in c.opening.items c.moments) c.keys_at c.keys_now };
 }
 
-/// Returns how many of `moments`, in increasing order, are at most `at`, and how many moments the search compared.
+/// Returns how many of the increasing `moments` are at most `at`, and how many moments the search compared.
 fn count_upto(moments: &[u32], at: u32) -> (usize, u32)
     requires { IsStrictlyIncreasing moments.now }
     ensures count { IsCountUpTo moments.now at result.0 }
@@ -89,7 +89,7 @@ fn is_past(end: Option<u32>, key: u32) -> bool
     }
 }
 
-/// Records a further moment of a key. If an allocation fails, returns `AllocError` and changes nothing.
+/// Appends one more moment of a key. Returns `AllocError` and changes nothing if an allocation fails.
 fn push_moment(
     moments: &mut BTreeMap<u32, Vec<u32>>,
     alloc: Global,
@@ -124,8 +124,8 @@ impl Changes {
         }
     }
 
-    /// Returns a record without changes, for a set that opens with `keys` at moment 0. `keys` must be in strictly increasing
-    /// order. Allocates a copy of them; `AllocError` if that fails.
+    /// Returns a record without changes, for a set that opens with `keys`, which must be in strictly increasing order.
+    /// Allocates a copy of the keys; returns `AllocError` if that fails.
     pub fn opened(alloc: Global, keys: &[u32]) -> Result<Changes, AllocError>
         requires { IsStrictlyIncreasing keys.now }
         ensures { IfOk result (λ c. (k : ℕ) → moments_of c k ≡ opened_moments keys.now k) }
@@ -140,17 +140,17 @@ impl Changes {
         })
     }
 
-    /// Records that `key` was added (`present` is true) or removed at the moment `at`. `at` must be above 0 and above every
-    /// recorded moment. A key that is added must be absent, a key that is removed must be present. Can allocate; if that fails,
-    /// returns `AllocError` and records nothing.
+    /// Records that `key` was added (`present` is true) or removed at the moment `at`. `at` must be above 0 and after
+    /// every recorded moment. A key that is added must be absent, a key that is removed must be present. Can allocate.
+    /// If an allocation fails, returns `AllocError` and records nothing.
     pub fn note(&mut self, key: u32, present: bool, at: u32) -> Result<(), AllocError>
         requires later { IsLaterThanAll (moments_of self.old) at }
         requires turn { present ≡ not (is_present_now (moments_of self.old) key) }
         ensures noted { OnOk result ((k : ℕ) → moments_of self.new k ≡ with_change (moments_of self.old) key at k) }
         ensures unchanged { OnErr result (self.new ≡ self.old) }
     {
-        // A key is inserted before the change is recorded, and removed from `keys_now` after it. A failed allocation can leave
-        // an entry too many, but none is missing.
+        // The key is inserted here before the change is recorded, and removed from `keys_now` afterwards. So a failed
+        // allocation can leave a surplus entry, but no entry is ever missing.
         self.keys_at.insert(at, key)?;
         self.keys_now.insert(key)?;
         push_moment(&mut self.moments, self.alloc, key, at)?;
@@ -160,11 +160,13 @@ impl Changes {
         Ok(())
     }
 
-    /// Returns the first moment from `from` to `to` at which `key` is in the set (`present` is true) or is not, or `None`; and
-    /// how many recorded moments the search compared. `from` must be at most `to`.
+    /// Returns the first moment from `from` to `to` at which `key` is present (if `present` is true) or absent, or
+    /// `None` if there is no such moment. Also returns how many recorded moments the search compared. `from` must be at
+    /// most `to`.
     ///
-    /// Compares at most 24 moments if the key has at most 1,000,000, and never fewer than a search that compares one at a time
-    /// needs. Does not allocate.
+    /// The search is binary. It compares at most 24 moments if the key has at most 1,000,000. If the key has n moments
+    /// above 0, it compares at least log2(n + 1) of them, rounded down: no search by comparisons can always do with
+    /// fewer. Does not allocate.
     pub fn first(&self, key: u32, present: bool, from: u32, to: u32) -> (Option<u32>, u32)
         requires { from ≤ to }
         ensures first { IsFirst (λ m. is_present (moments_of self.now) key m ≡ present) from to result.0 }
@@ -208,7 +210,7 @@ impl Changes {
         self.first(key, true, moment, moment).0.is_some()
     }
 
-    /// Returns the next moment at which a key was added or removed, and the key.
+    /// Returns the next moment after `moment` at which a key changed, and this key.
     fn note_after(&self, moment: u32) -> Option<(u32, u32)>
         ensures { IsNextNote (moments_of self.now) moment result }
     {
@@ -219,7 +221,7 @@ impl Changes {
         }
     }
 
-    /// Returns the next key of the set after the last change.
+    /// Returns the next key above `key` that is in the set after the last change.
     fn present_after(&self, key: u32) -> Option<u32>
         ensures { IsNextPresent (moments_of self.now) key result }
     {
@@ -230,8 +232,9 @@ impl Changes {
         }
     }
 
-    /// Returns whether `other` refutes, at a moment, that `found` is the smallest key at or above `key` (`None`: that there is
-    /// no such key): `other` is in the set at that moment and must not be, or is absent and must be present.
+    /// Returns whether `other` shows, at a moment, that `found` is not the smallest key at or above `key` (`None`
+    /// claims that there is no such key). This is so if `other` is present and must not be, or is absent and must be
+    /// present.
     fn is_against(&self, key: u32, found: Option<u32>, other: u32, moment: u32) -> bool
         ensures { result ≡ is_against (moments_of self.now) key found other moment }
     {
@@ -243,15 +246,15 @@ impl Changes {
         }
     }
 
-    /// Returns the only moment from `from` on that can be the first: at each moment before it some key refutes `found`. A key
-    /// that refutes `found` at the returned moment refutes it at all later moments.
+    /// Returns the only moment from `from` on that can be the first. At each moment before it, some key refutes
+    /// `found`. A key that refutes `found` at the returned moment refutes it at all later moments, too.
     fn candidate(&self, key: u32, found: Option<u32>, from: u32) -> u32
         ensures { IsCandidate (moments_of self.now) key found from result }
     {
         let mut moment = from;
         let mut last = from;
         while let Some((at, noted)) = self.note_after(last) {
-            // The key that refutes `found` at `moment` does so at each moment up to this one.
+            // The key that refutes `found` at `moment` refutes it up to this moment.
             if self.is_against(key, found, noted, moment) {
                 moment = at;
             }
@@ -260,8 +263,7 @@ impl Changes {
         moment
     }
 
-    /// Returns whether each key from `key` on, below `end`, that is in the set now was absent at a moment. Returns `false`
-    /// only if some such key was present at that moment.
+    /// Returns whether every key from `key` to just below `end` that is in the set now was absent at `moment`.
     fn came_after(&self, key: u32, end: Option<u32>, moment: u32) -> bool
         ensures came { IsTrue result → CameAfter (moments_of self.now) key end moment }
         ensures there { result ≡ false → IsSomeThere (moments_of self.now) key end moment }
@@ -279,11 +281,11 @@ impl Changes {
         true
     }
 
-    /// Returns the first moment from `from` to `to` at which the smallest key of the set at or above `key` is `found` (`None`:
-    /// at which there is no such key), or `None` if there is no such moment. `from` must be at most `to`.
+    /// Returns the first moment from `from` to `to` at which the smallest key of the set at or above `key` is `found`
+    /// (`None`: at which there is no such key), or `None` if there is no such moment. `from` must be at most `to`.
     ///
-    /// Reads each change recorded after `from`, also those after `to`. If it is called before a change after `to` is recorded,
-    /// many searches together take time proportional to the sum of their spans. Does not allocate.
+    /// Reads all changes after `from`, even those after `to`. If each search is made before a change after its `to` is
+    /// recorded, the searches together take time proportional to the sum of their spans. Does not allocate.
     pub fn first_ceiling(&self, key: u32, found: Option<u32>, from: u32, to: u32) -> Option<u32>
         requires { from ≤ to }
         ensures first { IsFirst (λ m. IsCeiling (λ j. is_present (moments_of self.now) j m ≡ true) key found) from to result }

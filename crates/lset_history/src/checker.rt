@@ -10,7 +10,7 @@ use crate::{History, Oracle, OrderFault};
 use lset_words::{CallRecord, Placed, Reply};
 use std::alloc::{AllocError, Global};
 
-/// Returns the call of the first place whose call is not in the history.
+/// Returns the number of the first call in the order that the history does not have.
 fn first_unknown(calls: &[CallRecord], order: &[Placed]) -> Option<u32>
     ensures { MatchOption result
         (HasKnownCalls calls.now order.now)
@@ -24,8 +24,8 @@ fn first_unknown(calls: &[CallRecord], order: &[Placed]) -> Option<u32>
     None
 }
 
-/// Returns the call of the first place whose call has an earlier place too. `placed` has a mark for each call of the history,
-/// none of them set. The function sets the marks of the calls in the order.
+/// Returns the number of the first call in the order that has an earlier place as well. `placed` must have one mark for
+/// each call of the history, all unset. Sets the marks of the calls in the order.
 fn first_twice(order: &[Placed], placed: &mut [bool]) -> Option<u32>
     requires known { All (λ (p : Placed). p.call < length placed.old) order.now }
     requires none_set { All (λ (mark : Bool). mark ≡ false) placed.old }
@@ -44,7 +44,7 @@ fn first_twice(order: &[Placed], placed: &mut [bool]) -> Option<u32>
     None
 }
 
-/// Returns the smallest number of a completed call without a mark in `placed`, which has an element for each call.
+/// Returns the smallest number of a completed call that is not marked in `placed`. `placed` has one mark for each call.
 fn first_missing(calls: &[CallRecord], placed: &[bool]) -> Option<u32>
     requires few { length calls.now < 2 ^ 32 }
     requires each { length placed.now ≡ length calls.now }
@@ -60,8 +60,8 @@ fn first_missing(calls: &[CallRecord], placed: &[bool]) -> Option<u32>
     None
 }
 
-/// Returns whether `reply` is the reply of the call in the history, if it is completed, and the reply of the sequential set.
-/// Makes the call in `oracle`.
+/// Returns whether `reply` is the call's reply in the history, if it has ended there, and the reply of the sequential
+/// set. Makes the call in `oracle`.
 fn has_reply(oracle: &mut Oracle, call_record: CallRecord, reply: Reply) -> Result<bool, AllocError>
     requires { call_record.thread < oracle.old.threads }
     ensures answers { IfOk result (λ right. MatchBool right
@@ -77,8 +77,8 @@ fn has_reply(oracle: &mut Oracle, call_record: CallRecord, reply: Reply) -> Resu
     Ok(oracle.apply(call_record.thread, call_record.call)? == reply)
 }
 
-/// Returns the call of the first place whose reply differs from the history's, or from the reply of the sequential set after
-/// the earlier places. Makes the calls of the order in `oracle`.
+/// Returns the number of the first call in the order whose reply differs from the history's, or from the sequential
+/// set's reply after the earlier places. Makes the calls of the order in `oracle`.
 pub(crate) fn first_wrong_reply(
     oracle: &mut Oracle,
     calls: &[CallRecord],
@@ -116,7 +116,7 @@ fn lesser(smallest: Option<u32>, ended: Option<(u32, Reply)>) -> Option<u32>
     }
 }
 
-/// Returns the call of the first place that comes before the place of a call that precedes it.
+/// Returns the number of the first call in the order that comes before a call that precedes it in real time.
 fn first_too_early(calls: &[CallRecord], order: &[Placed]) -> Option<u32>
     requires { HasKnownCalls calls.now order.now }
     ensures { MatchOption result
@@ -138,12 +138,13 @@ fn first_too_early(calls: &[CallRecord], order: &[Placed]) -> Option<u32>
 
 /// Checks that `order` explains the calls of `history` and leaves `keys`, in strictly increasing order.
 ///
-/// `Ok` means that the order linearizes the history (Herlihy and Wing, with completion of pending calls) for the sequential
-/// set with the history's threads, quota and opening keys. `tool_replay` calls it in `src/checking.rt`.
+/// `Ok` means that the order linearizes the history (Herlihy and Wing, with completion of pending calls) for the
+/// sequential set with the history's threads, quota and opening keys. `tool_replay` calls this function in
+/// `src/checking.rt`.
 ///
 /// # Errors
 ///
-/// The first of these that applies. Each is searched in the whole order before the next one:
+/// Returns the first of these that applies. The whole order is searched for one error before the next:
 /// - `Unknown`: the history has no call with this number;
 /// - `Twice`: the call is in the order twice;
 /// - `Missing`: this call is completed and not in the order; if there are several, the one with the smallest number;
@@ -151,8 +152,8 @@ fn first_too_early(calls: &[CallRecord], order: &[Placed]) -> Option<u32>
 /// - `TooEarly`: the call comes before one that had ended when it began;
 /// - `WrongSet`: `keys` are not the keys that the order leaves, in strictly increasing order.
 ///
-/// `Memory`, in place of any other result: an allocation failed. With n places, c calls and at most k keys in the set, the
-/// check takes about `c + n log k` steps. Does not block.
+/// Returns `Memory`, in place of any other result, if an allocation fails. With n places, c calls and at most k keys in
+/// the set, the check takes about `c + n log k` steps. Does not block.
 pub fn check_order(
     alloc: Global,
     history: &History,

@@ -10,9 +10,9 @@ use std::alloc::{AllocError, Global};
 use std::fmt;
 use std::marker::Model;
 
-/// A history of calls (Herlihy and Wing): the thread of each call, the moment at which it began, and its end and reply. Calls
-/// are numbered from 0 in the order in which they begin. A moment is a number from 1. Each begin or end has a later moment
-/// than all earlier ones.
+/// A history of calls (Herlihy and Wing): each call's thread, the moment at which it began, and its end and reply.
+/// Calls are numbered from 0 in the order in which they begin. Moments are numbers from 1. Each begin or end has a
+/// later moment than all before it.
 #[derive(Drop)]
 pub struct History {
     threads: u32,
@@ -105,8 +105,8 @@ impl History {
         self.opening = opening;
     }
 
-    /// Appends a call to the history, with its end if it has ended. The call must be able to follow the calls of the history.
-    /// Can allocate; if that fails, returns `AllocError` and changes nothing.
+    /// Appends a call to the history, with its end if it has ended. The history must allow the call as its next one.
+    /// Can allocate. If an allocation fails, returns `AllocError` and changes nothing.
     pub fn push(&mut self, call_record: CallRecord) -> Result<(), AllocError>
         requires { MayFollow self.old.opening.threads self.old.calls call_record }
         ensures pushed { OnOk result (self.new ≡ with_begun self.old call_record) }
@@ -118,15 +118,15 @@ impl History {
         Ok(())
     }
 
-    /// Records that thread `thread` begins a call at the moment `at`. Returns the call's number: 0 for the first call of the
-    /// history, 1 for the second, and so on. Can allocate.
+    /// Records that thread `thread` begins a call at the moment `at`. Returns the call's number: 0 for the first call
+    /// of the history, 1 for the second, and so on. Can allocate.
     ///
     /// # Errors
     ///
-    /// The first that applies; the history is then unchanged:
+    /// Returns the first that applies. The history is then unchanged:
     /// - `NoThread`: the history has no such thread;
-    /// - `Busy`: the thread has a pending call;
-    /// - `Time`: `at` is 0, or not above every earlier moment;
+    /// - `Busy`: the thread already has a pending call;
+    /// - `Time`: `at` is 0, or not after every earlier moment;
     /// - `Memory`: an allocation failed.
     pub fn begin(&mut self, thread: u32, call: Call, at: u32) -> Result<u32, HistoryFault>
         ensures number { IfOk result (λ number. number ≡ length self.old.calls) }
@@ -158,13 +158,13 @@ impl History {
         Ok(number)
     }
 
-    /// Records that the call with number `id` ends at the moment `at` with `reply`. Does not allocate.
+    /// Records that the call numbered `id` ends at the moment `at` with `reply`. Does not allocate.
     ///
     /// # Errors
     ///
-    /// The first that applies; the history is then unchanged:
-    /// - `NotOpen`: there is no such call, or it has ended;
-    /// - `Time`: `at` is 0, or not above every earlier moment.
+    /// Returns the first that applies. The history is then unchanged:
+    /// - `NotOpen`: the call does not exist, or has already ended;
+    /// - `Time`: `at` is 0, or not after every earlier moment.
     pub fn end(&mut self, id: u32, reply: Reply, at: u32) -> Result<(), HistoryFault>
         ensures ended { OnOk result (self.new ≡ with_ended self.old id (at, reply)) }
         ensures accepted { OnOk result (MayEnd self.old id at) }
@@ -191,7 +191,7 @@ impl History {
         Ok(())
     }
 
-    /// Returns the calls, by their numbers.
+    /// Returns the calls, indexed by their numbers.
     pub fn calls(&self) -> &[CallRecord]
         ensures value { result.now ≡ self.now.calls }
         ensures history { IsHistory self.now.opening.threads self.now.calls }

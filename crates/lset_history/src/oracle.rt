@@ -49,16 +49,16 @@ impl Model for Oracle {
 }
 
 impl Oracle {
-    /// Returns the empty set for `threads` threads, each with a quota of `quota` successful adds. Any numbers are allowed.
-    /// Allocates a count for each thread; `AllocError` if that fails.
+    /// Returns the empty set for `threads` threads, each with a quota of `quota` successful adds. Any numbers are
+    /// allowed. Allocates a count for each thread. Returns `AllocError` if that fails.
     pub fn new(alloc: Global, threads: u32, quota: u32) -> Result<Oracle, AllocError>
         ensures { IfOk result (λ o. o ≡ set_opened (empty threads quota)) }
     {
         Oracle::opened(alloc, threads, quota, &[])
     }
 
-    /// Returns the set that opens with `keys`, which must be in strictly increasing order. They do not count as adds of a thread.
-    /// Any `threads` and `quota` are allowed. Allocates; `AllocError` if that fails.
+    /// Returns the set that opens with `keys`, which must be in strictly increasing order. The opening keys count as no
+    /// thread's adds. Any `threads` and `quota` are allowed. Allocates. Returns `AllocError` if that fails.
     pub fn opened(
         alloc: Global,
         threads: u32,
@@ -77,7 +77,7 @@ impl Oracle {
         })
     }
 
-    /// Returns the set before the first call of a history. Allocates; `AllocError` if that fails.
+    /// Returns the set before the first call of a history. Allocates. Returns `AllocError` if that fails.
     pub(crate) fn before(alloc: Global, history: &History) -> Result<Oracle, AllocError>
         ensures { IfOk result (λ o. o ≡ set_opened history.now.opening) }
     {
@@ -90,8 +90,8 @@ impl Oracle {
     /// - `Remove` and `Contains` reply `True` if the key is present, else `False`.
     /// - `Ceiling` replies `At` with the smallest key at or above its argument, or `Nothing` if there is none.
     ///
-    /// Only an `Add` or a `Remove` that replies `True` changes the set. Only such an `Add` allocates; if that fails, returns
-    /// `AllocError` and changes nothing.
+    /// Only an `Add` or a `Remove` that replies `True` changes the set. Only such an `Add` allocates. If the allocation
+    /// fails, returns `AllocError` and changes nothing.
     pub fn apply(&mut self, thread: u32, call: Call) -> Result<Reply, AllocError>
         requires { thread < self.old.threads }
         ensures answers { IfOk result (Answers self.old self.new thread call) }
@@ -145,7 +145,7 @@ impl Oracle {
         }
     }
 
-    /// Returns the keys in strictly increasing order. Allocates one vector; `AllocError` if that fails.
+    /// Returns the keys in strictly increasing order. Allocates one vector. Returns `AllocError` if that fails.
     pub fn keys(&self) -> Result<Vec<u32>, AllocError>
         ensures keys { IfOk result (λ v. v.items ≡ self.now.state.keys) }
         ensures rising { IsStrictlyIncreasing self.now.state.keys }

@@ -12,12 +12,12 @@ use Rattle.lset_steps.specs.RowLaws.{HasReading}
 use Rattle.lset_lazy.specs.Lazy.{lazy, at_curr, released}
 use Rattle.lset_lazy.specs.Rows.{LazyRows, leaves, decides, answers_or_walks}
 
--- A choice between two states of a step is a choice between two steps.
+-- A step that continues in one of two states is one of two steps.
 choice : (b : Bool) (x y : Local) → continued (if b then x else y) ≡ (if b then continued x else continued y)
 choice true x y = refl
 choice false x y = refl
 
--- The decision of a call, by whether its key was found and its quota is left.
+-- The decision of a call depends on whether its key was found and whether the quota allows another add.
 decides_by : (c : Call) (l : Local) (found room : Bool) → (l.ckey == target c) ≡ found → nat_lt l.used l.quota ≡ room
     → continued (decided 8 11 13 c (l.ckey == target c) (nat_lt l.used l.quota) l.ckey l) ≡ decides c l
 decides_by (Add k) l true room e f = rw e refl

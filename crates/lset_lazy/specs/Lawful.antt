@@ -1,4 +1,4 @@
--- The law of every run of LazyList.
+-- Proof of the law of every run of LazyList.
 pub mod Outline
 use Rattle.std.specs.Prelude.{true}
 use Rattle.lset_steps.specs.Laws.{Lawful}

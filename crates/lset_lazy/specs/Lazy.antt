@@ -36,22 +36,24 @@ next_action l =
     else if l.pc == 14 then Store (lock_index l.pred) 0
     else read_action l
 
--- The row after the key word of curr: the walk continues while the word is below the call's key; then the call takes the locks.
+-- Returns the state after a load of curr's key word. The walk continues while the key is smaller than the call's, then
+-- the call takes the locks.
 abbrev pub at_key : ℕ → Local → Local
 at_key seen l = if nat_lt seen (target l.call) then record l { pc = 3; ckey = seen } else record l { pc = 4; ckey = seen }
 
--- The row after a failed validation: both locks are released, and there is no reply.
+-- Returns the state after a failed validation. Both locks are released next, and there is no reply.
 abbrev pub gives_up : Local → Local
 gives_up l = record l { pc = 13; reply = None }
 
--- The row after the link of pred; and below, after that of curr. Both nodes are locked.
+-- Returns the state after a load of pred's link. `at_curr` does so for curr's link. Both nodes are locked.
 abbrev pub at_pred : ℕ → Local → Local
 at_pred seen l = if seen == 2 * l.curr then record l { pc = 7 } else gives_up l
 
 abbrev pub at_curr : ℕ → Local → Local
 at_curr seen l = if seen % 2 == 0 then decided_on targets l.ckey (record l { succ = seen / 2 }) else gives_up l
 
--- The step that releases the last lock: the call ends with its reply, or starts again without one.
+-- Returns the result of the step that releases the last lock. The call ends with its reply or, if it has none, starts
+-- again.
 abbrev pub released : Option Reply → Local → Fed
 released None l = continued (record l { pc = 1 })
 released (Some r) l = leaves_with r l

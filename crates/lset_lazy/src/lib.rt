@@ -16,8 +16,8 @@ use lset_steps::rows::{Targets, decide, key_index, link_index, lock_index, own_s
 use lset_steps::{Action, Fed, Local, Machine, OpenReads};
 use lset_words::{Call, HEAD, Key, Kind, Reply};
 
-/// The list whose walks take no lock. A call that changes the list locks the two nodes at which its walk ended, and walks again
-/// if they have changed (Herlihy and Shavit's lazy list).
+/// The list whose walks take no lock. A call that changes the list locks the two nodes at which its walk ended, and
+/// walks again if they have changed since (Herlihy and Shavit's lazy list).
 #[derive(Clone, Copy)]
 pub struct LazyList;
 
@@ -28,8 +28,8 @@ const TARGETS: Targets = Targets {
     leaves: 13,
 };
 
-/// Returns the next step of a thread with a pending call, by its row of the table. Its numbers must be small; they are in every
-/// run.
+/// Returns the next step of a thread with a pending call, from its row of the table. The numbers in `local` must be
+/// small, as they are in every run.
 #[inline(always)]
 pub fn next_action(local: &Local) -> Action
     requires { IsSmall local.now }
@@ -53,7 +53,7 @@ pub fn next_action(local: &Local) -> Action
     }
 }
 
-/// Returns the thread's state after the walk moves on from `pred` to its next node, whose key is loaded next.
+/// Returns the thread's state after the walk moves from `pred` to its next node, whose key it loads next.
 #[inline(always)]
 fn walked_from(pred: u64, local: &Local, seen: u64) -> Local
     ensures { result ≡ record local.now { pc = 2; pred = pred; curr = seen / 2 } }
@@ -66,8 +66,8 @@ fn walked_from(pred: u64, local: &Local, seen: u64) -> Local
     }
 }
 
-/// Returns the thread's state after it reads a key word: the walk continues if the word is below the call's key, else the call
-/// takes the locks.
+/// Returns the thread's state after it reads a key word. The walk continues if the key is smaller than the call's;
+/// otherwise the call takes the locks.
 #[inline(always)]
 fn at_key(local: &Local, seen: u64) -> Local
     ensures { result ≡ at_key seen local.now }
@@ -80,7 +80,7 @@ fn at_key(local: &Local, seen: u64) -> Local
     }
 }
 
-/// Returns the thread's state after a failed validation: it releases both locks and has no reply.
+/// Returns the thread's state after a failed validation. It releases both locks next, and has no reply.
 #[inline(always)]
 fn gives_up(local: &Local) -> Local
     ensures { result ≡ gives_up local.now }
@@ -92,8 +92,8 @@ fn gives_up(local: &Local) -> Local
     }
 }
 
-/// Returns the thread's state after it reads the link of `pred`: validation fails unless the link leads to `curr` and has no
-/// mark.
+/// Returns the thread's state after it reads the link of `pred`. Validation fails unless the link leads to `curr` and
+/// is not marked.
 #[inline(always)]
 fn at_pred(local: &Local, seen: u64) -> Local
     requires { IsSmall local.now }
@@ -106,7 +106,8 @@ fn at_pred(local: &Local, seen: u64) -> Local
     }
 }
 
-/// Returns the thread's state after it reads the link of `curr`: the call decides if `curr` is not marked, else validation fails.
+/// Returns the thread's state after it reads the link of `curr`. The call decides if `curr` is not marked; otherwise
+/// validation fails.
 #[inline(always)]
 fn at_curr(local: &Local, seen: u64) -> Local
     ensures { result ≡ at_curr seen local.now }
@@ -122,7 +123,7 @@ fn at_curr(local: &Local, seen: u64) -> Local
     }
 }
 
-/// Returns the thread's state after its change: it releases the locks and replies `True`.
+/// Returns the thread's state after its change. It releases the locks next, and replies `True`.
 #[inline(always)]
 fn succeeds(local: Local) -> Local
     ensures { result ≡ record local { pc = 13; reply = Some True } }
@@ -134,7 +135,7 @@ fn succeeds(local: Local) -> Local
     }
 }
 
-/// Returns the step that releases the last lock: the call ends with its reply, or starts again without one.
+/// Returns the step that releases the last lock. The call ends with its reply or, if it has none, starts again.
 #[inline(always)]
 fn released(local: &Local) -> Fed
     ensures { result ≡ released local.now.reply local.now }
@@ -176,7 +177,8 @@ pub fn fed_by(local: &Local, seen: u64) -> Fed
     continued(next)
 }
 
-/// Returns the key that the thread's next step adds (`true`) or removes (`false`); `None` if the step does not change the set.
+/// Returns the key that the thread's next step adds (`true`) or removes (`false`), or `None` if the step does not
+/// change the set.
 #[inline(always)]
 pub fn effect_of(local: &Local, _seen: u64) -> Option<(Key, bool)>
     ensures { result ≡ effect_of local.now _seen }

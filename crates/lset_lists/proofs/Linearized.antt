@@ -1,4 +1,4 @@
--- A run that has an account and listed contents is explained by its placement, which is unique.
+-- If a run has an account and its contents are lists, its placement explains the run and is unique.
 use Rattle.std.proofs.Common.{ℕ, List, sym, subst, arith}
 use Rattle.lset_words.specs.declared.history.Placed.{Placed}
 use Rattle.lset_words.specs.Words.{Opening}

@@ -1,4 +1,4 @@
--- [Headline, as a law]: one order of calls explains a run, whatever its length.
+-- [Headline, as a law]: every run, of any length, is explained by one order of its calls.
 use Rattle.std.specs.Prelude.{◌≡◌, ℕ, List, map}
 use Rattle.lset_words.specs.declared.history.CallRecord.{CallRecord}
 use Rattle.lset_words.specs.declared.history.Placed.{Placed}
@@ -13,39 +13,40 @@ use Rattle.lset_steps.specs.Chain.{contents_of, counts_of}
 use Rattle.lset_steps.specs.Laws.{views}
 use Rattle.lset_steps.specs.Worlds.{IsContent}
 
--- The keys after the calls of an order, made from the opening set
+-- Returns the set's keys after the calls of an order, beginning with the opening set.
 abbrev pub keys_left : Opening → List CallRecord → List Placed → List ℕ
 keys_left op history order = (set_left (opening_set op) (map (answered history) order)).keys
 
--- The history of the first k events of a run
+-- Returns the history of a run's first k events.
 abbrev pub history_of : Table → Opening → (ℕ → Event) → ℕ → List CallRecord
 history_of T op es k = history_at (log_of T op es) k
 
--- ONE ORDER OF CALLS explains the first `last` events of a run:
+-- An order of calls explains the first `last` events of a run.
 pub record ExplainsRun (T : Table) (op : Opening) (es : ℕ → Event) (last : ℕ) (order : List Placed) : Type 0 where
-  -- the calls of the run are a history,
+  -- The calls of the run form a history.
   pub history : IsHistory op.threads (history_of T op es last)
-  -- the order linearizes it from the opening set,
+  -- The order linearizes this history from the opening set.
   pub linearizes : Linearizes op.quota (opening_set op) (history_of T op es last) order
-  -- and the keys that it leaves are the content of the last world, in increasing order.
+  -- The keys that the order leaves are the content of the last world, in increasing order.
   pub content : IsContent (views T op es last) (keys_left op (history_of T op es last) order)
 
--- THE HEADLINE: every run has such an order.
+-- The headline: every run is explained by an order of its calls.
 abbrev pub RunsAreLinearizable : Table → Type 0
 RunsAreLinearizable T = (op : Opening) (last : ℕ) (es : ℕ → Event) → Run T op es last
     → (order : List Placed) × ExplainsRun T op es last order
 
--- The order is the [Placement] of the run, from the contents of its worlds and its threads' counts of successful adds.
+-- States that the order is the [Placement] of the run, computed from the contents of its worlds and its threads' counts
+-- of successful adds.
 abbrev pub IsPlacedBy : Table → Opening → (ℕ → Event) → ℕ → List Placed → Type 0
 IsPlacedBy T op es k order = IsPlacement op.quota (calls_at (log_of T op es) k)
     (contents_of (views T op es)) (counts_of (views T op es)) order
 
--- [The placement of a run]: the order is a placement of its first `last` events, and no other order is.
+-- [The placement of a run]: the order is a placement of the run's first `last` events, and it is the only one.
 pub record IsThePlacement (T : Table) (op : Opening) (es : ℕ → Event) (last : ℕ) (order : List Placed) : Type 0 where
   pub placement : IsPlacedBy T op es last order
   pub alone : (other : List Placed) → IsPlacedBy T op es last other → other ≡ order
 
--- THE HEADLINE WITH PLACEMENT: every run has an order that explains it and is its placement.
+-- The headline with placement: every run has an order that explains it and that is its placement.
 abbrev pub PlacementExplainsRuns : Table → Type 0
 PlacementExplainsRuns T = (op : Opening) (last : ℕ) (es : ℕ → Event) → Run T op es last
     → (order : List Placed) × ExplainsRun T op es last order × IsThePlacement T op es last order

@@ -1,4 +1,4 @@
-//! The main theorem, as a law of every machine: for each run, of any length, there is an order of the calls that explains it.
+//! The main theorem, as a law of every machine: each run, of any length, is explained by an order of its calls.
 ghost use Rattle.lset_lists.specs.Headline.{RunsAreLinearizable, PlacementExplainsRuns};
 
 use lset_steps::Machine;
@@ -13,8 +13,9 @@ pub fn runs_are_linearizable<M: Machine>()
     placement_explains_runs::<M>();
 }
 
-/// Theorem: for every machine and every run within these limits, there is an order of the calls that linearizes the history
-/// of the run, leaves its content, and is the placement of the run. No other order is the placement of the run.
+/// Theorem: for every machine and every run within the limits of `runs_are_linearizable`, there is an order of the
+/// calls that linearizes the history of the run, leaves its content, and is the placement of the run. No other order is
+/// the placement of the run.
 pub fn placement_explains_runs<M: Machine>()
     ensures { PlacementExplainsRuns M.table }
 {

@@ -11,7 +11,7 @@ use Rattle.lset_steps.specs.RowLaws.{HasReading}
 use Rattle.lset_lock_free.specs.LockFree.{lock_free, at_key, decision_of}
 use Rattle.lset_lock_free.specs.Rows.{LockFreeRows, decides}
 
--- The decision of a call, by whether its key was found and its quota is left.
+-- The decision of a call depends on whether its key was found and whether the quota allows another add.
 decides_by : (c : Call) (l : Local) (found room : Bool) (seen : ℕ) → (seen == target c) ≡ found → nat_lt l.used l.quota ≡ room
     → decision_of (decided 5 8 0 c (seen == target c) (nat_lt l.used l.quota) seen l) ≡ decides c l seen
 decides_by (Add k) l true room seen e f = rw e refl

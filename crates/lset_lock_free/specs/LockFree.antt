@@ -13,7 +13,7 @@ use Rattle.lset_steps.specs.Steps.{Table}
 use Rattle.lset_steps.specs.Rows.{own_slot, decided_on}
 use Rattle.lset_steps.specs.ReadRows.{begun_reading, read_action, read_fed, continued, leaves_with}
 
--- The rows at which a call continues after its decision. A call that leaves replies at once.
+-- The rows at which a call continues after its decision. A call that does not change the set replies at once.
 abbrev pub targets : Targets
 targets = record { adds = 5; removes = 8; leaves = 0 }
 
@@ -31,22 +31,24 @@ next_action l =
     else if l.pc == 10 then Exchange (link_index l.pred) (2 * l.curr) (2 * l.succ)
     else read_action l
 
--- The step that has read the link word of curr: a marked curr is unlinked next, and the key of an unmarked one is loaded.
+-- Returns the result of the step that has read curr's link word. If curr is marked, it is unlinked next. Otherwise its
+-- key is loaded next.
 abbrev pub at_link : ℕ → Local → Fed
 at_link seen l =
     if seen % 2 == 0 then continued (record l { pc = 4; succ = seen / 2 }) else continued (record l { pc = 3; succ = seen / 2 })
 
--- The step after the decision: the call continues, or ends with its reply.
+-- Returns the result of a step after its decision. The call continues, or ends with its reply.
 abbrev pub decision_of : Local → Fed
 decision_of l = record { local = l; answer = if l.pc == 0 then l.reply else None }
 
--- The step that has read the key word of curr: the walk continues while the word is below the call's key; then the call decides.
+-- Returns the result of the step that has read curr's key word. The walk continues while the key is smaller than the
+-- call's, then the call decides.
 abbrev pub at_key : ℕ → Local → Fed
 at_key seen l =
     if nat_lt seen (target l.call) then continued (record l { pc = 2; pred = l.curr; curr = l.succ })
     else decision_of (decided_on targets seen l)
 
--- The step of a failed exchange: the walk starts again.
+-- Returns the result of a step whose exchange failed. The walk starts again.
 abbrev pub again : Local → Fed
 again l = continued (record l { pc = 1 })
 

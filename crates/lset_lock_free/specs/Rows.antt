@@ -1,4 +1,4 @@
--- The table of LockFreeList row by row, in terms that all lists share.
+-- The table of LockFreeList row by row, in terms common to all lists.
 use Rattle.std.specs.Prelude.{ℕ, ◌+◌, ◌*◌, ◌/◌, ◌%◌, Bool, true, false, if◌then◌else◌, Option, Some, None, ◌==◌, nat_lt}
 use Rattle.lset_words.specs.declared.Key.{Key}
 use Rattle.lset_words.specs.declared.Call.{Call}
@@ -14,16 +14,16 @@ use Rattle.lset_steps.specs.Rows.{own_slot, goes_to, ceiling_at}
 use Rattle.lset_steps.specs.ReadRows.{continued, leaves_with}
 use Rattle.lset_steps.specs.RowLaws.{Does, HasReading, nothing}
 
--- Continues at another row.
+-- Continues the call at another row.
 abbrev pub on_to : ℕ → Local → Fed
 on_to pc l = continued (record l { pc = pc })
 
--- Ends the call, and keeps its reply in the register.
+-- Ends the call with this reply, which stays in the register.
 abbrev pub answers : Reply → Local → Fed
 answers r l = leaves_with r (record l { reply = Some r })
 
--- The decision of a call at the first key that is not below its own: an `add` continues at row 5, a `remove` at row 8, or the
--- call ends.
+-- Decides a call at the first key that is not smaller than its own. An `add` continues at row 5, a `remove` at row 8,
+-- or the call ends.
 abbrev pub decides : Call → Local → ℕ → Fed
 decides (Add k) l seen =
     if seen == target (Add k) then answers False l
@@ -33,40 +33,42 @@ decides (Remove k) l seen = if seen == target (Remove k) then continued (goes_to
 decides (Contains k) l seen = if seen == target (Contains k) then answers True l else answers False l
 decides (Ceiling k) l seen = answers (ceiling_at seen) l
 
--- The change of an exchange that expects `old`: if it succeeds, it adds the call's key, or removes it.
+-- Returns the change of an exchange that expects `old`: if it finds `old`, it succeeds, and adds or removes the call's
+-- key.
 abbrev pub tells_where : ℕ → Bool → Local → ℕ → Option (Key × Bool)
 tells_where old put_in l seen = if seen == old then Some (key_of l.call, put_in) else None
 
 pub record LockFreeRows (T : Table) : Type 0 where
   pub reading : HasReading T
-  -- A walk starts at the link of the head.
+  -- A walk starts by loading the head's link.
   pub row_1 : Does T 1 (λ l. Load (link_index 0)) (λ l seen. continued (record l { pc = 2; pred = 0; curr = seen / 2 })) nothing
-  -- It loads the link of `curr`, for its mark.
+  -- The walk loads the link of `curr`, which contains its mark.
   pub row_2 : Does T 2 (λ l. Load (link_index l.curr))
       (λ l seen. if seen % 2 == 0 then continued (record l { pc = 4; succ = seen / 2 })
       else continued (record l { pc = 3; succ = seen / 2 }))
       nothing
-  -- A marked node is unlinked. If `pred` has changed, the walk starts again.
+  -- If `curr` is marked, the walk unlinks it, or starts again if `pred` has changed.
   pub row_3 : Does T 3 (λ l. Exchange (link_index l.pred) (2 * l.curr) (2 * l.succ))
       (λ l seen. if seen == 2 * l.curr then continued (record l { pc = 2; curr = l.succ }) else on_to 1 l)
       nothing
-  -- It loads the key of an unmarked node, and moves on to the next node, or decides.
+  -- If `curr` is not marked, the walk loads its key. It then moves to the next node, or decides.
   pub row_4 : Does T 4 (λ l. Load (key_index l.curr))
       (λ l seen. if nat_lt seen (target l.call) then continued (record l { pc = 2; pred = l.curr; curr = l.succ })
       else decides l.call l seen)
       nothing
-  -- An `add` writes the key and the link of its slot,
+  -- An `add` writes the key and the link of its slot.
   pub row_5 : Does T 5 (λ l. Store (key_index (own_slot l)) (target l.call)) (λ l seen. on_to 6 l) nothing
   pub row_6 : Does T 6 (λ l. Store (link_index (own_slot l)) (2 * l.curr)) (λ l seen. on_to 7 l) nothing
-  -- and links it in after `pred`. If that succeeds the slot is used, else the walk starts again.
+  -- An `add` links the slot in after `pred`. If the exchange succeeds, the slot is used up; otherwise the walk starts
+  -- again.
   pub row_7 : Does T 7 (λ l. Exchange (link_index l.pred) (2 * l.curr) (2 * own_slot l))
       (λ l seen. if seen == 2 * l.curr then leaves_with True (record l { used = l.used + 1 }) else on_to 1 l)
       (λ l. tells_where (2 * l.curr) true l)
-  -- A `remove` loads the link of its node,
+  -- A `remove` loads the link of its node.
   pub row_8 : Does T 8 (λ l. Load (link_index l.curr)) (λ l seen. continued (record l { pc = 9; succ = seen / 2 })) nothing
-  -- marks the node, which is its change, or starts again if the link has changed,
+  -- A `remove` marks the node, which is its change. If the link has changed since, it starts again.
   pub row_9 : Does T 9 (λ l. Exchange (link_index l.curr) (2 * l.succ) (2 * l.succ + 1))
       (λ l seen. if seen == 2 * l.succ then on_to 10 l else on_to 1 l)
       (λ l. tells_where (2 * l.succ) false l)
-  -- and attempts once to unlink the node.
+  -- A `remove` attempts once to unlink the node that it has marked.
   pub row_10 : Does T 10 (λ l. Exchange (link_index l.pred) (2 * l.curr) (2 * l.succ)) (λ l seen. leaves_with True l) nothing

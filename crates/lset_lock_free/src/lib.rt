@@ -1,5 +1,5 @@
-//! LockFreeList: nodes are marked and unlinked by exchanges, one at a time (Herlihy and Shavit's lock-free list, after Harris and
-//! Michael).
+//! LockFreeList: exchanges mark nodes and unlink them, one node at a time (Herlihy and Shavit's lock-free list, after
+//! Harris and Michael).
 #![tactic(auto)]
 
 ghost use Rattle.std.specs.Prelude.{◌≡◌, ◌+◌};
@@ -17,20 +17,20 @@ use lset_steps::rows::{Targets, decide, key_index, link_index, own_slot};
 use lset_steps::{Action, Fed, Local, Machine, OpenReads};
 use lset_words::{Call, HEAD, Key, Kind, Reply};
 
-/// The list without locks. A node is marked by an exchange of its link, and then unlinked by an exchange of the link before it,
-/// by any call that reaches it (Herlihy and Shavit's lock-free list).
+/// The list without locks. An exchange of a node's own link marks the node. An exchange of the previous node's link
+/// then unlinks it. Any call that reaches a marked node can unlink it (Herlihy and Shavit's lock-free list).
 #[derive(Clone, Copy)]
 pub struct LockFreeList;
 
-/// The rows at which a call continues after its decision. A call that leaves replies at once.
+/// The rows at which a call continues after its decision. A call that does not change the set replies at once.
 const TARGETS: Targets = Targets {
     adds: 5,
     removes: 8,
     leaves: 0,
 };
 
-/// Returns the next step of a thread with a pending call, by its row of the table. Its numbers must be small; they are in every
-/// run.
+/// Returns the next step of a thread with a pending call, from its row of the table. The numbers in `local` must be
+/// small, as they are in every run.
 #[inline(always)]
 pub fn next_action(local: &Local) -> Action
     requires { IsSmall local.now }
@@ -49,7 +49,8 @@ pub fn next_action(local: &Local) -> Action
     }
 }
 
-/// Returns the step after which the walk is at node `curr` after `pred`, and loads the link of `curr` next.
+/// Returns the step after which the walk is at node `curr`, which comes after `pred`. The walk loads the link of `curr`
+/// next.
 #[inline(always)]
 fn at_node(pred: u64, curr: u64, local: &Local) -> Fed
     ensures { result ≡ continued (record local.now { pc = 2; pred = pred; curr = curr }) }
@@ -62,7 +63,8 @@ fn at_node(pred: u64, curr: u64, local: &Local) -> Fed
     })
 }
 
-/// Returns the step that has read the link of `curr`: a marked node is unlinked next, and the key of an unmarked one is loaded.
+/// Returns the step that has read the link of `curr`. If the node is marked, it is unlinked next. Otherwise its key is
+/// loaded next.
 #[inline(always)]
 fn at_link(local: &Local, seen: u64) -> Fed
     ensures { result ≡ at_link seen local.now }
@@ -75,7 +77,7 @@ fn at_link(local: &Local, seen: u64) -> Fed
     })
 }
 
-/// Returns the step after the decision: the call continues, or ends with its reply.
+/// Returns the step that decides. The call continues, or ends with its reply.
 #[inline(always)]
 fn decision_of(local: Local) -> Fed
     ensures { result ≡ decision_of local }
@@ -84,7 +86,8 @@ fn decision_of(local: Local) -> Fed
     Fed { local, answer }
 }
 
-/// Returns the step that has read a key word: the walk continues if the word is below the call's key, else the call decides.
+/// Returns the step that has read a key word. The walk continues if the key is smaller than the call's; otherwise the
+/// call decides.
 #[inline(always)]
 fn at_key(local: &Local, seen: u64) -> Fed
     ensures { result ≡ at_key seen local.now }
@@ -96,7 +99,7 @@ fn at_key(local: &Local, seen: u64) -> Fed
     }
 }
 
-/// Returns the step of a successful insertion: the slot is used, and the call ends with `True`.
+/// Returns the step of a successful insertion. The slot is used up, and the call ends with `True`.
 #[inline(always)]
 fn puts_in(local: &Local) -> Fed
     requires { IsSmall local.now }
@@ -143,8 +146,8 @@ pub fn fed_by(local: &Local, seen: u64) -> Fed
     }
 }
 
-/// Returns the key that the thread's next step adds (`true`) or removes (`false`), as only a successful exchange does. `None` if
-/// the step does not change the set.
+/// Returns the key that the thread's next step adds (`true`) or removes (`false`), or `None` if the step does not
+/// change the set. Only a successful exchange changes the set.
 #[inline(always)]
 pub fn effect_of(local: &Local, seen: u64) -> Option<(Key, bool)>
     requires { IsSmall local.now }

@@ -1,4 +1,4 @@
--- The rows of CoarseList at which the parts of its loop begin and end.
+-- The rows of CoarseList at which the parts of its loop begin or end.
 use Rattle.std.specs.Prelude.{ℕ, Some, None}
 use Rattle.lset_words.specs.declared.Reply.{Reply}
 use Rattle.lset_steps.specs.Rows.{decided_on}
@@ -9,19 +9,19 @@ use Rattle.lset_loops.specs.declared.decision.Found.{Found}
 use Rattle.lset_loops.specs.Begun.{Begun}
 use Rattle.lset_loops.specs.Calling.{Holds, Rest, row}
 
--- The call has taken the lock.
+-- States that the call has taken the lock.
 abbrev pub AtHead : Begun → OwnSlots → TableSeat → Type 0
 AtHead b own s = (j : Rest) × Holds coarse b (row own b.call 2 None 0 0 j) s
 
--- The call is about to load the key of the node x, to which the link of p led.
+-- States that the call is about to load the key of node x, to which p's link led.
 abbrev pub AtKey : Begun → OwnSlots → ℕ → ℕ → TableSeat → Type 0
 AtKey b own p x s = (j : Rest) × Holds coarse b (row own b.call 3 None p x j) s
 
--- The walk has stopped at this place.
+-- States that the walk has stopped at the given place.
 abbrev pub StopsAt : Begun → OwnSlots → Found → TableSeat → Type 0
 StopsAt b own f s = (j : Rest) × Holds coarse b (decided_on targets f.word (row own b.call 3 None f.pred.number f.curr.number j))
     s
 
--- The call is about to release the lock, with these slots and this reply.
+-- States that the call is about to release the lock and then end with these slots and this reply.
 abbrev pub Leaves : Begun → OwnSlots × Reply → TableSeat → Type 0
 Leaves b answer s = (p : ℕ) × (x : ℕ) × (j : Rest) × Holds coarse b (row answer.0 b.call 10 (Some answer.1) p x j) s

@@ -1,4 +1,4 @@
--- The rows of LazyList at which the parts of the loop of an add or a remove begin and end.
+-- The rows of LazyList at which the parts of an add's or remove's loop begin or end.
 use Rattle.std.specs.Prelude.{ℕ, Option, Some, None}
 use Rattle.lset_words.specs.declared.Reply.{Reply}
 use Rattle.lset_steps.specs.Rows.{decided_on}
@@ -10,32 +10,32 @@ use Rattle.lset_loops.specs.declared.decision.Found.{Found}
 use Rattle.lset_loops.specs.Begun.{Begun}
 use Rattle.lset_loops.specs.Calling.{Holds, Rest, row}
 
--- The call is about to load the key of the node x, to which the link of p led.
+-- States that the call is about to load the key of node x, to which p's link led.
 abbrev pub AtKey : Begun → OwnSlots → ℕ → ℕ → TableSeat → Type 0
 AtKey b own p x s = (j : Rest) × Holds lazy b (row own b.call 2 None p x j) s
 
--- The walk has stopped at this place, and the call is about to lock the first node.
+-- States that the walk has stopped at the given place, and that the call is about to lock the first node.
 abbrev pub StopsAt : Begun → OwnSlots → Found → TableSeat → Type 0
 StopsAt b own f s = (j : Rest) × Holds lazy b (row own b.call 4 None f.pred.number f.curr.number (record j { ckey = f.word })) s
 
--- The call has locked both nodes, and is about to load the link of the first.
+-- States that the call has locked both nodes, and is about to load the link of the first.
 abbrev pub HasLocked : Begun → OwnSlots → Found → TableSeat → Type 0
 HasLocked b own f s = (j : Rest) × Holds lazy b (row own b.call 6 None f.pred.number f.curr.number (record j { ckey = f.word })) s
 
--- The two nodes are neighbours, and the second leads to n.
+-- States that the two nodes are neighbours, and that the second node's link leads to n.
 abbrev pub AreNeighbours : Begun → OwnSlots → Found → Node → TableSeat → Type 0
 AreNeighbours b own f n s = (j : Rest)
     × Holds lazy b (decided_on targets f.word
     (row own b.call 7 None f.pred.number f.curr.number (record j { ckey = f.word; succ = n.number }))) s
 
--- The call is about to release both locks: with this reply, or without one, to start over.
+-- States that the call is about to release both locks. It then ends with the reply or, if there is none, starts over.
 abbrev pub GivesBack : Begun → Found → OwnSlots → Option Reply → TableSeat → Type 0
 GivesBack b f own r s = (j : Rest) × Holds lazy b (row own b.call 13 r f.pred.number f.curr.number j) s
 
 abbrev pub Leaves : Begun → Found → OwnSlots × Reply → TableSeat → Type 0
 Leaves b f answer s = GivesBack b f answer.0 (Some answer.1) s
 
--- What holds after the check whether the two nodes are neighbours.
+-- States what holds after the check whether the two nodes are neighbours.
 abbrev pub HasValidated : Begun → OwnSlots → Found → Option Node → TableSeat → Type 0
 HasValidated b own f (Some n) s = AreNeighbours b own f n s
 HasValidated b own f None s = GivesBack b f own None s

@@ -1,4 +1,4 @@
--- The rows of LockFreeList at which the parts of the loop of an add or a remove begin and end.
+-- The rows of LockFreeList at which the parts of an add's or remove's loop begin or end.
 use Rattle.std.specs.Prelude.{◌≡◌, ℕ, Option, Some, None}
 use Rattle.lset_words.specs.declared.Reply.{Reply}
 use Rattle.lset_steps.specs.declared.Fed.{Fed}
@@ -10,21 +10,21 @@ use Rattle.lset_loops.specs.declared.decision.Found.{Found}
 use Rattle.lset_loops.specs.Begun.{Begun}
 use Rattle.lset_loops.specs.Calling.{Holds, Rest, row, StandsAfter, HasAnswered}
 
--- The call is about to load the link of the node x, to which the link of p led.
+-- States that the call is about to load the link of node x, to which p's link led.
 abbrev pub AtLink : Begun → OwnSlots → ℕ → ℕ → TableSeat → Type 0
 AtLink b own p x s = (j : Rest) × Holds lock_free b (row own b.call 2 None p x j) s
 
--- The walk has stopped at this place, and the call decides: it ends or continues.
+-- States that the walk has stopped at the given place, where the call decides whether it ends or continues.
 abbrev pub StopsAt : Begun → OwnSlots → Found → TableSeat → Type 0
 StopsAt b own f s = (j : Rest)
     × ((fed : Fed) → decision_of (decided_on targets f.word (row own b.call 4 None f.pred.number f.curr.number j)) ≡ fed →
     StandsAfter lock_free b fed s)
 
--- The call is about to start over.
+-- States that the call is about to start over.
 abbrev pub AtHead : Begun → OwnSlots → TableSeat → Type 0
 AtHead b own s = (p : ℕ) × (x : ℕ) × (j : Rest) × Holds lock_free b (row own b.call 1 None p x j) s
 
--- The call has ended, or is about to start over.
+-- States that the call has ended or is about to start over.
 abbrev pub HasTried : Begun → OwnSlots → Option (OwnSlots × Reply) → TableSeat → Type 0
 HasTried b own (Some answer) s = HasAnswered lock_free b answer s
 HasTried b own None s = AtHead b own s

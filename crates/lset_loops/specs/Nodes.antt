@@ -1,4 +1,4 @@
--- The words of a node, and the values of a link.
+-- The words of a node, and the values that a link can have.
 use Rattle.std.specs.Prelude.{ℕ, ◌+◌, ◌*◌}
 use Rattle.lset_words.specs.Words.{key_index, link_index, lock_index}
 use Rattle.lset_loops.specs.declared.parts.Part.{Part}

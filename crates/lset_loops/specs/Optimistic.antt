@@ -1,4 +1,4 @@
--- The rows of OptimisticList at which the parts of its loop begin and end.
+-- The rows of OptimisticList at which the parts of its loop begin or end.
 use Rattle.std.specs.Prelude.{ℕ, Bool, true, false, Option, Some, None}
 use Rattle.lset_words.specs.declared.Reply.{Reply}
 use Rattle.lset_steps.specs.Rows.{decided_on}
@@ -11,11 +11,11 @@ use Rattle.lset_loops.specs.Begun.{Begun}
 use Rattle.lset_loops.specs.Calling.{Holds, Rest, row}
 use Rattle.lset_loops.specs.declared.optimistic.Stopped.{Stopped}
 
--- The call is about to load the key of the node x, to which the link of p led. `before` is the key word of p.
+-- States that the call is about to load the key of node x, to which p's link led. `before` is p's key word.
 abbrev pub AtKey : Begun → OwnSlots → ℕ → ℕ → ℕ → TableSeat → Type 0
 AtKey b own p x before s = (j : Rest) × Holds optimistic b (row own b.call 2 None p x (record j { pkey = before })) s
 
--- The walk has stopped at this place, and the call is about to lock the first node.
+-- States that the walk has stopped at the given place, and that the call is about to lock the first node.
 abbrev pub StopsAt : Begun → OwnSlots → Stopped → TableSeat → Type 0
 StopsAt b own f s = (j : Rest)
     × Holds optimistic b (row own b.call 4 None f.found.pred.number f.found.curr.number (record j {
@@ -23,7 +23,7 @@ StopsAt b own f s = (j : Rest)
       ckey = f.found.word;
     })) s
 
--- The call has locked both nodes, and is about to walk again unless the first node is the head.
+-- States that the call has locked both nodes, and is about to walk again unless the first node is the head.
 abbrev pub HasLocked : Begun → OwnSlots → Stopped → TableSeat → Type 0
 HasLocked b own f s = (j : Rest)
     × Holds optimistic b (at_locks (row own b.call 5 None f.found.pred.number f.found.curr.number (record j {
@@ -31,7 +31,7 @@ HasLocked b own f s = (j : Rest)
       ckey = f.found.word;
     }))) s
 
--- In its second walk the call is about to load the link of the node n.
+-- States that the call, in its second walk, is about to load the link of node n.
 abbrev pub AtNode : Begun → OwnSlots → Stopped → Node → TableSeat → Type 0
 AtNode b own f n s = (j : Rest)
     × Holds optimistic b (row own b.call 6 None f.found.pred.number f.found.curr.number (record j {
@@ -40,30 +40,30 @@ AtNode b own f n s = (j : Rest)
       node = n.number;
     })) s
 
--- The call is about to load the link of the first node, which the second walk has reached.
+-- States that the call is about to load the link of the first node, which the second walk has reached.
 abbrev pub AtPred : Begun → OwnSlots → Found → TableSeat → Type 0
 AtPred b own f s = (j : Rest) × Holds optimistic b
     (row own b.call 8 None f.pred.number f.curr.number (record j { ckey = f.word })) s
 
--- The two nodes are neighbours.
+-- States that the two nodes are neighbours.
 abbrev pub AreNeighbours : Begun → OwnSlots → Found → TableSeat → Type 0
 AreNeighbours b own f s = (j : Rest)
     × Holds optimistic b (decided_on targets f.word
     (row own b.call 8 None f.pred.number f.curr.number (record j { ckey = f.word }))) s
 
--- The call is about to release both locks: with this reply, or without one, to start over.
+-- States that the call is about to release both locks. It then ends with the reply or, if there is none, starts over.
 abbrev pub GivesBack : Begun → Found → OwnSlots → Option Reply → TableSeat → Type 0
 GivesBack b f own r s = (j : Rest) × Holds optimistic b (row own b.call 14 r f.pred.number f.curr.number j) s
 
 abbrev pub Leaves : Begun → Found → OwnSlots × Reply → TableSeat → Type 0
 Leaves b f answer s = GivesBack b f answer.0 (Some answer.1) s
 
--- What holds after the second walk, depending on whether it reached the first node.
+-- States what holds after the second walk, depending on whether it reached the first node.
 abbrev pub HasReached : Begun → OwnSlots → Found → Bool → TableSeat → Type 0
 HasReached b own f true s = AtPred b own f s
 HasReached b own f false s = GivesBack b f own None s
 
--- What holds after the check whether the two nodes are neighbours.
+-- States what holds after the check whether the two nodes are neighbours.
 abbrev pub HasValidated : Begun → OwnSlots → Found → Bool → TableSeat → Type 0
 HasValidated b own f true s = AreNeighbours b own f s
 HasValidated b own f false s = GivesBack b f own None s

@@ -1,4 +1,4 @@
-//! CoarseList: one lock for the whole list.
+//! CoarseList: a single lock for the whole list.
 ghost use Rattle.std.specs.Prelude.{IfSome};
 ghost use Rattle.lset_coarse.specs.Coarse.{coarse};
 ghost use Rattle.lset_rule.specs.Seats.{HasCalled, MayCall};
@@ -12,7 +12,7 @@ use lset_coarse::CoarseList;
 use lset_rule::{OwnSlots, Pause, Rounds, TableSeat, Words};
 use lset_words::{Call, LOCK, Reply};
 
-/// Walks from the head to the first key that is not below the call's.
+/// Walks from the head to the first key that is not smaller than the call's.
 fn walk<P: Pause, N: Rounds>(caller: &Caller<CoarseList, P>, place: &mut TableSeat) -> Option<Found>
     requires { AtHead caller.now.origin caller.now.slots place.old }
     ensures { IfSome result (λ f. StopsAt caller.now.origin caller.now.slots f place.new) }
@@ -32,7 +32,7 @@ fn walk<P: Pause, N: Rounds>(caller: &Caller<CoarseList, P>, place: &mut TableSe
     None
 }
 
-/// Adds, removes or only replies, at the key that the walk has found.
+/// Adds the key, removes it, or only replies, at the place where the walk has stopped.
 fn act<P: Pause>(
     caller: &Caller<CoarseList, P>,
     place: &mut TableSeat,

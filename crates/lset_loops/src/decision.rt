@@ -1,4 +1,4 @@
-//! The decision of a call after its walk has stopped.
+//! How a call decides after its walk has stopped.
 ghost use Rattle.std.specs.Prelude.{◌≡◌, ◌<◌};
 ghost use Rattle.lset_loops.specs.Calling.{Decides, HasStored, MayStore, one_more, put_stores, slot, slot_stores};
 
@@ -10,8 +10,8 @@ use lset_steps::Machine;
 use lset_steps::rows::ceiling_at;
 use lset_words::{Call, Reply, slot_node};
 
-/// The place at which a walk has stopped: `curr` is the first node whose key word is not below the call's, and `pred` the node
-/// before it.
+/// The place at which a walk has stopped: `curr` is the first node whose key is not smaller than the call's, and `pred`
+/// is the node before it.
 #[derive(Clone, Copy)]
 pub(crate) struct Found {
     pub pred: Node,
@@ -19,7 +19,7 @@ pub(crate) struct Found {
     pub word: u64,
 }
 
-/// The decision of a call: to link in a node, to unlink one, or to reply.
+/// What a call decides to do: link in a node, unlink a node, or only reply.
 #[derive(Clone, Copy)]
 pub(crate) enum Decision {
     PutIn,
@@ -27,7 +27,7 @@ pub(crate) enum Decision {
     Answer(Reply),
 }
 
-/// Decides what `call` does at this key word.
+/// Returns what `call` must do at this key word.
 pub fn decide(call: Call, word: u64, slots: OwnSlots) -> Decision
     ensures deed { Decides call slots word result }
     ensures room { result ≡ Decision.PutIn → slots.used < slots.quota }
@@ -45,7 +45,7 @@ pub fn decide(call: Call, word: u64, slots: OwnSlots) -> Decision
     }
 }
 
-/// Returns the slots with one more slot used.
+/// Returns the slots after one more is used.
 pub(crate) fn one_more(slots: OwnSlots) -> OwnSlots
     requires { slots.used < slots.quota }
     ensures { result ≡ one_more slots }
@@ -57,7 +57,7 @@ pub(crate) fn one_more(slots: OwnSlots) -> OwnSlots
 }
 
 impl<'a, M: Machine, P: Pause> Caller<'a, M, P> {
-    /// Writes the key of the thread's next slot, and its link to `next`. Returns the slot's node.
+    /// Writes the key of the thread's next slot and its link to `next`. Returns the slot's node.
     pub fn fill_slot(&self, place: &mut TableSeat, next: Node) -> Node
         requires { MayStore M.table self.now.origin (slot_stores self.now.slots self.now.key next.number) place.old }
         ensures node { result.number ≡ slot self.now.slots }

@@ -13,7 +13,7 @@ use lset_rule::{OwnSlots, Pause, Rounds, TableSeat, Words};
 use lset_steps::rows::lock_index;
 use lset_words::{Call, HEAD, Reply};
 
-/// Walks hand over hand from the locked head to the first key that is not below the call's.
+/// Walks hand over hand from the locked head to the first key that is not smaller than the call's.
 fn walk<P: Pause, N: Rounds>(caller: &Caller<FineList, P>, place: &mut TableSeat) -> Option<Found>
     requires { AtHead caller.now.origin caller.now.slots place.old }
     ensures { IfSome result (λ f. StopsAt caller.now.origin caller.now.slots f place.new) }
@@ -35,7 +35,7 @@ fn walk<P: Pause, N: Rounds>(caller: &Caller<FineList, P>, place: &mut TableSeat
     None
 }
 
-/// Adds, removes or only replies, at the key that the walk has found, between two locked nodes.
+/// Adds the key, removes it, or only replies, between the two locked nodes at which the walk has stopped.
 fn act<P: Pause>(
     caller: &Caller<FineList, P>,
     place: &mut TableSeat,
@@ -58,8 +58,9 @@ fn act<P: Pause>(
     }
 }
 
-/// Makes a whole call: walks to the key, locking each node before it releases the one before, acts there, and releases both
-/// locks. (Herlihy and Shavit's fine-grained list.) Returns `None` if one of its loops has made `N::MOST` rounds.
+/// Makes a whole call: walks to the key, locking each node before it releases the previous one, acts there, and
+/// releases both locks. (Herlihy and Shavit's fine-grained list.) Returns `None` if one of its loops has made `N::MOST`
+/// rounds.
 pub fn fine_within<P: Pause, N: Rounds>(
     table: &Words<FineList>,
     place: &mut TableSeat,

@@ -1,5 +1,5 @@
-//! LazyList: a node is marked before it is unlinked. A walk takes no lock, and a call checks its two nodes after it has locked
-//! them.
+//! LazyList: nodes are marked before they are unlinked. A walk takes no lock. A call locks the two nodes at which its
+//! walk stopped, and then checks them.
 ghost use Rattle.lset_steps.specs.ReadRows.{first_row};
 ghost use Rattle.std.specs.Prelude.{◌≡◌, IfSome};
 ghost use Rattle.lset_lazy.specs.Lazy.{lazy};
@@ -14,7 +14,7 @@ use lset_lazy::LazyList;
 use lset_rule::{OwnSlots, Pause, Rounds, TableSeat, Words};
 use lset_words::{Call, Reply};
 
-/// Walks from the head, whose link led to `first`, to the first key that is not below the call's.
+/// Walks from the head, whose link led to `first`, to the first key that is not smaller than the call's.
 #[inline(always)]
 fn walk<P: Pause, N: Rounds>(
     caller: &Caller<LazyList, P>,
@@ -39,7 +39,8 @@ fn walk<P: Pause, N: Rounds>(
     None
 }
 
-/// Checks that `pred` leads to `curr` and that neither is marked. Returns the next node of `curr`; `None` if the check fails.
+/// Checks that `pred` leads to `curr` and that neither is marked. Returns the node after `curr`, or `None` if the check
+/// fails.
 fn validate<P: Pause>(
     caller: &Caller<LazyList, P>,
     place: &mut TableSeat,
@@ -59,7 +60,7 @@ fn validate<P: Pause>(
     Some(Node::behind(after))
 }
 
-/// Adds, removes or only replies, at the key that the walk has found, between two locked nodes.
+/// Adds the key, removes it, or only replies, between the two locked nodes at which the walk has stopped.
 fn act<P: Pause>(
     caller: &Caller<LazyList, P>,
     place: &mut TableSeat,
@@ -83,9 +84,10 @@ fn act<P: Pause>(
     }
 }
 
-/// Makes a whole `add` or `remove` on a LazyList: walks to the key without a lock, locks the two nodes there, and checks that
-/// they are still neighbours in the list. If they are, acts and releases them; else releases them and starts over. (Herlihy and
-/// Shavit's lazy list, after Heller and others.) Returns `None` if one of its loops has made `N::MOST` rounds.
+/// Makes a whole `add` or `remove` on a LazyList: walks to the key without a lock, locks the two nodes there, and
+/// checks that they are still neighbours in the list. If they are, acts and releases them; otherwise releases them and
+/// starts over. (Herlihy and Shavit's lazy list, after Heller and others.) Returns `None` if one of its loops has made
+/// `N::MOST` rounds.
 pub fn lazy_change_within<P: Pause, N: Rounds>(
     table: &Words<LazyList>,
     place: &mut TableSeat,

@@ -1,11 +1,11 @@
-//! The plain loops of the five lists: their calls on the shared words, as Herlihy and Shavit write them. All calls of each list
-//! are here, except the `ceiling` of LazyList and LockFreeList, which the interpreter makes.
+//! The loops of the five lists: their calls on the shared words, as Herlihy and Shavit write them. All calls of each
+//! list are here, except the `ceiling` of LazyList and LockFreeList, which the interpreter makes.
 //!
-//! A loop makes its steps through a `Caller`, which stands for the pending call, and calls `decide` after its walk has stopped.
-//! The loops do not read the list's table when they run. Each step requires that it is the step of the call's current row, and
-//! ensures the row to which it leads: a loop is proved by computing the table. Each loop makes at most `N::MOST` rounds, except
-//! the loop of a `contains` that only reads, which always ends. The contracts are those of the interpreter
-//! (`lset_rule::interpret_within`, `lset_rule::interpret_read`).
+//! A loop makes its steps through a `Caller`, which represents the pending call, and calls `decide` after its walk has
+//! stopped. At run time, the loops do not read the list's table. Each step requires that it is the step of the call's
+//! current row, and ensures the row to which it leads. So a loop is proved by computing the table. Each loop makes at
+//! most `N::MOST` rounds, except the loop of a `contains` that only reads, which always ends. The contracts are those
+//! of the interpreter (`lset_rule::interpret_within`, `lset_rule::interpret_read`).
 #![tactic(auto)]
 
 mod caller;

@@ -1,4 +1,4 @@
-//! LockFreeList: no locks. A node is marked by an exchange of its link, and walks unlink marked nodes.
+//! LockFreeList has no locks. An exchange of a node's link marks the node, and walks unlink marked nodes.
 ghost use Rattle.std.specs.Prelude.{◌≡◌, IfSome};
 ghost use Rattle.lset_steps.specs.ReadRows.{first_row};
 ghost use Rattle.lset_lock_free.specs.LockFree.{lock_free};
@@ -13,8 +13,8 @@ use lset_lock_free::LockFreeList;
 use lset_rule::{OwnSlots, Pause, Rounds, TableSeat, Words};
 use lset_words::{Call, Reply};
 
-/// Walks from the head, whose link led to `first`, to the first key that is not below the call's, and unlinks marked nodes on the
-/// way (Herlihy and Shavit's `find`).
+/// Walks from the head, whose link led to `first`, to the first key that is not smaller than the call's, and unlinks
+/// marked nodes on the way (Herlihy and Shavit's `find`).
 fn find<P: Pause, N: Rounds>(
     caller: &Caller<LockFreeList, P>,
     place: &mut TableSeat,
@@ -50,7 +50,8 @@ fn find<P: Pause, N: Rounds>(
     None
 }
 
-/// Adds, removes or only replies, at the key that the walk has found. Returns `None` if a link has changed in the meantime.
+/// Adds the key, removes it, or only replies, at the place where the walk has stopped. Returns `None` if a link has
+/// changed since.
 fn attempt<P: Pause>(
     caller: &Caller<LockFreeList, P>,
     place: &mut TableSeat,
@@ -82,9 +83,9 @@ fn attempt<P: Pause>(
     }
 }
 
-/// Makes a whole `add` or `remove` on a LockFreeList: walks to the key, and links in its next slot there, or marks the node and
-/// attempts once to unlink it. Starts over if a link has changed. (Herlihy and Shavit's lock-free list.) Returns `None` if one of
-/// its loops has made `N::MOST` rounds.
+/// Makes a whole `add` or `remove` on a LockFreeList. Walks to the key, then links in its next slot, or marks the node
+/// and attempts once to unlink it. Starts over if a link has changed since the walk. (Herlihy and Shavit's lock-free
+/// list.) Returns `None` if one of its loops has made `N::MOST` rounds.
 pub fn lock_free_change_within<P: Pause, N: Rounds>(
     table: &Words<LockFreeList>,
     place: &mut TableSeat,

@@ -1,7 +1,7 @@
-//! The nodes that a call names.
+//! The nodes that a call works with.
 ghost use Rattle.std.specs.Prelude.{◌≡◌, ◌/◌, ◌<◌, ◌^◌};
 
-/// A node, by its number, which fits into a link word beside the mark.
+/// A node, identified by its number. The number fits into a link word next to the mark.
 #[derive(Clone, Copy)]
 pub struct Node {
     pub number: u64,
@@ -9,7 +9,7 @@ pub struct Node {
 }
 
 impl Node {
-    /// Returns the head.
+    /// Returns the head node.
     pub fn head() -> Node
         ensures { result.number ≡ 0 }
     {

@@ -19,7 +19,7 @@ pub(crate) struct Stopped {
     pub(crate) before: u64,
 }
 
-/// Walks from the head, whose link led to `first`, to the first key that is not below the call's.
+/// Walks from the head, whose link led to `first`, to the first key that is not smaller than the call's.
 #[inline(always)]
 fn walk<P: Pause, N: Rounds>(
     caller: &Caller<OptimisticList, P>,
@@ -47,8 +47,8 @@ fn walk<P: Pause, N: Rounds>(
     None
 }
 
-/// Walks a second time from the head, up to `pred`. Returns whether the walk reached `pred`: it fails if it sees a key above that
-/// of `pred`.
+/// Walks a second time from the head, up to `pred`. Returns whether the walk reached `pred`. It fails if it sees a key
+/// greater than that of `pred`.
 #[inline(always)]
 fn reaches<P: Pause, N: Rounds>(
     caller: &Caller<OptimisticList, P>,
@@ -78,7 +78,7 @@ fn reaches<P: Pause, N: Rounds>(
     None
 }
 
-/// Checks that `pred` is still in the list and leads to `curr`. Both are locked.
+/// Checks that `pred` is still in the list and leads to `curr`. Both must be locked.
 fn validate<P: Pause, N: Rounds>(
     caller: &Caller<OptimisticList, P>,
     place: &mut TableSeat,
@@ -98,7 +98,7 @@ fn validate<P: Pause, N: Rounds>(
     Some(true)
 }
 
-/// Adds, removes or only replies, at the key that the walk has found, between two locked nodes.
+/// Adds the key, removes it, or only replies, between the two locked nodes at which the walk has stopped.
 fn act<P: Pause>(
     caller: &Caller<OptimisticList, P>,
     place: &mut TableSeat,
@@ -121,9 +121,9 @@ fn act<P: Pause>(
     }
 }
 
-/// Makes a whole call: walks to the key without a lock, locks the two nodes there, and checks by a second walk that they are
-/// still neighbours in the list. If they are, acts and releases them; else releases them and starts over. (Herlihy and Shavit's
-/// optimistic list.) Returns `None` if one of its loops has made `N::MOST` rounds.
+/// Makes a whole call: walks to the key without a lock, locks the two nodes there, and checks with a second walk that
+/// they are still neighbours in the list. If they are, acts and releases them; otherwise releases them and starts over.
+/// (Herlihy and Shavit's optimistic list.) Returns `None` if one of its loops has made `N::MOST` rounds.
 pub fn optimistic_within<P: Pause, N: Rounds>(
     table: &Words<OptimisticList>,
     place: &mut TableSeat,

@@ -1,4 +1,4 @@
-//! The words of a node, and the contents of its link.
+//! The words of a node, and what its link contains.
 ghost use Rattle.std.specs.Prelude.{◌≡◌, ◌<◌};
 ghost use Rattle.lset_words.specs.declared.TheConstants.{MOST_WORDS};
 ghost use Rattle.lset_loops.specs.Nodes.{index_of, word_of};
@@ -15,7 +15,7 @@ pub(crate) enum Part {
 }
 
 impl Part {
-    /// Returns the index of the word in the table.
+    /// Returns the word's index in the table.
     pub fn index(self) -> u64
         requires { index_of self < MOST_WORDS }
         ensures { result ≡ index_of self }
@@ -28,7 +28,7 @@ impl Part {
     }
 }
 
-/// The contents of a node's link: the next node, and whether the node itself is marked.
+/// A node's link: the next node, and whether the node itself is marked.
 #[derive(Clone, Copy)]
 pub(crate) enum Link {
     To(Node),
@@ -36,7 +36,7 @@ pub(crate) enum Link {
 }
 
 impl Link {
-    /// Returns the value of the link word.
+    /// Returns the link as a word.
     pub fn word(self) -> u64
         ensures { result ≡ word_of self }
     {

@@ -1,4 +1,4 @@
-//! The steps of a pending call. Each must be the step of the call's current row.
+//! The steps of a pending call. Each function must be called only for the step of the call's current row.
 ghost use Rattle.std.specs.Prelude.{◌≡◌, ◌≢◌, ℕ, ◌+◌, None, IfSome};
 ghost use Rattle.lset_words.specs.Words.{key_index, link_index, lock_index};
 ghost use Rattle.lset_steps.specs.ReadRows.{continued};
@@ -16,13 +16,14 @@ use lset_steps::{Action, Machine};
 use std::marker::Brand;
 
 impl<'a, M: Machine, P: Pause> Caller<'a, M, P> {
-    /// Calls the pause after a step that could have ended the call and did not. All other steps call the pause themselves.
+    /// Calls the pause after a step that could have ended the call but did not. All other steps call the pause
+    /// themselves.
     #[inline(always)]
     pub fn goes_on(&self) {
         self.pause.moved(self.slots.thread);
     }
 
-    /// Loads a word. The call can end with this step; if it continues, the loop calls the pause.
+    /// Loads a word. The call can end with this step. If the call continues, the loop must call the pause.
     #[inline(always)]
     fn look_at(&self, place: &mut TableSeat, part: Part) -> u64
         requires { MayAnswer M.table self.now.origin (Load (index_of part)) place.old }
@@ -32,7 +33,8 @@ impl<'a, M: Machine, P: Pause> Caller<'a, M, P> {
         step_on::<M>(self.table, place, Action::Load(part.index()))
     }
 
-    /// Loads the key word of a node. The call can end with this step; if it continues, the loop calls the pause.
+    /// Loads the key word of a node. The call can end with this step. If the call continues, the loop must call the
+    /// pause.
     #[inline(always)]
     pub fn look_at_key(&self, place: &mut TableSeat, node: Node) -> u64
         requires { MayAnswer M.table self.now.origin (Load (key_index node.number)) place.old }
@@ -42,7 +44,8 @@ impl<'a, M: Machine, P: Pause> Caller<'a, M, P> {
         self.look_at(place, Part::Key(node))
     }
 
-    /// Loads the link word of a node. The call can end with this step; if it continues, the loop calls the pause.
+    /// Loads the link word of a node. The call can end with this step. If the call continues, the loop must call the
+    /// pause.
     #[inline(always)]
     pub fn look_at_link(&self, place: &mut TableSeat, node: Node) -> u64
         requires { MayAnswer M.table self.now.origin (Load (link_index node.number)) place.old }
@@ -111,7 +114,8 @@ impl<'a, M: Machine, P: Pause> Caller<'a, M, P> {
         self.store(place, Part::Lock(node), 0);
     }
 
-    /// Exchanges the link of a node from `old` to `new`, as the last step of a call. Returns the value that the link had.
+    /// Exchanges the link of a node from `old` to `new`, as the last step of a call. Returns the value that the link
+    /// had before.
     #[inline(always)]
     pub fn exchange_last(&self, place: &mut TableSeat, node: Node, old: Link, new: Link) -> u64
         requires { MayAnswer M.table self.now.origin (Exchange (link_index node.number) (word_of old) (word_of new)) place.old }
@@ -122,8 +126,8 @@ impl<'a, M: Machine, P: Pause> Caller<'a, M, P> {
         step_on::<M>(self.table, place, action)
     }
 
-    /// Exchanges the link of a node from `old` to `new`, and returns whether it did. The call can end with this step. If the
-    /// exchange was made and the call continues, the loop calls the pause.
+    /// Exchanges the link of a node from `old` to `new`, and returns whether it succeeded. The call can end with this
+    /// step. If the exchange succeeded and the call continues, the loop must call the pause.
     #[inline(always)]
     pub fn exchange(&self, place: &mut TableSeat, node: Node, old: Link, new: Link) -> bool
         requires { MayAnswer M.table self.now.origin (Exchange (link_index node.number) (word_of old) (word_of new)) place.old }
@@ -154,7 +158,7 @@ impl<'a, M: Machine, P: Pause> Caller<'a, M, P> {
         None
     }
 
-    /// Takes the lock in this word. Returns `None` after one failed attempt and `N::MOST` further ones.
+    /// Takes the lock in this word. Returns `None` after one failed attempt and `N::MOST` more.
     #[inline(always)]
     fn take<N: Rounds>(&self, place: &mut TableSeat, word: u64) -> Option<()>
         requires { MayLock M.table self.now.origin word self.now.slots.thread place.old }
@@ -171,7 +175,7 @@ impl<'a, M: Machine, P: Pause> Caller<'a, M, P> {
         Some(())
     }
 
-    /// Takes the lock of a node. Returns `None` after one failed attempt and `N::MOST` further ones.
+    /// Takes the lock of a node. Returns `None` after one failed attempt and `N::MOST` more.
     #[inline(always)]
     pub fn lock<N: Rounds>(&self, place: &mut TableSeat, node: Node) -> Option<()>
         requires { MayLock M.table self.now.origin (lock_index node.number) self.now.slots.thread place.old }
@@ -180,7 +184,7 @@ impl<'a, M: Machine, P: Pause> Caller<'a, M, P> {
         self.take::<N>(place, Part::Lock(node).index())
     }
 
-    /// Begins the call by taking the lock in this word. Returns `None` after one failed attempt and `N::MOST` further ones.
+    /// Begins the call by taking the lock in this word. Returns `None` after one failed attempt and `N::MOST` more.
     pub fn begin_locked<N: Rounds>(&self, place: &mut TableSeat, word: u64) -> Option<()>
         requires begins { MayBegin M.table self.now.origin self.now.slots place.old }
         requires acts { Exchange word 0 (self.now.slots.thread + 1) ≡ M.table.next (first M.table self.now.origin self.now.slots) }

@@ -24,7 +24,7 @@ use Rattle.lset_optimistic.specs.Lawful.Outline.{At, optimistic_follows}
 use Rattle.lset_optimistic.specs.Lawful.Outline.At.{at0, at1, at2, at3, at4, at5, at6, at7, at8, at9, at10, at11, at12, at13, at14, at15}
 use Rattle.lset_optimistic.specs.Promises.{held_at, world_at, IsWalking, HasArrived, GivesBack, WasInChain, IsLockedInChain, ValidatedWalk}
 
--- The knowledge at a row.
+-- What a thread knows at a row.
 record Facts (vs : ℕ → View) (first now : ℕ) (v : View) (t : ℕ) (l : Local) : Type 0 where
   walks : IsWalking l → WasInChain vs first now t l.pred l.node
   arrives : HasArrived l → IsLockedInChain v t l.pred
@@ -96,7 +96,7 @@ module _ (q t : ℕ) (vs : ℕ → View) (first now : ℕ) (v : View) (done : Bo
     decides = λ from upto. absurd (omega arith);
   }
 
--- The rows 7 to 13 keep pred and node.
+-- States that rows 7 to 13 do not change pred or node.
 abbrev Stays : Local → Local → Type 0
 Stays l m = HasArrived m × (m.pred ≡ l.pred)
 
@@ -147,11 +147,11 @@ module _ (l : Local) (seen : ℕ) (a : l.node ≡ l.pred) where
 which_row : (p : ℕ) → 7 ≤ p → p ≤ 14 → p ≢ 14 → (p ≡ 7) ⊎ (p ≡ 8) ⊎ (p ≡ 9) ⊎ (p ≡ 10) ⊎ (p ≡ 11) ⊎ (p ≡ 12) ⊎ (p ≡ 13)
 which_row p from upto d = grind arith
 
--- Row 14 releases the lock of pred.
+-- Row 14 releases pred's lock.
 gives_back : (l : Local) (a : ℕ) → l.pc ≡ 14 → l.pred ≡ a → optimistic.next l ≡ Store (lock_index a) 0
 gives_back l a e f = rw (e, f) refl
 
--- ---- one event
+-- ---- Lemmas about one event
 module _ (s : State) (t : ℕ) where
   other_local : (u : ℕ) (l : Local) → t ≢ u → slice_index_or (slice_set s.locals u l) t (idle 0 0) ≡ local_of s t
   other_local u l d = get_or-set_other s.locals u t l (idle 0 0) d
@@ -175,7 +175,7 @@ module _ (s : State) (t : ℕ) where
         (sym (other_local u (local_after (local_of s u) (seen_next optimistic s u)) (λ f. e (sym f)))) (h, refl)
   ]
 
--- ---- a run
+-- ---- Proof for a whole run
 module _ (op : Opening) (last : ℕ) (es : ℕ → Event) (r : Run optimistic op es last) (t : ℕ) (tn : t < op.threads) where
   abbrev vs : ℕ → View
   vs = views optimistic op es

@@ -1,4 +1,4 @@
--- The law of every run of OptimisticList.
+-- Proof of the law of every run of OptimisticList.
 pub mod Outline
 use Rattle.std.specs.Prelude.{false}
 use Rattle.lset_steps.specs.Laws.{Lawful}

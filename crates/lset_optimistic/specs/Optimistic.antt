@@ -34,30 +34,33 @@ next_action l =
     else if l.pc == 14 then Store (lock_index l.pred) 0
     else Store (lock_index l.curr) 0
 
--- The row after the key word of curr: the walk continues while the word is below the call's key; then the call takes the locks.
+-- Returns the state after a load of curr's key word. The walk continues while the key is smaller than the call's, then
+-- the call takes the locks.
 abbrev pub at_key : ℕ → Local → Local
 at_key seen l = if nat_lt seen (target l.call) then record l { pc = 3; ckey = seen } else record l { pc = 4; ckey = seen }
 
--- The row after both locks are taken: the second walk begins at the head.
+-- Returns the state after both locks are taken. The second walk begins at the head.
 abbrev pub at_locks : Local → Local
 at_locks l = if l.pred == 0 then record l { pc = 8; node = 0 } else record l { pc = 6; node = 0 }
 
--- The row after a failed validation: both locks are released, and there is no reply.
+-- Returns the state after a failed validation. Both locks are released next, and there is no reply.
 abbrev pub gives_up : Local → Local
 gives_up l = record l { pc = 14; reply = None }
 
--- The row after the key word of node: validation fails above the key of pred, and the walk ends at pred.
+-- Returns the state after a load of node's key word. Validation fails if the key is greater than pred's. The walk ends
+-- if node is pred.
 abbrev pub at_node : ℕ → Local → Local
 at_node seen l =
     if nat_lt l.pkey seen then gives_up l
     else if l.node == l.pred then record l { pc = 8 }
     else record l { pc = 6 }
 
--- The row after the link of pred, which the second walk has reached: the call decides if the link leads to curr.
+-- Returns the state after a load of the link of pred, which the second walk has reached. The call decides if the link
+-- leads to curr; otherwise validation fails.
 abbrev pub at_link : ℕ → Local → Local
 at_link seen l = if seen / 2 == l.curr then decided_on targets l.ckey l else gives_up l
 
--- The row after both locks are released: a call without a reply starts again.
+-- Returns the state after both locks are released. A call without a reply starts again.
 abbrev pub at_end : Option Reply → Local → Local
 at_end None l = record l { pc = 1 }
 at_end (Some reply) l = record l { pc = 0 }

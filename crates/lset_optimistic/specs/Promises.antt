@@ -1,5 +1,5 @@
--- The laws of every run of OptimisticList beyond the law of all machines. In all of them op is the opening, es the events of a
--- run of `last` events, t a thread, and k a moment: the state after k events.
+-- Laws of every run of OptimisticList, in addition to the law of all machines. In each of them, op is the opening, es
+-- the events of a run of `last` events, t a thread, and k a moment: the state after k events.
 use Rattle.std.specs.Prelude.{◌≡◌, ℕ, ◌+◌, ◌/◌, ◌<◌, ◌≤◌, ◌⊎◌, false, Some}
 use Rattle.lset_words.specs.Words.{lock_index, Opening}
 use Rattle.lset_words.specs.declared.Call.{Call}
@@ -14,25 +14,26 @@ use Rattle.lset_steps.specs.Chain.{View, InChain, FitsIn}
 use Rattle.lset_steps.specs.Laws.{views}
 use Rattle.lset_optimistic.specs.Optimistic.{optimistic}
 
--- The private state of thread t at moment k; and below, the world at that moment.
+-- Returns the private state of thread t at moment k. `world_at` has the view of that moment.
 abbrev pub held_at : Opening → (ℕ → Event) → ℕ → ℕ → Local
 held_at op es k t = local_of (state_at optimistic op es k) t
 
 abbrev pub world_at : Opening → (ℕ → Event) → ℕ → View
 world_at op es k = views optimistic op es k
 
--- The second walk is in progress: it has reached `node`, and the thread is about to load that node's key (row 7) or link (row 6).
+-- States that the second walk is in progress: it has reached `node`, and the thread's next step loads the key (row 7)
+-- or the link (row 6) of this node.
 abbrev pub IsWalking : Local → Type 0
 IsWalking l = (l.pc ≡ 6) ⊎ (l.pc ≡ 7)
 
--- The second walk has arrived: the node that it has reached is pred, and the thread is at a row from the load of pred's key (7)
--- to the store that releases pred's lock (14). A thread whose walk has failed is at row 14 too, but with another node.
+-- The second walk has arrived: it has reached pred, and the thread is at a row from the load of pred's key (7) to the
+-- store that releases pred's lock (14). A thread whose walk has failed is at row 14 too, but with another node.
 pub record HasArrived (l : Local) : Type 0 where
   pub from : 7 ≤ l.pc
   pub upto : l.pc ≤ 14
   pub there : l.node ≡ l.pred
 
--- Event i is the step by which thread t releases the lock of node a: a store of 0.
+-- At event i, thread t releases the lock of node a by storing 0.
 pub record GivesBack (op : Opening) (es : ℕ → Event) (i t a : ℕ) : Type 0 where
   pub step : es i ≡ Go t
   pub stores : optimistic.next (held_at op es i t) ≡ Store (lock_index a) 0
@@ -51,30 +52,30 @@ pub record WasInChain (vs : ℕ → View) (first now t pred a : ℕ) : Type 0 wh
   pub in_chain : InChain (vs at) a
   pub locked : (i : ℕ) → at ≤ i → i ≤ now → (vs i).lock pred ≡ t + 1
 
--- The laws of each second walk of thread t in a run.
+-- The laws of each second walk that thread t makes in a run.
 pub record WalksAreValid (op : Opening) (last t : ℕ) (es : ℕ → Event) : Type 0 where
-  -- The walk can pass through nodes that are being unlinked. But each node that it reaches was in the chain at some moment of the
-  -- call, and since that moment the thread has held the lock of pred.
+  -- The walk can pass nodes that are being unlinked. But each node that it reaches was in the chain at some moment of
+  -- the call, and the thread has held the lock of pred since that moment.
   pub passes : (k : ℕ) → k ≤ last → IsWalking (held_at op es k t)
       → WasInChain (views optimistic op es) (begun_at (log_of optimistic op es) t k) k t (held_at op es k t).pred
       (held_at op es k t).node
-  -- If the walk has arrived at pred at a moment j, pred is in the chain and the thread holds its lock, at j and at each later
-  -- moment k up to which the thread has not released the lock of pred.
+  -- If the walk has arrived at pred at moment j, then pred is in the chain and the thread holds its lock. This is so at
+  -- j and at every later moment until the thread releases the lock.
   pub arrives : (j k : ℕ) → j ≤ k → k ≤ last → HasArrived (held_at op es j t)
       → ((i : ℕ) → j ≤ i → i < k → GivesBack op es i t (held_at op es j t).pred → ⊥)
       → IsLockedInChain (world_at op es k) t (held_at op es j t).pred
-  -- A thread is at the row that decides (8), or at the rows of an Add or a Remove after it (9 to 13), only if its walk has
-  -- arrived.
+  -- A thread is at the row that decides (8), or at the rows of an Add or a Remove that follow (9 to 13), only if its
+  -- walk has arrived.
   pub decides : (k : ℕ) → k ≤ last → 8 ≤ (held_at op es k t).pc → (held_at op es k t).pc ≤ 13 → HasArrived (held_at op es k t)
 
--- [Validated walk]: if the second walk arrives at pred, pred is in the chain from then on until its lock is released, although
--- the walk can have passed through nodes that were being unlinked.
+-- [Validated walk]: states that if the second walk arrives at pred, then pred is in the chain from then on until its
+-- lock is released, even if the walk has passed nodes that were being unlinked.
 abbrev pub ValidatedWalk : Type 0
 ValidatedWalk = (op : Opening) (last t : ℕ) (es : ℕ → Event) → Run optimistic op es last → t < op.threads →
     WalksAreValid op last t es
 
--- At a moment from `first` on and before `now`, thread t loaded the link of pred (row 8) and saw that it leads to curr, and the
--- reply is correct at that moment.
+-- At some moment from `first` to just before `now`, thread t loaded pred's link (row 8) and saw that it leads to curr.
+-- The reply is correct at that moment.
 pub record FitsAtALoad (op : Opening) (es : ℕ → Event) (first now t : ℕ) (call : Call) (reply : Reply) : Type 0 where
   pub at : ℕ
   pub from : first ≤ at
@@ -84,8 +85,8 @@ pub record FitsAtALoad (op : Opening) (es : ℕ → Event) (first now t : ℕ) (
   pub leads : (world_at op es at).link (held_at op es at t).pred / 2 ≡ (held_at op es at t).curr
   pub fits : FitsIn op.quota (world_at op es at) t call reply
 
--- [Optimistic replies fit]: if a call ends that changed nothing, its reply is correct at a moment of the call at which the thread
--- saw that pred leads to curr, after its walk had arrived (row 8).
+-- [Optimistic replies fit]: states that if a call ends without a change, its reply is correct at a moment of the call
+-- at which the thread saw pred lead to curr (row 8), after its walk had arrived.
 abbrev pub OptimisticRepliesFit : Type 0
 OptimisticRepliesFit = (op : Opening) (last k t : ℕ) (es : ℕ → Event) (reply : Reply) → Run optimistic op es last → k < last →
     t < op.threads

@@ -27,8 +27,9 @@ use lset_steps::rows::{
 use lset_steps::{Action, Fed, Local, Machine};
 use lset_words::{Call, HEAD, Key, Kind, Reply};
 
-/// The list that walks without locks and then locks the two nodes at which the walk ended. A second walk from the head checks
-/// that the first of them is still in the chain and leads to the second (Herlihy and Shavit's optimistic list).
+/// The list that walks without locks, then locks the two nodes at which the walk ended. A second walk from the head
+/// checks that the first of these nodes is still in the chain and leads to the second (Herlihy and Shavit's optimistic
+/// list).
 #[derive(Clone, Copy)]
 pub struct OptimisticList;
 
@@ -39,8 +40,8 @@ const TARGETS: Targets = Targets {
     leaves: 14,
 };
 
-/// Returns the next step of a thread with a pending call, by its row of the table. Its numbers must be small; they are in every
-/// run.
+/// Returns the next step of a thread with a pending call, from its row of the table. The numbers in `local` must be
+/// small, as they are in every run.
 #[inline(always)]
 pub fn next_action(local: &Local) -> Action
     requires { IsSmall local.now }
@@ -64,7 +65,8 @@ pub fn next_action(local: &Local) -> Action
     }
 }
 
-/// Returns the thread's state after the walk moves on from `pred`, whose key word is `pkey`, to the node that `link` leads to.
+/// Returns the thread's state after the walk moves from `pred`, whose key word is `pkey`, to the node that `link` leads
+/// to.
 #[inline(always)]
 fn walks_on(local: &Local, pred: u64, pkey: u64, link: u64) -> Local
     ensures { result ≡ record local.now { pc = 2; pred = pred; pkey = pkey; curr = link / 2 } }
@@ -78,8 +80,8 @@ fn walks_on(local: &Local, pred: u64, pkey: u64, link: u64) -> Local
     }
 }
 
-/// Returns the thread's state after it reads a key word: the walk continues if the word is below the call's key, else the call
-/// takes the locks.
+/// Returns the thread's state after it reads a key word. The walk continues if the key is smaller than the call's;
+/// otherwise the call takes the locks.
 #[inline(always)]
 fn at_key(local: &Local, seen: u64) -> Local
     ensures { result ≡ at_key seen local.now }
@@ -92,7 +94,8 @@ fn at_key(local: &Local, seen: u64) -> Local
     }
 }
 
-/// Returns the thread's state at the start of the second walk, at the head. If pred is the head, the walk has arrived.
+/// Returns the thread's state at the start of the second walk, which begins at the head. If pred is the head, the walk
+/// has already arrived.
 #[inline(always)]
 fn at_locks(local: &Local) -> Local
     ensures { result ≡ at_locks local.now }
@@ -105,7 +108,7 @@ fn at_locks(local: &Local) -> Local
     }
 }
 
-/// Returns the thread's state after a failed validation: it releases both locks and has no reply.
+/// Returns the thread's state after a failed validation. It releases both locks next, and has no reply.
 #[inline(always)]
 fn gives_up(local: &Local) -> Local
     ensures { result ≡ gives_up local.now }
@@ -117,8 +120,8 @@ fn gives_up(local: &Local) -> Local
     }
 }
 
-/// Returns the thread's state after the second walk reads a key word. The walk fails if it has passed the first walk's node, and
-/// succeeds if it has reached that node.
+/// Returns the thread's state after the second walk reads a key word. The walk fails if it has passed the first walk's
+/// node, and succeeds if it has reached it.
 #[inline(always)]
 fn at_node(local: &Local, seen: u64) -> Local
     ensures { result ≡ at_node seen local.now }
@@ -132,8 +135,8 @@ fn at_node(local: &Local, seen: u64) -> Local
     }
 }
 
-/// Returns the thread's state after it reads the link of pred: the call decides if the link still leads to curr, else validation
-/// fails.
+/// Returns the thread's state after it reads the link of pred. The call decides if the link still leads to curr;
+/// otherwise validation fails.
 #[inline(always)]
 fn at_link(local: &Local, seen: u64) -> Local
     ensures { result ≡ at_link seen local.now }
@@ -145,7 +148,7 @@ fn at_link(local: &Local, seen: u64) -> Local
     }
 }
 
-/// Returns the thread's state after it releases its last lock: a call without a reply starts again.
+/// Returns the thread's state after it releases its last lock. A call without a reply starts again.
 #[inline(always)]
 fn at_end(local: &Local) -> Local
     ensures { result ≡ at_end local.now.reply local.now }
@@ -212,7 +215,8 @@ pub fn fed_by(local: &Local, seen: u64) -> Fed
     }
 }
 
-/// Returns the key that the thread's next step adds (`true`) or removes (`false`); `None` if the step does not change the set.
+/// Returns the key that the thread's next step adds (`true`) or removes (`false`), or `None` if the step does not
+/// change the set.
 #[inline(always)]
 pub fn effect_of(local: &Local, _seen: u64) -> Option<(Key, bool)>
     ensures { result ≡ effect_of local.now _seen }

@@ -1,4 +1,5 @@
--- The number of nodes with a key above a given key. It bounds the rest of a walk, since the keys along a walk increase.
+-- Counts the nodes whose keys are greater than a given key. This bounds the rest of a walk, since keys increase along
+-- it.
 use Rattle.std.specs.Prelude.{◌≡◌, ℕ, ◌+◌, ◌<◌, ◌≤◌, if◌then◌else◌, nat_lt}
 use Rattle.std.proofs.Common.{arith, inl, inr, ap, zero, suc}
 use Rattle.lset_words.proofs.Numbers.{same_or_not, below_or_not, if_below, if_not_below}
@@ -6,7 +7,7 @@ use Rattle.lset_words.proofs.Numbers.{same_or_not, below_or_not, if_below, if_no
 abbrev pub above : ℕ → ℕ → ℕ
 above c x = if nat_lt c x then 1 else 0
 
--- The number of numbers below n whose key is above c.
+-- Returns how many of the first n nodes have a key greater than c.
 abbrev pub ahead : (ℕ → ℕ) → ℕ → ℕ → ℕ
 ahead key zero c = 0
 ahead key (suc n) c = above c (key n) + ahead key n c
@@ -36,7 +37,7 @@ ahead_falls key (suc n) c d l =
     let b : ahead key n d ≤ ahead key n c = ahead_falls key n c d l in
     omega arith
 
--- A walk that reaches a node with a greater key has fewer nodes ahead.
+-- If a walk moves to a node with a greater key, fewer nodes are ahead of it.
 pub ahead_less : (key : ℕ → ℕ) (n c i : ℕ) → i < n → c < key i → ahead key n (key i) < ahead key n c
 ahead_less key zero c i h l = absurd (omega arith)
 ahead_less key (suc n) c i h l = elim (same_or_not i n) [
@@ -57,7 +58,7 @@ ahead_most key zero c = omega arith
 ahead_most key (suc n) c =
     let a : above c (key n) ≤ 1 = above_one c (key n) in let b : ahead key n c ≤ n = ahead_most key n c in omega arith
 
--- A node is not ahead of itself.
+-- No node is ahead of itself.
 pub ahead_few : (key : ℕ → ℕ) (n c i : ℕ) → i < n → key i ≤ c → ahead key n c < n
 ahead_few key zero c i h l = absurd (omega arith)
 ahead_few key (suc n) c i h l = elim (same_or_not i n) [

@@ -1,5 +1,5 @@
--- A ceiling of LockFreeList that never ends although every other thread is idle: a run of 27 events, after which five steps of
--- the ceiling lead back to the same state.
+-- A ceiling of LockFreeList that never ends although every other thread is idle. The run has 27 events. After them,
+-- five steps of the ceiling lead back to the same state.
 use Rattle.std.specs.Prelude.{◌≡◌, ◌≢◌, ℕ, ◌<◌, List, [], ◌∷◌, length, refl}
 use Rattle.std.proofs.Common.{arith, sym, subst, zero, suc}
 use Rattle.lset_words.specs.declared.Call.TheVariants.{Add, Remove, Ceiling}
@@ -10,8 +10,8 @@ use Rattle.lset_lock_free.specs.LockFree.{lock_free}
 use Rattle.lset_progress.proofs.WrittenRuns.{op, run, is_run, is_after, state_after, never_ends_alone}
 use Rattle.lset_progress.specs.Progress.{IsPending, IsCeiling, EndsAlone, SomeCeilingNeverEnds}
 
--- Thread 0 adds 5 and is about to link in 3 before it. Thread 1 marks the node of 5 and fails to unlink it, since 3 has been
--- linked in. Then thread 0 begins a ceiling of 4 and makes its first five steps.
+-- Thread 0 adds 5 and is about to link in 3 before it. Thread 1 marks the node of 5 but fails to unlink it, since 3 has
+-- been linked in. Then thread 0 begins a ceiling of 4 and makes its first five steps.
 abbrev events : List Event
 events = Begin 0 (Add (record { 0 = 5 })) ∷ Go 0 ∷ Go 0 ∷ Go 0 ∷ Go 0 ∷ Go 0 ∷ Go 0
     ∷ Begin 0 (Add (record { 0 = 3 })) ∷ Go 0 ∷ Go 0 ∷ Go 0 ∷ Go 0 ∷ Go 0

@@ -1,6 +1,6 @@
--- Proof: a list with locks is free from livelock, given its rows. A store to a word other than a lock comes after a decision,
--- after which a call makes at most 5 steps. Between two such stores each thread makes at most the steps of a call that runs
--- alone.
+-- Proof: a list with locks is free from livelock, given its rows. Only a call that has decided stores to a word other
+-- than a lock, and it then makes at most 5 more steps. Between two such stores, each thread makes at most as many steps
+-- as a call that runs alone.
 use Rattle.std.specs.Prelude.{◌≡◌, ◌≢◌, ℕ, ◌+◌, ◌*◌, ◌%◌, ◌<◌, ◌≤◌, ◌⊎◌, List, if◌then◌else◌, ◌==◌, nat_lt, true, false, refl}
 use Rattle.std.specs.Prelude.{slice_index, slice_set}
 use Rattle.std.proofs.Common.{arith, inl, inr, sym, ◌∙◌, ap, subst, suc}
@@ -30,8 +30,9 @@ is_lock_test x (inr (i, e)) =
     if_other x 0 (omega arith) true (if nat_lt x 5 then false else if x % 3 == 2 then true else false)
     ∙ if_not_below x 5 (omega arith) false (if x % 3 == 2 then true else false) ∙ if_same (x % 3) 2 (omega arith) true false
 
--- The obligations of a list for the calls that count: they are the calls that hold locks and change the list, and all others only
--- read. If a step of such a call is not a failed attempt to take a lock, the words satisfy the condition of the step.
+-- What a list must prove about the calls that count. They include every call that holds locks or changes the list; all
+-- other calls only read. If a step of a call that counts is not a failed attempt to take a lock, the words satisfy the
+-- step's condition.
 pub record Counts (T : Table) (S : Shape) (calls : Call → ℕ) : Type 0 where
   pub one_or_none : (c : Call) → (calls c ≡ 0) ⊎ (calls c ≡ 1)
   pub late : (op : Opening) (last k t : ℕ) (es : ℕ → Event) → Run T op es last → k ≤ last → t < op.threads
@@ -48,15 +49,16 @@ pub record Counts (T : Table) (S : Shape) (calls : Call → ℕ) : Type 0 where
 
 module _ (T : Table) (law : Lawful T) (S : Shape) (most : Sizes → ℕ) (shows : Shows T S most) (calls : Call → ℕ)
     (counts : Counts T S calls) where
-  -- The time of a thread: the remaining steps of a call that counts; the maximum if the thread is still to begin such a call.
+  -- States that a step budget suffices: for a call that counts, it covers the steps that remain; for a thread that has
+  -- not begun such a call, it is the maximum.
   abbrev Fits : Sizes → List ℕ → ℕ → Local → Type 0
   Fits sz ws m l = (most sz ≤ m) ⊎ ((l.pc ≢ 0) × (calls l.call ≡ 1) × Timed S (node_count sz) ws m l)
 
-  -- The steps that the thread can still make after its decision.
+  -- States that a thread can make at most m more steps after its decision.
   abbrev Owes : ℕ → Local → Type 0
   Owes m l = (5 ≤ m) ⊎ LateBy S m l
 
-  -- The number of steps that one store can cost the threads.
+  -- Returns the maximum number of steps that one store can add to the budgets of all threads.
   abbrev price : Sizes → ℕ
   price sz = sz.threads * most sz
 
@@ -67,7 +69,7 @@ module _ (T : Table) (law : Lawful T) (S : Shape) (most : Sizes → ℕ) (shows 
     owes : (u : ℕ) → u < sz.threads → Owes (stores u) (local_of s u)
     within : price sz * total stores sz.threads + total time sz.threads ≤ p
 
-  -- If each thread has the same time as before, the potential does not rise.
+  -- If no thread's budget changes, the potential does not increase.
   same_phase : (sz : Sizes) (s s' : State) (p : ℕ) (f : Phase sz s p)
       → ((u : ℕ) → u < sz.threads → Fits sz s'.words (f.time u) (local_of s' u) × Owes (f.stores u) (local_of s' u))
       → Phase sz s' p
@@ -79,7 +81,7 @@ module _ (T : Table) (law : Lawful T) (S : Shape) (most : Sizes → ℕ) (shows 
     within = f.within;
   }
 
-  -- Beginning a call keeps the potential.
+  -- Beginning a call does not increase the potential.
   begins : (sz : Sizes) (s : State) (t : ℕ) (c : Call) → Enabled s (Begin t c) → (p : ℕ) → Phase sz s p
       → Phase sz (after T s (Begin t c)) p
   begins sz s t c en p f = same_phase sz s (after T s (Begin t c)) p f (λ u un. elim (same_or_not u t) [
@@ -92,7 +94,7 @@ module _ (T : Table) (law : Lawful T) (S : Shape) (most : Sizes → ℕ) (shows 
         (sym (put_other s t u (T.begin c (local_of s t)) y)) (f.times u un, f.owes u un)
   ])
 
-  -- A step that does not end a call that counts lowers the potential by as much as it counts.
+  -- A step that does not end a call that counts decreases the potential by the amount that the step counts.
   module _ (op : Opening) (last k : ℕ) (es : ℕ → Event) (r : Run T op es last) (below : k < last) (t : ℕ) (ee : es k ≡ Go t)
       (en : Enabled (state_at T op es k) (Go t)) (p : ℕ) (f : Phase (sizes op) (state_at T op es k) p) where
     abbrev s : State
@@ -184,7 +186,7 @@ module _ (T : Table) (law : Lawful T) (S : Shape) (most : Sizes → ℕ) (shows 
         timed_same S (node_count (sizes op)) s.words s'.words m l same.0 same.1 h.2,
       )
 
-      -- A step of a call that does not count.
+      -- A step of a call whose steps do not count.
       module _ (none : calls L.call ≡ 0) where
         not_late : S.late L → ⊥
         not_late h = let one : calls L.call ≡ 1 = counts.late op last k t es r (omega arith) tn h in omega arith
@@ -206,10 +208,10 @@ module _ (T : Table) (law : Lawful T) (S : Shape) (most : Sizes → ℕ) (shows 
           ]),
         )
 
-      -- A step of a call that counts, with n steps left.
+      -- A step of a call that counts and has n steps left after it.
       module _ (one : calls L.call ≡ 1) (n : ℕ) (is : f.time t ≡ suc n)
           (time : Timed S (node_count (sizes op)) s.words (suc n) L) where
-        -- The other threads have their whole time again.
+        -- Returns the budgets after a store: every other thread has its full budget again.
         abbrev again : ℕ → ℕ
         again = put (λ u. most (sizes op)) t n
 
@@ -237,7 +239,7 @@ module _ (T : Table) (law : Lawful T) (S : Shape) (most : Sizes → ℕ) (shows 
                 (subst (λ m. Owes m (local_of s u)) (sym (others u y)) (f.owes u un))
           ]
 
-          -- Case: keys and links do not change.
+          -- If keys and links do not change, the potential decreases.
           quiet : Kept → Later
           quiet same =
               let fewer : total (put f.time t n) op.threads + 1 ≤ total f.time op.threads =
@@ -263,7 +265,7 @@ module _ (T : Table) (law : Lawful T) (S : Shape) (most : Sizes → ℕ) (shows 
                 },
               )
 
-          -- Case: the step is one after a decision.
+          -- If the step comes after the call's decision, the potential decreases.
           stores_on : LateBy S 5 L → (m : ℕ) → f.stores t ≡ suc m → S.left 0 (λ a. 0) L < suc m → Later
           stores_on x m e few =
               let fewer : total (put f.stores t m) op.threads + 1 ≤ total f.stores op.threads =
@@ -349,7 +351,7 @@ module _ (T : Table) (law : Lawful T) (S : Shape) (most : Sizes → ℕ) (shows 
     goes_down : EndsNow ⊎ Later
     goes_down = by_action (T.next L) refl (row T law S most shows op last k t es r (omega arith) tn en.1)
 
-  -- ---- a run
+  -- ---- Proof for a whole run
   module _ (op : Opening) (last : ℕ) (es : ℕ → Event) (r : Run T op es last) where
     one_event : (k p : ℕ) → k < last → Phase (sizes op) (state_at T op es k) p → (e : Event) → es k ≡ e
         → Enabled (state_at T op es k) e → Then T (moves calls T) op es (Phase (sizes op)) k p e
@@ -387,7 +389,7 @@ module _ (T : Table) (law : Lawful T) (S : Shape) (most : Sizes → ℕ) (shows 
       (λ j p l f. one_event op (k + n) es r j p l f (es j) refl (r.enabled j l)) (none_left op (k + n) es r (some (sizes op)))
       n k (lock_window most (sizes op)) (omega arith) (starts op (k + n) es r k) h
 
--- All calls count if no step needs anything of the words.
+-- If no step puts a condition on the words, all calls can count.
 pub each_counts : (T : Table) (S : Shape) → ((ws : List ℕ) (l : Local) → S.calm ws l) → Counts T S (λ call. 1)
 each_counts T S calm = record {
   one_or_none = λ call. inr refl;

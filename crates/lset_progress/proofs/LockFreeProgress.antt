@@ -1,4 +1,4 @@
--- The rows of LockFreeList: its calls end alone, whatever the other threads are about to do.
+-- The rows of LockFreeList. They imply that its calls end alone, whatever the other threads are about to do.
 use Rattle.std.specs.Prelude.{◌≡◌, ◌≢◌, ℕ, ◌+◌, ◌*◌, ◌/◌, ◌%◌, ◌<◌, ◌≤◌, ◌⊎◌, Bool, true, Some, None, List, [], ◌∷◌, refl}
 use Rattle.std.specs.Prelude.{if◌then◌else◌, ◌==◌, nat_lt, slice_index, slice_set}
 use Rattle.std.proofs.Common.{arith, get_or, inl, inr, sym, ◌∙◌, ap, subst, suc}
@@ -40,8 +40,8 @@ use Rattle.lset_progress.proofs.ReadProgress.{from_24, from_25}
 use Rattle.lset_progress.proofs.RowsWithLocks.{Shape, TimedBy, Then, Any, Only, at_row, no_time, again, on, stops}
 use Rattle.lset_progress.proofs.Standing.{Standing, stands}
 
--- The number of steps that remain after the next one, for each row from row 0, in a walk whose exchanges succeed. If an exchange
--- fails, the walk starts again.
+-- Returns the number of steps that remain after the next one, by row, beginning with row 0, if all exchanges of the
+-- walk succeed. If an exchange fails, the walk starts again.
 abbrev pub round : ℕ → ℕ
 round size = 2 * size + 2
 
@@ -49,16 +49,16 @@ abbrev pub left : ℕ → (ℕ → ℕ) → Local → ℕ
 left size key l = get_or (0 ∷ (2 * size + 1) ∷ (2 * rest_by size key l.curr + 4) ∷ (2 * rest_by size key l.curr + 3)
     ∷ (2 * rest_by size key l.curr + 3) ∷ 2 ∷ 1 ∷ 0 ∷ 2 ∷ 1 ∷ 0 ∷ []) l.pc (reads_left size key l)
 
--- A walk whose exchanges will succeed: pred is not marked, and curr comes after it.
+-- A walk whose exchanges will succeed: pred is not marked, and curr is its next node.
 pub record Valid (link : ℕ → ℕ) (l : Local) : Type 0 where
   pub follows : 2 ≤ l.pc → l.pc ≤ 7 → link l.pred ≡ 2 * l.curr
-  -- curr is not marked, and leads to succ.
+  -- curr is not marked, and succ is its next node.
   pub unmarked : l.pc ≡ 4 → link l.curr ≡ 2 * l.succ
   pub plain : l.pc ≡ 8 → link l.curr % 2 ≡ 0
   pub same : l.pc ≡ 9 → link l.curr ≡ 2 * l.succ
   pub along : 23 ≤ l.pc → Path link 0 l.curr
 
--- The rows before pred and curr are known, and after the walk.
+-- If pred and curr are not known yet, or not needed any more, the walk is valid.
 outside : (link : ℕ → ℕ) (l : Local) → (2 ≤ l.pc → l.pc ≤ 9 → ⊥) → (23 ≤ l.pc → Path link 0 l.curr) → Valid link l
 outside link l other along = record {
   follows = λ a b. absurd (other a (omega arith));
@@ -68,14 +68,14 @@ outside link l other along = record {
   along = along;
 }
 
--- The rows of a contains, and the first rows of a ceiling.
+-- At the rows of a contains and at the first rows of a ceiling, the walk is valid if it has followed the chain.
 low_read : (link : ℕ → ℕ) (l : Local) → (2 ≤ l.pc → l.pc ≤ 9 → ⊥) → l.pc < 23 → Along link l → Valid link l
 low_read link l other low a = outside link l other (λ h. absurd (omega arith))
 
 high_read : (link : ℕ → ℕ) (l : Local) → (2 ≤ l.pc → l.pc ≤ 9 → ⊥) → Path link 0 l.curr → Valid link l
 high_read link l other a = outside link l other (λ h. a)
 
--- The rows at which only the link of pred is known.
+-- If only pred's link is known, the walk is valid if this link leads to curr.
 at_pred : (link : ℕ → ℕ) (l : Local) → (2 ≤ l.pc) × (l.pc ≤ 7) × (l.pc ≢ 4) → link l.pred ≡ 2 * l.curr → Valid link l
 at_pred link l row follows =
     let low : 2 ≤ l.pc = row.0 in let high : l.pc ≤ 7 = row.1 in record {
@@ -86,7 +86,7 @@ at_pred link l row follows =
       along = λ h. absurd (omega arith);
     }
 
--- No lock is held. While a ceiling walks, no node of the chain is marked.
+-- No thread holds a lock. While a ceiling walks, no node of the chain is marked.
 abbrev pub shape : Shape
 shape = record {
   may = λ l x. ⊥;
@@ -109,7 +109,7 @@ reads_at size key ws l =
     (λ x m. m, λ z. z, λ z. omega arith, refl, λ v. v.along (omega arith), high_read link _ (λ c d. omega arith), λ c. c)
     l.pc
 
--- The walk's exchanges will succeed, or time remains for another walk.
+-- States that the walk's exchanges will succeed, or that the budget has room for another walk.
 abbrev pub Timed : ℕ → (ℕ → ℕ) → List ℕ → ℕ → Local → Type 0
 Timed size key ws n l = TimedBy shape size key (node_link ws) n l
 
@@ -118,7 +118,8 @@ pub record Left (size : ℕ) (key : ℕ → ℕ) (ws : List ℕ) (n : ℕ) (l : 
   pub plain : 23 ≤ l.pc → Plain ws
   pub time : Timed size key ws n l
 
--- A property holds after an exchange if it holds after a successful and after a failed one.
+-- To prove a property of the state after an exchange, prove it for the case that the exchange succeeds and for the case
+-- that it fails.
 by_exchange : (P : List ℕ → Fed → Type 0) (ws : List ℕ) (w o v : ℕ) {f g : Fed} → (slice_index ws w ≡ o → P (slice_set ws w v) f)
     → (slice_index ws w ≢ o → P ws g) → P (left_by ws (Exchange w o v)) (if slice_index ws w == o then f else g)
 by_exchange P ws w o v {f} {g} this other = elim (same_or_not (slice_index ws w) o) [
@@ -137,7 +138,7 @@ module _ {sz : Sizes} {ws : List ℕ} {used : ℕ → ℕ} {t : ℕ} {vs : ℕ �
   abbrev size : ℕ
   size = node_count sz
 
-  -- The step of k leaves the words ws' and is fed f.
+  -- States that the step from k leaves the words ws' and has the result f.
   abbrev After : Local → List ℕ → Fed → Type 0
   After k ws' f = Then shape size key ws k Any key ws' f
       × (((r : Reply) × (f.answer ≡ Some r)) ⊎ ((23 ≤ k.pc → Plain ws) → 23 ≤ f.local.pc → Plain ws'))
@@ -149,7 +150,8 @@ module _ {sz : Sizes} {ws : List ℕ} {used : ℕ → ℕ} {t : ℕ} {vs : ℕ �
   abbrev From : ℕ → List ℕ → Fed → Type 0
   From n ws' f = After (record l { pc = n }) ws' f
 
-  -- The step leads to a row below 23; and below, starts again from the head, or ends the call.
+  -- The step leads to a row below 23. The next two lemmas are about steps that start again from the head, and about
+  -- steps that end the call.
   to : {k k' : Local} {ws' : List ℕ} → Only (nat_lt 0 k'.pc) → k'.pc < 23 → (Valid (node_link ws) k → Valid (node_link ws') k')
       → left size key k' < left size key k → After k ws' (continued k')
   to busy low valid less = (on (λ x o m. m) busy (λ z. z) valid less, inr (λ c high. absurd (omega arith)))
@@ -184,7 +186,7 @@ module _ {sz : Sizes} {ws : List ℕ} {used : ℕ → ℕ} {t : ℕ} {vs : ℕ �
           (v.follows (omega arith) (omega arith))) (omega arith)),
     )
 
-    -- A marked curr is unlinked: succ, which has fewer nodes ahead, comes after pred.
+    -- A marked curr is unlinked. succ, which has fewer nodes ahead, then comes after pred.
     from_3 : Spot V (target l.call) l.pred l.curr → node_link ws l.curr ≡ 2 * l.succ + 1 → Row (record l { pc = 3 })
     from_3 x odd =
         let tail : node_link ws 1 ≡ 2 = h.memory.tail_link in
@@ -201,7 +203,7 @@ module _ {sz : Sizes} {ws : List ℕ} {used : ℕ → ℕ} {t : ℕ} {vs : ℕ �
               (λ z. starts_again (λ v. z (v.follows (omega arith) (omega arith)))),
         )
 
-    -- The key of an unmarked curr is read: the walk continues, or the call decides.
+    -- The key of an unmarked curr is read. The walk continues, or the call decides.
     from_4 : (l.curr ≢ 1 → rest_by size key l.succ < rest_by size key l.curr) → Row (record l { pc = 4 })
     from_4 increases = (
       inr (omega arith),
@@ -222,7 +224,7 @@ module _ {sz : Sizes} {ws : List ℕ} {used : ℕ → ℕ} {t : ℕ} {vs : ℕ �
           (λ r. ends)),
     )
 
-    -- An add writes its slot, which is not a node of the list yet, and links it in.
+    -- An add writes to its slot, which is not in the list yet, and then links it in.
     from_5 : Row (record l { pc = 5 })
     from_5 = (
       inr (omega arith),
@@ -250,7 +252,7 @@ module _ {sz : Sizes} {ws : List ℕ} {used : ℕ → ℕ} {t : ℕ} {vs : ℕ �
           (λ z. ends) (λ z. starts_again (λ v. z (v.follows (omega arith) (omega arith)))),
     )
 
-    -- A remove loads the link of its node and marks the node.
+    -- A remove loads the link of its node, and then marks the node.
     from_8 : Row (record l { pc = 8 })
     from_8 = (
       inr (omega arith),
@@ -275,7 +277,7 @@ module _ {sz : Sizes} {ws : List ℕ} {used : ℕ → ℕ} {t : ℕ} {vs : ℕ �
     both : {A B : Type 0} → A → B → A × B
     both a b = (a, b)
 
-    -- A contains or a ceiling.
+    -- A row of a contains or a ceiling.
     read : (n : ℕ) {f : Fed} → IsReadRow n → Reads (round size) size key ws (record l { pc = n }) f → From n ws f
     read n {f} row a = (
       reads_then shape size key ws (reads_at size key ws) (record l { pc = n }) f row a,
@@ -299,7 +301,7 @@ module _ {sz : Sizes} {ws : List ℕ} {used : ℕ → ℕ} {t : ℕ} {vs : ℕ �
     reads (reads25 e d c a) = at_row Row l 25 e (both (inr (omega arith)) (read 25 (inr (inr (inr (inr (inr refl)))))
         (from_25 h key agrees (round size) (omega arith))))
 
-    -- succ comes after curr.
+    -- succ has a greater key than curr.
     increases_at : Was vs first now l.curr l.succ t (used t) (λ v. v.link l.curr % 2 ≡ 0) → l.curr ≢ 1
         → rest_by size key l.succ < rest_by size key l.curr
     increases_at o user =
@@ -344,7 +346,7 @@ module _ {sz : Sizes} {ws : List ℕ} {used : ℕ → ℕ} {t : ℕ} {vs : ℕ �
   row_of : Row l
   row_of = row (few_by size key l.curr h.registers.curr) h.at
 
--- At moment k of a run, a thread t with a pending call.
+-- A moment k of a run, and a thread t that has a pending call at that moment.
 module _ (op : Opening) (last k : ℕ) (es : ℕ → Event) (r : Run lock_free op es last) (upto : k ≤ last) (key : ℕ → ℕ)
     (agrees : SameKeys key (views lock_free op es k)) (t : ℕ) (tn : t < op.threads) where
   abbrev S : State
@@ -368,7 +370,7 @@ module _ (op : Opening) (last k : ℕ) (es : ℕ → Event) (r : Run lock_free o
         ]
       ]
 
--- The stages of a call.
+-- The stages of a call of LockFreeList.
 abbrev Stage : Sizes → State → ℕ → ℕ → Type 0
 Stage sz s t n = (key : ℕ → ℕ) × SameKeys key (view_of sz s) × Left (node_count sz) key s.words n (local_of s t)
 

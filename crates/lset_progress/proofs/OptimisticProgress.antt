@@ -1,4 +1,4 @@
--- The rows of OptimisticList: a walk from the head, made alone, is valid.
+-- The rows of OptimisticList. A walk from the head that is made alone is valid.
 use Rattle.std.specs.Prelude.{◌≡◌, ◌≢◌, ℕ, ◌+◌, ◌*◌, ◌/◌, ◌%◌, ◌<◌, ◌≤◌, ◌||◌, Bool, false, Option, Some, None, is_some, List, []}
 use Rattle.std.specs.Prelude.{◌∷◌, refl, slice_index}
 use Rattle.std.proofs.Common.{arith, inl, inr, sym, subst}
@@ -30,8 +30,8 @@ use Rattle.lset_progress.proofs.RowsWithLocks.{Shape, Loads, Stores, RowOf, Node
 use Rattle.lset_progress.proofs.RowsWithLocks.{gave_pred, gave_curr, after_pred, again, goes, on, takes, timed, unlocks, writes}
 use Rattle.lset_progress.proofs.Standing.{Standing, stands}
 
--- The number of steps that remain after the next one, for each row from row 0, in a valid walk. Without a reply, both locks are
--- released and the walk starts again.
+-- Returns the number of steps that remain after the next one, by row, beginning with row 0, in a valid walk. A call
+-- without a reply releases both locks and walks again.
 abbrev round : ℕ → ℕ
 round size = 4 * size + 4
 
@@ -49,8 +49,8 @@ left size key l = slice_index (0 ∷ (4 * size + 3) ∷ (2 * ahead key size (key
     ∷ (2 * ahead key size (key l.node) + 5) ∷ (2 * ahead key size (key l.node) + 6) ∷ 5 ∷ 4 ∷ 3 ∷ 2 ∷ 3 ∷ 2
     ∷ (1 + then_again size l.reply) ∷ (then_again size l.reply) ∷ []) l.pc
 
--- A walk is valid if pred is in the chain, curr comes after it, and the second walk is on its way to pred. A thread that releases
--- its locks after its decision has a reply.
+-- A walk is valid if pred is in the chain, curr comes after it, and the second walk will reach pred. A thread that
+-- releases its locks after its decision has a reply.
 abbrev shape : Shape
 shape = record {
   may = NodeLocks (within 5 14) (within 6 15);
@@ -74,7 +74,7 @@ module _ {sz : Sizes} {ws : List ℕ} {used : ℕ → ℕ} {t : ℕ} {vs : ℕ �
   abbrev Row : Local → Type 0
   Row k = RowOf shape size optimistic sz ws t (optimistic_steps sz) k
 
-  -- A load at row n leads to the state k.
+  -- States that a load at row n leads to the state k.
   abbrev To : ℕ → Local → Type 0
   To n k = Loads shape size ws (record l { pc = n }) (continued k)
 
@@ -84,7 +84,7 @@ module _ {sz : Sizes} {ws : List ℕ} {used : ℕ → ℕ} {t : ℕ} {vs : ℕ �
   even : (a : ℕ) → V.published a → node_link ws a ≡ 2 * (node_link ws a / 2)
   even a p = let z : node_link ws a % 2 ≡ 0 = h.memory.marked a p in omega arith
 
-  -- Fewer nodes are ahead of curr than of pred, which comes before it.
+  -- Fewer nodes are ahead of curr than of pred.
   curr_less : Found V (target l.call) l.pred l.curr l.ckey → rest size ws l.curr < rest size ws l.pred
   curr_less f =
       let below : node_key ws l.pred < target l.call = f.spot.below in
@@ -95,7 +95,7 @@ module _ {sz : Sizes} {ws : List ℕ} {used : ℕ → ℕ} {t : ℕ} {vs : ℕ �
 
   module _ (few : rest size ws l.curr < size) (few_node : rest size ws l.node < size) (head : rest size ws 0 < size)
       (pred : l.pred < node_count sz) (curr : l.curr < node_count sz) (round_few : then_again size l.reply ≤ 4 * size + 4) where
-    -- The last lock is released.
+    -- States that the step releases the last lock.
     abbrev Last : Option Reply → Type 0
     Last r = Stores shape size ws (record l { pc = 15 }) (lock_index l.curr) ws
         (record { local = at_end r (record l { pc = 15 }); answer = r })

@@ -3,7 +3,7 @@ use Rattle.std.specs.Prelude.{◌≡◌, ◌≢◌, ℕ, ◌/◌, ◌<◌, ◌�
 use Rattle.std.proofs.Common.{arith, sym, ap, subst, refl}
 use Rattle.lset_steps.specs.Chain.{View, Segment, InChain, IsOrdered}
 
--- The nodes ns lead from i to j along the links.
+-- States that following links from i visits the nodes ns, then reaches j.
 abbrev pub Leads : (ℕ → ℕ) → ℕ → List ℕ → ℕ → Type 0
 Leads link i [] j = i ≡ j
 Leads link i (a ∷ ns) j = (i ≢ 1) × Leads link (link i / 2) ns j
@@ -18,7 +18,7 @@ leads_on : (link : ℕ → ℕ) (i j : ℕ) (ns : List ℕ) → Leads link i ns 
 leads_on link i j [] p d = (i ∷ [], (subst (λ x. x ≢ 1) (sym p) d, ap (λ x. link x / 2) p))
 leads_on link i j (a ∷ ns) p d = let q = leads_on link (link i / 2) j ns p.1 d in (a ∷ q.0, (p.0, q.1))
 
--- A path extended by one link at its end.
+-- A path can be extended by one link at its end.
 pub path_on : (link : ℕ → ℕ) (i j c : ℕ) → Path link i j → j ≢ 1 → link j / 2 ≡ c → Path link i c
 path_on link i j c p d e = subst (Path link i) e (leads_on link i j p.0 p.1 d)
 
@@ -26,7 +26,7 @@ leads_from : (link : ℕ → ℕ) (i j : ℕ) (ns : List ℕ) → i ≢ j → Le
 leads_from link i j [] d p = absurd (d p)
 leads_from link i j (a ∷ ns) d p = (ns, p.1)
 
--- A path without its first link.
+-- Removing a path's first link leaves a path.
 pub path_from : (link : ℕ → ℕ) (i j : ℕ) → i ≢ j → Path link i j → Path link (link i / 2) j
 path_from link i j d p = leads_from link i j p.0 d p.1
 
@@ -41,7 +41,7 @@ leads_up v ord i j (a ∷ ns) m p =
 pub path_up : (v : View) → IsOrdered v → (i j : ℕ) → v.published i → Path v.link i j → v.key i ≤ v.key j
 path_up v ord i j m p = leads_up v ord i j p.0 m p.1
 
--- A path from the head is the chain up to the path's end.
+-- A path that begins at the head is the part of the chain up to the path's end.
 segment_of : (v : View) (i j : ℕ) (ns : List ℕ) → Leads v.link i ns j → (bs : List ℕ) × Segment v i bs j
 segment_of v i j [] p = ([], p)
 segment_of v i j (a ∷ ns) p = let q = segment_of v (v.link i / 2) j ns p.1 in (i ∷ q.0, (refl, p.0, q.1))

@@ -1,4 +1,5 @@
--- The laws of progress of a list with locks, given its rows: its calls end alone, and some thread can make progress.
+-- The progress laws of a list with locks, given its rows: its calls end alone, and some thread can always make
+-- progress.
 use Rattle.std.specs.Prelude.{◌≡◌, ◌≢◌, ℕ, ◌+◌, ◌<◌, ◌≤◌, ◌⊎◌, List, slice_index, length, Some, refl}
 use Rattle.std.proofs.Common.{arith, inl, inr, sym, ◌∙◌, ap, subst, zero, suc}
 use Rattle.lset_words.proofs.Numbers.{same_or_not}
@@ -32,18 +33,18 @@ pub record Shows (T : Table) (S : Shape) (most : Sizes → ℕ) : Type 0 where
   pub calm_alone : (op : Opening) (last k t : ℕ) (es : ℕ → Event) → Run T op es last → k ≤ last
       → NoOtherHolds (sizes op) (state_at T op es k) t → S.calm (state_at T op es k).words (local_of (state_at T op es k) t)
 
--- The value that an exchange expects in its word; for any other action the given value.
+-- Returns the value that an exchange expects to find, or the given value for any other action.
 abbrev expected : Action → ℕ → ℕ
 expected (Exchange x old new) other = old
 expected a other = other
 
--- The step does not attempt to take a lock, or the lock is free.
+-- States that the step is not an attempt to take a lock, or that the lock is free.
 abbrev pub IsFree : List ℕ → Action → Type 0
 IsFree ws (Load w) = Unit {0}
 IsFree ws (Store w v) = Unit {0}
 IsFree ws (Exchange w from to) = slice_index ws w ≡ 0
 
--- ---- one step
+-- ---- Lemmas about one step
 module _ (S : Shape) (T : Table) (sz : Sizes) (ws : List ℕ) (t : ℕ) (l : Local) where
   abbrev size : ℕ
   size = node_count sz
@@ -51,7 +52,7 @@ module _ (S : Shape) (T : Table) (sz : Sizes) (ws : List ℕ) (t : ℕ) (l : Loc
   abbrev Row : Action → Type 0
   Row a = RowBy S size T sz ws t l a
 
-  -- A lock that t holds after the step is one that it can hold in its new state.
+  -- If t holds a lock after the step, it may hold this lock in its new state.
   may_after : (x : ℕ) → (slice_index ws x ≡ t + 1 → S.may l x) → (a : Action) → Row a → held x t (slice_index ws x) a ≡ t + 1
       → S.may (T.feed l (seen_by ws a)).local x
   may_after x before (Load w) row h = row.keeps x tt (before h)
@@ -73,7 +74,7 @@ module _ (S : Shape) (T : Table) (sz : Sizes) (ws : List ℕ) (t : ℕ) (l : Loc
         ])
   ]
 
-  -- The step comes after the decision, or keeps keys and links.
+  -- States that the step comes after the decision or leaves keys and links unchanged.
   abbrev pub Keeps : Action → Type 0
   Keeps a = SameList ws (left_by ws a)
 
@@ -83,7 +84,7 @@ module _ (S : Shape) (T : Table) (sz : Sizes) (ws : List ℕ) (t : ℕ) (l : Loc
   late_or_keeps (Store w v) (inr y) = inr (stay ws w v y.0)
   late_or_keeps (Exchange w from to) row = inr (tried ws w from to row.is_lock)
 
-  -- The step ends the call, or the call continues.
+  -- States that the step ends the call, or that the call continues.
   abbrev Comes : List ℕ → Fed → Type 0
   Comes ws' f = ((r : Reply) × (f.answer ≡ Some r)) ⊎ Goes S size (node_key ws) ws l (node_key ws') ws' f.local
 
@@ -112,7 +113,7 @@ module _ (T : Table) (law : Lawful T) (S : Shape) (most : Sizes → ℕ) (shows 
         may_after S T _ _ t _ x before (T.next _) (shows.rows op last k t es r (omega arith) tn en.1).by now;
   }
 
-  -- A moment of a run, and a thread with a pending call.
+  -- A moment of a run, and a thread that has a pending call at that moment.
   module _ (op : Opening) (last k t : ℕ) (es : ℕ → Event) (r : Run T op es last) (upto : k ≤ last) (tn : t < op.threads)
       (busy : IsPending (state_at T op es k) t) where
     abbrev s : State
@@ -144,7 +145,7 @@ module _ (T : Table) (law : Lawful T) (S : Shape) (most : Sizes → ℕ) (shows 
     free_alone others (Exchange w from to) y = try_succeeds T law S.may may op es last r k upto t others w y.is_lock y.inside
         (λ m. let h : rank (node_count (sizes op)) s.words w < rank (node_count (sizes op)) s.words w = y.last w m in omega arith)
 
-  -- ---- a thread alone
+  -- ---- Proof that a call ends if its thread runs alone
   abbrev Stage : Sizes → State → ℕ → ℕ → Type 0
   Stage sz s t n = NoOtherHolds sz s t × IsPending s t × Timed S (node_count sz) s.words n (local_of s t)
 
@@ -168,7 +169,7 @@ module _ (T : Table) (law : Lawful T) (S : Shape) (most : Sizes → ℕ) (shows 
   calls_end op k t es r tn busy others = ends_alone T law Stage nears op t tn (most (sizes op)) k es r
       (others, busy, (shows.rows op k k t es r (omega arith) tn busy).time)
 
-  -- No deadlock: a thread that waits for a lock holds only locks that come before it.
+  -- There is no deadlock: a thread that waits for a lock holds only locks of nodes that come earlier in the list.
   module _ (calls : Call → ℕ) (op : Opening) (k : ℕ) (es : ℕ → Event) (r : Run T op es k)
       (holds : (u x : ℕ) → u < op.threads → S.may (local_of (state_at T op es k) u) x
       → calls (local_of (state_at T op es k) u).call ≡ 1) where
@@ -217,7 +218,7 @@ module _ (T : Table) (law : Lawful T) (S : Shape) (most : Sizes → ℕ) (shows 
     abbrev SomeMeant : Type 0
     SomeMeant = (u : ℕ) × (u < op.threads) × Meant u × GetsOn T now u
 
-    -- The thread that holds a lock waits, if at all, for a lock of lower rank.
+    -- If the holder of a lock waits, it waits for a lock of lower rank.
     climbs : (n u w : ℕ) → Waits u w → rank_of w < n → SomeMeant
     climbs zero u w y less = absurd (omega arith)
     climbs (suc n) u w y less =

@@ -1,5 +1,5 @@
--- The obligations of a list with locks for each row: the locks that a thread holds after it, and the number of remaining steps of
--- its call. All laws of progress of the list follow from these rows (ProgressWithLocks).
+-- What a list with locks must prove for each row: which locks a thread holds after the row, and how many steps of its
+-- call remain. The list's progress laws follow from this (see ProgressWithLocks).
 use Rattle.std.specs.Prelude.{◌≡◌, ◌≢◌, ℕ, ◌+◌, ◌-◌, ◌/◌, ◌<◌, ◌≤◌, ◌⊎◌, ◌&&◌, nat_le, nat_lt, Bool, true, false, MatchBool}
 use Rattle.std.specs.Prelude.{Some, None, List, slice_index, slice_set}
 use Rattle.std.proofs.Common.{arith, inl, inr, subst, sym, ap, suc, refl}
@@ -15,11 +15,11 @@ use Rattle.lset_steps.specs.Chain.{node_key, node_link}
 use Rattle.lset_steps.specs.Laws.{IsLockWord}
 use Rattle.lset_progress.proofs.Rest.{rest}
 
--- A property of the state at row n holds of l if l is at row n.
+-- If l is at row n, a property of the state at row n holds of l.
 pub at_row : (P : Local → Type 0) (l : Local) (n : ℕ) → l.pc ≡ n → P (record l { pc = n }) → P l
 at_row P l n e x = subst (λ p. P (record l { pc = p })) (sym e) x
 
--- Whether n is from a to b.
+-- Returns whether n is from a to b.
 abbrev pub within : ℕ → ℕ → ℕ → Bool
 within a b n = nat_le a n && nat_le n b
 
@@ -29,11 +29,12 @@ When b A = MatchBool b A (Unit {0})
 abbrev pub Only : Bool → Type 0
 Only b = MatchBool b (Unit {0}) ⊥
 
--- The lock of pred is held at the rows P, and the lock of curr at the rows C.
+-- States that a thread holds pred's lock at the rows P, and curr's lock at the rows C.
 abbrev pub NodeLocks : (ℕ → Bool) → (ℕ → Bool) → Local → ℕ → Type 0
 NodeLocks P C l x = ((x ≡ lock_index l.pred) × Only (P l.pc)) ⊎ ((x ≡ lock_index l.curr) × Only (C l.pc))
 
--- No lock is held; and below, only the lock of pred is, or the other lock is still held when one is released.
+-- The thread holds no lock. The next lemmas are about a thread that holds only pred's lock, and about a thread that
+-- releases one of its two locks.
 pub no_lock : {A B C : Type 0} → (A × ⊥) ⊎ (B × ⊥) → C
 no_lock (inl p) = absurd p.1
 no_lock (inr c) = absurd c.1
@@ -50,7 +51,7 @@ pub gave_curr : {A B C : Type 0} {x w : ℕ} → x ≢ w → A ⊎ ((x ≡ w) ×
 gave_curr d (inl p) = inl p
 gave_curr d (inr c) = absurd (d c.0)
 
--- The number of nodes ahead of the node of a lock word.
+-- Returns the rank of a lock word: the number of nodes ahead of its node.
 abbrev pub rank : ℕ → List ℕ → ℕ → ℕ
 rank size ws w = rest size ws (w / 3 - 1)
 
@@ -61,16 +62,16 @@ ranked size ws a b x e less =
     let there : x / 3 - 1 ≡ b = omega arith in
     subst (λ i. rest size ws i < rank size ws x) (sym here) (subst (λ i. rest size ws a < rest size ws i) (sym there) less)
 
--- A thread that holds only the lock of pred attempts to take the lock of curr, which has fewer nodes ahead.
+-- A thread that holds only pred's lock attempts to take curr's lock. Fewer nodes are ahead of curr.
 pub after_pred : {A : Type 0} (size : ℕ) (ws : List ℕ) (curr pred x : ℕ) → rest size ws curr < rest size ws pred
     → ((x ≡ lock_index pred) × Unit {0}) ⊎ (A × ⊥) → rank size ws (lock_index curr) < rank size ws x
 after_pred size ws curr pred x less (inl p) = ranked size ws curr pred x p.0 less
 after_pred size ws curr pred x less (inr c) = absurd c.1
 
--- The shape of a list. `may`: the lock words that a thread can hold. `late`: its call is after its decision, and attempts to take
--- no more locks. `calm`: the condition of its next step on the words. `valid`: its walk is valid, given the links. `left`: the
--- number of steps that remain after the next one in a valid walk, given the number of nodes and their keys. `round`: the steps of
--- one more walk.
+-- The shape of a list. `may`: the lock words that a thread can hold. `late`: the call has decided, and will not attempt
+-- to take more locks. `calm`: the condition that its next step puts on the words. `valid`: its walk is valid, given the
+-- links. `left`: the number of steps that remain after the next one in a valid walk, given the number of nodes and
+-- their keys. `round`: the number of steps in one more walk.
 pub record Shape : Type 1 where
   pub may : Local → ℕ → Type 0
   pub late : Local → Type 0
@@ -79,7 +80,7 @@ pub record Shape : Type 1 where
   pub left : ℕ → (ℕ → ℕ) → Local → ℕ
   pub round : ℕ → ℕ
 
--- The call is after its decision, and fewer than n steps remain, whatever the words are.
+-- States that the call has decided and has fewer than n steps left, whatever the words are.
 abbrev pub LateBy : Shape → ℕ → Local → Type 0
 LateBy S n l = S.late l × (S.left 0 (λ a. 0) l < n)
 
@@ -87,7 +88,7 @@ abbrev pub Any : ℕ → Type 0
 Any x = Unit {0}
 
 module _ (S : Shape) (size : ℕ) where
-  -- Fewer than n steps remain of a valid walk, or of any walk together with one more.
+  -- States that fewer than n steps remain, either of a valid walk, or of any walk and one more.
   abbrev pub TimedBy : (ℕ → ℕ) → (ℕ → ℕ) → ℕ → Local → Type 0
   TimedBy key link n l = (S.valid link l × (S.left size key l < n)) ⊎ (S.left size key l + S.round size < n)
 
@@ -107,13 +108,14 @@ module _ (S : Shape) (size : ℕ) where
   no_time key link l (inl v) = let h : S.left size key l < 0 = v.1 in omega arith
   no_time key link l (inr h) = omega arith
 
-  -- A step from l and ws to l' and ws' that does not end its call: a valid walk stays valid, or an invalid walk starts again.
+  -- A step that does not end its call, from l and ws to l' and ws'. A valid walk stays valid, and an invalid walk
+  -- starts again.
   pub record Goes (key : ℕ → ℕ) (ws : List ℕ) (l : Local) (key' : ℕ → ℕ) (ws' : List ℕ) (l' : Local) : Type 0 where
     pub busy : l'.pc ≢ 0
     pub late : S.late l → LateBy S (S.left 0 (λ a. 0) l) l'
     pub near : S.calm ws l → (n : ℕ) → TimedBy key (node_link ws) (suc n) l → TimedBy key' (node_link ws') n l'
 
-  -- A step that is fed f, after which only the words O can still be held.
+  -- A step with the result f. Only locks in O can still be held afterwards.
   pub record Then (key : ℕ → ℕ) (ws : List ℕ) (l : Local) (O : ℕ → Type 0) (key' : ℕ → ℕ) (ws' : List ℕ) (f : Fed) : Type 0 where
     pub keeps : (x : ℕ) → O x → S.may l x → S.may f.local x
     pub then : ((r : Reply) × (f.answer ≡ Some r)) ⊎ Goes key ws l key' ws' f.local
@@ -125,8 +127,8 @@ module _ (S : Shape) (size : ℕ) where
   Stores ws l w ws' f = Then (node_key ws) ws l (λ x. x ≢ w) (node_key ws') ws' f
 
   module _ (T : Table) (sz : Sizes) (ws : List ℕ) (t : ℕ) (l : Local) where
-    -- An attempt to take a lock: the lock comes after all locks that the thread can hold, and after a failure the thread tries
-    -- again.
+    -- An attempt to take a lock. The lock's node comes after the nodes of all locks that the thread can hold. After a
+    -- failed attempt, the thread tries again.
     pub record Tries (w from to : ℕ) : Type 0 where
       pub is_lock : IsLockWord w
       pub inside : w < word_count sz
@@ -138,7 +140,7 @@ module _ (S : Shape) (size : ℕ) where
       pub mine : S.may (T.feed l 0).local w
       pub missed : (seen : ℕ) → seen ≢ 0 → (T.feed l seen).local ≡ l
 
-    -- A store to a word other than a lock comes after the decision.
+    -- States what one row may do. In particular, a store to a word other than a lock comes after the decision.
     abbrev pub RowBy : Action → Type 0
     RowBy (Load w) = Loads ws l (T.feed l (slice_index ws w))
     RowBy (Store w v) = (Stores ws l w (slice_set ws w v) (T.feed l v) × LateBy S 5 l)
@@ -175,12 +177,12 @@ module _ {S : Shape} {size : ℕ} {key : ℕ → ℕ} {ws : List ℕ} {l : Local
     });
   }
 
-  -- The step leads to another row before the decision.
+  -- The step leads to another row, and the call has not decided.
   pub on : Only (nat_lt 0 l'.pc) → (S.late l → ⊥) → (S.valid (node_link ws) l → S.valid (node_link ws') l')
       → S.left size key' l' < S.left size key l → Then S size key ws l O key' ws' (record { local = l'; answer = None })
   on busy early valid less = goes busy (λ h. absurd (early h)) valid less
 
-  -- The step starts again from the head. A valid walk does not do so.
+  -- The step starts again from the head. This does not happen to a valid walk.
   pub again : Only (nat_lt 0 l'.pc) → (S.late l → ⊥) → (S.valid (node_link ws) l → ⊥) → S.valid (node_link ws') l'
       → S.left size key' l' < S.left size key l + S.round size
       → Then S size key ws l O key' ws' (record { local = l'; answer = None })
@@ -199,11 +201,11 @@ module _ {S : Shape} {size : ℕ} {key : ℕ → ℕ} {ws : List ℕ} {l : Local
   pub stops : {r : Reply} → Then S size key ws l O key' ws' (record { local = l'; answer = Some r })
   stops {r} = record { keeps = keeps; then = inl (r, refl) }
 
--- The lock w is released.
+-- The thread releases the lock w.
 pub unlocks : {A B C : Type 0} → B → C → A ⊎ (B × C)
 unlocks is_lock stores = inr (is_lock, stores)
 
--- The obligation for one row: the number of remaining steps, and the effect of the row's step.
+-- What must be proved for one row: the number of steps that remain, and the effect of the row's step.
 pub record RowOf (S : Shape) (size : ℕ) (T : Table) (sz : Sizes) (ws : List ℕ) (t most : ℕ) (l : Local) : Type 0 where
   pub time : Timed S size ws most l
   pub by : RowBy S size T sz ws t l (T.next l)
@@ -212,7 +214,7 @@ module _ {S : Shape} {size : ℕ} {T : Table} {sz : Sizes} {ws : List ℕ} {t mo
   pub timed : Timed S size ws most l → RowBy S size T sz ws t l (T.next l) → RowOf S size T sz ws t most l
   timed time by = record { time = time; by = by }
 
-  -- An attempt to take a lock.
+  -- A row that attempts to take a lock satisfies `RowOf`.
   pub takes : {w : ℕ} → T.next l ≡ Exchange w 0 (l.thread + 1) → IsLockWord w → w < word_count sz → l.thread ≡ t → (S.late l → ⊥)
       → ((x : ℕ) → S.may l x → rank size ws w < rank size ws x)
       → (slice_index ws w ≡ 0 → Loads S size ws l (T.feed l 0)) → S.may (T.feed l 0).local w
@@ -230,7 +232,7 @@ module _ {S : Shape} {size : ℕ} {T : Table} {sz : Sizes} {ws : List ℕ} {t mo
         missed = missed;
       }))
 
-  -- A store after the decision.
+  -- A row that stores after the decision satisfies `RowOf`.
   pub writes : {l' : Local} {w v : ℕ} → T.next l ≡ Store w v → T.feed l v ≡ record { local = l'; answer = None }
       → ((x : ℕ) → S.may l x → S.may l' x) → S.late l → S.late l'
       → Only (nat_lt 0 l'.pc && (nat_lt (S.left 0 (λ a. 0) l') (S.left 0 (λ a. 0) l) && (nat_lt (S.left 0 (λ a. 0) l) 5

@@ -26,7 +26,7 @@ total_most b c (suc n) d h =
     let m : suc n * d ≡ d + n * d = grind arith in
     omega arith
 
--- One summand falls by x, and each other summand rises by at most d.
+-- One summand decreases by x, and each other summand increases by at most d.
 pub total_step : (b c : ℕ → ℕ) (n u d x : ℕ) → u < n → c u + x ≤ b u → ((v : ℕ) → v < n → v ≢ u → c v ≤ b v + d)
     → total c n + x ≤ total b n + n * d
 total_step b c zero u d x l e h = absurd (omega arith)
@@ -42,7 +42,7 @@ total_step b c (suc n) u d x l e h =
           omega arith)
     ]
 
--- One summand falls by 1, and the others do not change.
+-- One summand decreases by 1, and the others do not change.
 pub total_less : (b c : ℕ → ℕ) (n u : ℕ) → u < n → c u + 1 ≤ b u → ((v : ℕ) → v ≢ u → c v ≡ b v) → total c n + 1 ≤ total b n
 total_less b c n u l e h =
     let x : total c n + 1 ≤ total b n + n * 0 =
@@ -58,7 +58,7 @@ one_price (suc c) a b l =
     let y : suc c * b ≡ c * b + b = grind arith in
     omega arith
 
--- The function b with the value n at t.
+-- Returns the function b, changed to n at t.
 abbrev pub put : (ℕ → ℕ) → ℕ → ℕ → ℕ → ℕ
 put b u n t = if t == u then n else b t
 

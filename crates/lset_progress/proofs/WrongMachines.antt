@@ -1,4 +1,4 @@
--- Proof: the laws of progress reject the wrong machines. Each proof is a run that is written out.
+-- Proof: the progress laws reject the wrong machines. Each proof is a run that is written out.
 use Rattle.std.specs.Prelude.{◌≡◌, ℕ, ◌<◌, List, [], ◌∷◌, length, slice_index, refl}
 use Rattle.std.proofs.Common.{arith, inl, inr, sym, ◌∙◌, ap, subst, zero, suc}
 use Rattle.lset_words.specs.declared.Call.TheVariants.{Add, Remove}
@@ -15,8 +15,8 @@ use Rattle.lset_progress.proofs.WrittenRuns.{op, run, is_run, is_after, state_af
 two_values : (n a b : ℕ) → (a ≡ b → ⊥) → n ≡ a → n ≡ b → ⊥
 two_values n a b d e f = d (sym e ∙ f)
 
--- Thread 1 marks the node of 5. Thread 0 reaches the node and is about to unlink it, but thread 1 has unlinked it. Thread 0 then
--- repeats its attempt.
+-- Thread 1 marks the node of 5. Thread 0 reaches the node and is about to unlink it, but thread 1 unlinks it first.
+-- Thread 0 then repeats its attempt forever.
 abbrev spins : List Event
 spins = Begin 0 (Add (record { 0 = 5 })) ∷ Go 0 ∷ Go 0 ∷ Go 0 ∷ Go 0 ∷ Go 0 ∷ Go 0 ∷ Begin 1
     (Remove (record { 0 = 5 })) ∷ Go 1 ∷ Go 1
@@ -37,8 +37,8 @@ pub spinning_is_not_lock_free : NotLockFree spinning
 spinning_is_not_lock_free reads most law = rounds_never_end spinning spins (Go 0) [] refl refl refl refl
     (steps_of reads) refl most law
 
--- Thread 0 has walked to head and tail. Thread 1 adds 7 between them. Thread 0 fails, keeps the lock of the head, and reaches the
--- head again.
+-- Thread 0 has walked to head and tail. Thread 1 adds 7 between them. Thread 0's validation fails, it keeps the head's
+-- lock, and its next walk reaches the head again.
 abbrev keeps : List Event
 keeps = Begin 0 (Add (record { 0 = 5 })) ∷ Go 0 ∷ Go 0 ∷ Begin 1
     (Add (record { 0 = 7 })) ∷ Go 1 ∷ Go 1 ∷ Go 1 ∷ Go 1 ∷ Go 1 ∷ Go 1

@@ -1,5 +1,5 @@
--- Progress of calls, as laws of runs (in Herlihy and Shavit's terms). The laws hold at each moment of each run, for every
--- schedule.
+-- Progress of calls, as laws of runs (in Herlihy and Shavit's terms). The laws hold at each moment of each run,
+-- whatever the schedule.
 use Rattle.std.specs.Prelude.{◌≡◌, ◌≢◌, ℕ, zero, suc, ◌+◌, ◌*◌, ◌%◌, ◌<◌, ◌≤◌, ◌⊎◌, Bool, true, false, Some, slice_index}
 use Rattle.lset_words.specs.declared.Call.{Call}
 use Rattle.lset_words.specs.declared.Call.TheVariants as call
@@ -12,7 +12,7 @@ use Rattle.lset_steps.specs.Steps.{Table, State, Run, Enabled, state_at, after, 
 use Rattle.lset_steps.specs.Chain.{View, InChain}
 use Rattle.lset_steps.specs.Laws.{IsLockWord, views}
 
--- Thread t has a pending call.
+-- States that thread t has a pending call.
 abbrev pub IsPending : State → ℕ → Type 0
 IsPending s t = (local_of s t).pc ≢ 0
 
@@ -22,21 +22,21 @@ pub record Holds (sz : Sizes) (s : State) (t x : ℕ) : Type 0 where
   pub inside : x < word_count sz
   pub mine : slice_index s.words x ≡ t + 1
 
--- No thread but t holds a lock.
+-- States that no thread except t holds a lock.
 abbrev pub NoOtherHolds : Sizes → State → ℕ → Type 0
 NoOtherHolds sz s t = (u x : ℕ) → u < sz.threads → u ≢ t → Holds sz s u x → ⊥
 
--- The next step of thread t ends its call.
+-- States that thread t's next step ends its call.
 abbrev pub Answers : Table → State → ℕ → Type 0
 Answers T s t = (reply : Reply) × ((told T s (Go t)).answer ≡ Some reply)
 
--- [Ends alone]: if only thread t makes steps, one of its next n steps ends its call.
+-- [Ends alone]: states that if only thread t makes steps, one of its next n steps ends its call.
 abbrev pub EndsAlone : Table → State → ℕ → ℕ → Type 0
 EndsAlone T s t zero = ⊥
 EndsAlone T s t (suc n) = Enabled s (Go t) × (Answers T s t ⊎ EndsAlone T (after T s (Go t)) t n)
 
--- [Calls end alone]: in a list with locks, while no other thread holds a lock, a call that runs alone ends within `most` steps
--- (solo termination).
+-- [Calls end alone]: states that in a list with locks, a call that runs alone while no other thread holds a lock ends
+-- within `most` steps (solo termination).
 abbrev pub CallsEndAlone : Table → (Sizes → ℕ) → Type 0
 CallsEndAlone T most = (op : Opening) (k t : ℕ) (es : ℕ → Event) → Run T op es k → t < op.threads
     → IsPending (state_at T op es k) t → NoOtherHolds (sizes op) (state_at T op es k) t
@@ -49,17 +49,17 @@ IsCeiling call = ⊥
 abbrev pub NoMarkInChain : View → Type 0
 NoMarkInChain v = (b : ℕ) → InChain v b → v.link b % 2 ≡ 0
 
--- [Calls end unhindered]: in a list without locks, a call that runs alone ends within `most` steps, whatever the other threads
--- are about to do (obstruction freedom). A ceiling must find no marked node in the chain: it starts again at a marked node, and
--- does not unlink it.
+-- [Calls end unhindered]: states that in a list without locks, a call that runs alone ends within `most` steps,
+-- whatever the other threads are about to do (obstruction freedom). For a ceiling, no node of the chain may be marked:
+-- it starts again at a marked node, and does not unlink it.
 abbrev pub CallsEndUnhindered : Table → (Sizes → ℕ) → Type 0
 CallsEndUnhindered T most = (op : Opening) (k t : ℕ) (es : ℕ → Event) → Run T op es k → t < op.threads
     → IsPending (state_at T op es k) t
     → (IsCeiling (local_of (state_at T op es k) t).call → NoMarkInChain (views T op es k))
     → EndsAlone T (state_at T op es k) t (most (sizes op))
 
--- [A ceiling that never ends]: a thread has a pending ceiling, every other thread is idle, and no number of steps of the thread
--- alone ends the call.
+-- [A ceiling that never ends]: a thread has a pending ceiling, every other thread is idle, and however many steps the
+-- thread makes alone, the call does not end.
 pub record SomeCeilingNeverEnds (T : Table) : Type 0 where
   pub opening : Opening
   pub events : ℕ → Event
@@ -77,15 +77,15 @@ pub record GetsOn (T : Table) (s : State) (t : ℕ) : Type 0 where
   pub enabled : Enabled s (Go t)
   pub tries : (x old new : ℕ) → IsLockWord x → T.next (local_of s t) ≡ Exchange x old new → slice_index s.words x ≡ old
 
--- [Some thread gets on]: while a call is pending, some thread has a pending call whose next step is not a failed attempt to take
--- a lock.
+-- [Some thread gets on]: states that whenever a call is pending, some thread has a pending call whose next step is not
+-- a failed attempt to take a lock.
 abbrev pub SomeThreadGetsOn : Table → Type 0
 SomeThreadGetsOn T = (op : Opening) (k t : ℕ) (es : ℕ → Event) → Run T op es k → t < op.threads
     → IsPending (state_at T op es k) t
     → (u : ℕ) × (u < op.threads) × GetsOn T (state_at T op es k) u
 
--- Whether steps of a call count: the steps of add and remove do; the steps of contains do if `reads` is true; the steps of
--- ceiling do not.
+-- Returns 1 if the steps of a call count, else 0. Those of add and remove count, those of contains count if `reads` is
+-- true, and those of ceiling do not.
 abbrev pub counted : Bool → Call → ℕ
 counted reads (call.Add k) = 1
 counted reads (call.Remove k) = 1
@@ -97,12 +97,12 @@ abbrev pub steps_of : Bool → State → Event → ℕ
 steps_of reads s (Begin t call) = 0
 steps_of reads s (Go t) = counted reads (local_of s t).call
 
--- The number of counted steps among the n events from moment k on. `count` is 1 for a counted step.
+-- Returns the number of counted steps among the n events from moment k on. `count` is 1 for a counted step.
 abbrev pub steps_among : (State → Event → ℕ) → Table → Opening → (ℕ → Event) → ℕ → ℕ → ℕ
 steps_among count T op es k zero = 0
 steps_among count T op es k (suc n) = count (state_at T op es k) (es k) + steps_among count T op es (suc k) n
 
--- One of these events is a counted step that ends its call.
+-- One of these n events is a counted step that ends its call.
 pub record SomeEnds (count : State → Event → ℕ) (T : Table) (op : Opening) (es : ℕ → Event) (k n : ℕ) : Type 0 where
   pub at : ℕ
   pub from : k ≤ at
@@ -112,17 +112,19 @@ pub record SomeEnds (count : State → Event → ℕ) (T : Table) (op : Opening)
   pub counts : count (state_at T op es at) (es at) ≡ 1
   pub ends : Answers T (state_at T op es at) thread
 
--- Among any `most` successive counted steps of a run, one ends its call.
+-- States that among any `most` successive counted steps of a run, one ends its call.
 abbrev pub EndsAmong : (State → Event → ℕ) → Table → (Sizes → ℕ) → Type 0
 EndsAmong count T most = (op : Opening) (k n : ℕ) (es : ℕ → Event) → Run T op es (k + n)
     → most (sizes op) ≤ steps_among count T op es k n → SomeEnds count T op es k n
 
--- [Lock freedom]: among any `most` successive steps of adds and removes in a run, one ends its call, whichever threads make the
--- steps, and whatever else happens between them. The same holds for steps of adds, removes and contains.
+-- [Lock freedom]: states that among any `most` successive steps of adds and removes in a run, one ends its call. It
+-- does not matter which threads make the steps or what else happens in between. The same holds for steps of adds,
+-- removes and contains.
 abbrev pub IsLockFree : Table → (Sizes → ℕ) → Type 0
 IsLockFree T most = (reads : Bool) → EndsAmong (steps_of reads) T most
 
--- The number of steps, for N nodes: the head, the tail, the slots of n threads with quota q, and the nodes of the opening keys.
+-- Returns the maximum number of steps of a call that runs alone, for N nodes: the head, the tail, the slots of n
+-- threads with quota q, and the nodes of the opening keys.
 abbrev pub coarse_steps : Sizes → ℕ
 coarse_steps sz = 2 * node_count sz + 3
 
@@ -135,8 +137,8 @@ optimistic_steps sz = 8 * node_count sz + 9
 abbrev pub lock_free_steps : Sizes → ℕ
 lock_free_steps sz = 4 * node_count sz + 5
 
--- The steps of each thread's pending call, and one more walk for each exchange that succeeds without ending a call: each thread
--- marks at most one node, and each node is unlinked at most once.
+-- Returns the number of steps: each thread's pending call, and one more walk for each exchange that succeeds without
+-- ending a call. Each thread marks at most one node, and each node is unlinked at most once.
 abbrev pub lock_free_window : Sizes → ℕ
 lock_free_window sz =
     sz.threads * (2 * node_count sz + 2) * (node_count sz + sz.threads) + sz.threads * lock_free_steps sz

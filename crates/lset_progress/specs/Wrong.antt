@@ -1,4 +1,4 @@
--- [Wrong machines]: each has one or two wrong rows, and does not satisfy a law of progress.
+-- [Wrong machines]: each has one or two wrong rows and violates a progress law.
 use Rattle.std.specs.Prelude.{ℕ, ◌+◌, ◌*◌, if◌then◌else◌, ◌==◌, Bool, Option, Some, None}
 use Rattle.lset_words.specs.declared.Call.{Call}
 use Rattle.lset_words.specs.declared.Call.TheVariants as call
@@ -16,7 +16,8 @@ use Rattle.lset_lock_free.specs.LockFree.{lock_free}
 use Rattle.lset_progress.specs.DeadlockFreedom.{IsLivelockFree}
 use Rattle.lset_progress.specs.Progress.{CallsEndAlone, CallsEndUnhindered, EndsAmong, steps_of}
 
--- LockFreeList whose walk repeats the exchange of row 3 after a failure, and does not start again from the head.
+-- LockFreeList, except that after a failed exchange at row 3 the walk repeats the exchange instead of starting again
+-- from the head.
 abbrev pub spins_on : Local → ℕ → Fed
 spins_on l seen = if seen == 2 * l.curr then continued (record l { pc = 2; curr = l.succ }) else continued l
 
@@ -29,8 +30,8 @@ spinning = record {
   effect = lock_free.effect;
 }
 
--- LockFreeList whose add writes its number into the lock word of pred after its decision (row 11). It continues only if it then
--- reads its own number there (row 12), and else writes again.
+-- LockFreeList, except that an add that has decided writes its number into pred's lock word (row 11). It continues only
+-- if it then reads its own number there (row 12). Otherwise it writes its number again.
 abbrev pub claims_first : Fed → Fed
 claims_first f = record { local = if f.local.pc == 5 then record f.local { pc = 11 } else f.local; answer = f.answer }
 
@@ -56,7 +57,7 @@ claiming = record {
   effect = lock_free.effect;
 }
 
--- OptimisticList that keeps the lock of pred if validation fails: it skips row 14 and continues at row 15.
+-- OptimisticList, except that it keeps pred's lock if validation fails: it skips row 14 and continues at row 15.
 abbrev pub keeps_pred : Option Reply → Local → Local
 keeps_pred None l = record l { pc = 15 }
 keeps_pred (Some r) l = l
@@ -73,7 +74,7 @@ keeping = record {
   effect = optimistic.effect;
 }
 
--- LazyList whose remove takes the lock of curr before that of pred, and whose add takes them in the other order.
+-- LazyList, except that a remove locks curr before pred, while an add locks pred before curr.
 abbrev pub first_lock : Call → Local → ℕ
 first_lock (call.Remove k) l = l.curr
 first_lock c l = l.pred
@@ -97,8 +98,8 @@ crossed = record {
   effect = lazy.effect;
 }
 
--- LazyList with locks in these two orders, in which no thread waits for its second lock. A thread reads that lock (row 16); if it
--- is taken, the thread releases the first lock (row 15) and starts again.
+-- LazyList with these two orders of locks, except that no thread waits for its second lock. A thread reads this lock
+-- (row 16). If it is taken, the thread releases its first lock (row 15) and starts again.
 abbrev pub looks_first : Fed → Fed
 looks_first f = record { local = if f.local.pc == 5 then record f.local { pc = 16 } else f.local; answer = f.answer }
 
@@ -124,7 +125,7 @@ yielding = record {
   effect = lazy.effect;
 }
 
--- The law holds for no number of steps.
+-- States that the law fails for every number of steps.
 abbrev pub NoCallsEndAlone : Table → Type 0
 NoCallsEndAlone T = (most : Sizes → ℕ) → CallsEndAlone T most → ⊥
 

@@ -1,7 +1,8 @@
-//! Progress of the five lists, as laws of the runs of their step machines. Each law is the contract of a function whose body is
-//! empty. The laws assume nothing about the schedule, except that freedom from deadlock assumes a fair run.
+//! Progress of the five lists, as laws about the runs of their step machines. Each law is the contract of a function
+//! with an empty body. The laws assume nothing about the schedule, except that freedom from deadlock assumes a fair
+//! run.
 //!
-//! N is the number of nodes: head, tail, one for each slot of each thread, and one for each opening key.
+//! N is the number of nodes: the head, the tail, one for each slot of each thread, and one for each opening key.
 #![tactic(auto)]
 
 ghost use Rattle.std.specs.Prelude.{Bool};
@@ -59,32 +60,33 @@ pub fn optimistic_calls_end_alone()
     ensures { CallsEndAlone optimistic optimistic_steps }
 {}
 
-/// Theorem: while no other thread holds a lock of a LazyList, a call that runs alone ends within `4N + 15` steps, also a
-/// `ceiling`: a thread that has marked a node holds its lock until the node is unlinked. (Solo termination, of Heller and others'
-/// lazy list.)
+/// Theorem: while no other thread holds a lock of a LazyList, a call that runs alone ends within `4N + 15` steps, even
+/// a `ceiling`. A thread that has marked a node holds its lock until the node is unlinked. (Solo termination, of Heller
+/// and others' lazy list.)
 #[tactic(auto, using(crate::proofs::LazyProgress::lazy_calls_end))]
 pub fn lazy_calls_end_alone()
     ensures { CallsEndAlone lazy lazy_steps }
 {}
 
-/// Theorem: a call of a LockFreeList that runs alone ends within `4N + 5` steps, whatever the other threads are about to do. For
-/// a `ceiling` this holds if no node of the chain is marked: at a marked node a `ceiling` starts again, and it unlinks no node.
-/// (Obstruction freedom, by Herlihy, Luchangco and Moir; the list is Harris's and Michael's.)
+/// Theorem: a call of a LockFreeList that runs alone ends within `4N + 5` steps, whatever the other threads are about
+/// to do. For a `ceiling` this requires that no node of the chain is marked: a `ceiling` starts again at a marked node,
+/// and unlinks no node. (Obstruction freedom, by Herlihy, Luchangco and Moir; the list is Harris's and Michael's.)
 #[tactic(auto, using(crate::proofs::LockFreeProgress::lock_free_calls_end))]
 pub fn lock_free_calls_end_alone()
     ensures { CallsEndUnhindered lock_free lock_free_steps }
 {}
 
-/// Theorem: among any `n(2N + 2)(N + n) + n(4N + 5)` successive steps of `add` and `remove` by the n threads of a LockFreeList,
-/// one step ends its call, whichever threads make the steps, and whatever else happens between them. The same number holds for
-/// steps of `add`, `remove` and `contains`. (Lock freedom of Harris's and Michael's list, as Herlihy and Shavit define it.)
+/// Theorem: among any `n(2N + 2)(N + n) + n(4N + 5)` successive steps of `add` and `remove` by the n threads of a
+/// LockFreeList, one step ends its call. It does not matter which threads make the steps or what else happens in
+/// between. The same number holds for steps of `add`, `remove` and `contains`. (Lock freedom of Harris's and Michael's
+/// list, as Herlihy and Shavit define it.)
 #[tactic(auto, using(crate::proofs::LockFreedom::lock_free_is_lock_free))]
 pub fn lock_free_list_is_lock_free()
     ensures { IsLockFree lock_free lock_free_window }
 {}
 
-/// Theorem: a `ceiling` of LockFreeList need not end, even if every other thread is idle: a completed `remove` can leave its
-/// marked node in the chain. Only `add`, `remove` and `contains` of LockFreeList are obstruction-free.
+/// Theorem: a `ceiling` of LockFreeList can run forever, even if every other thread is idle, since a completed `remove`
+/// can leave its marked node in the chain. Only `add`, `remove` and `contains` of LockFreeList are obstruction-free.
 #[tactic(auto, using(crate::proofs::CeilingWaits::ceiling_waits))]
 pub fn a_lock_free_ceiling_may_never_end()
     ensures { SomeCeilingNeverEnds lock_free }
@@ -103,8 +105,8 @@ pub fn coarse_list_is_livelock_free()
     ensures { IsLivelockFree each_call coarse (lock_window coarse_steps) }
 {}
 
-/// Theorem: in each infinite run of a CoarseList in which every thread with a pending call makes further steps, some call ends
-/// after each moment at which a call is pending. (Freedom from deadlock, as Herlihy and Shavit define it.)
+/// Theorem: in each infinite run of a CoarseList in which every thread with a pending call makes further steps,
+/// whenever a call is pending, some call ends later. (Freedom from deadlock, as Herlihy and Shavit define it.)
 #[tactic(auto, using(crate::proofs::CoarseProgress::coarse_deadlock_free))]
 pub fn coarse_list_is_deadlock_free()
     ensures { IsDeadlockFree each_call coarse }
@@ -124,8 +126,8 @@ pub fn fine_list_is_livelock_free()
     ensures { IsLivelockFree each_call fine (lock_window fine_steps) }
 {}
 
-/// Theorem: in each infinite run of a FineList in which every thread with a pending call makes further steps, some call ends
-/// after each moment at which a call is pending. (Freedom from deadlock, as Herlihy and Shavit define it.)
+/// Theorem: in each infinite run of a FineList in which every thread with a pending call makes further steps, whenever
+/// a call is pending, some call ends later. (Freedom from deadlock, as Herlihy and Shavit define it.)
 #[tactic(auto, using(crate::proofs::FineProgress::fine_deadlock_free))]
 pub fn fine_list_is_deadlock_free()
     ensures { IsDeadlockFree each_call fine }
@@ -145,8 +147,8 @@ pub fn optimistic_list_is_livelock_free()
     ensures { IsLivelockFree each_call optimistic (lock_window optimistic_steps) }
 {}
 
-/// Theorem: in each infinite run of an OptimisticList in which every thread with a pending call makes further steps, some call
-/// ends after each moment at which a call is pending. (Freedom from deadlock, as Herlihy and Shavit define it.)
+/// Theorem: in each infinite run of an OptimisticList in which every thread with a pending call makes further steps,
+/// whenever a call is pending, some call ends later. (Freedom from deadlock, as Herlihy and Shavit define it.)
 #[tactic(auto, using(crate::proofs::OptimisticProgress::optimistic_deadlock_free))]
 pub fn optimistic_list_is_deadlock_free()
     ensures { IsDeadlockFree each_call optimistic }
@@ -159,38 +161,40 @@ pub fn some_lazy_call_gets_on()
     ensures { SomeThreadGetsOn lazy }
 {}
 
-/// Theorem: among any `n(4N + 15)(5n + 1)` successive steps of `add` and `remove` by the n threads of a LazyList that are not
-/// failed attempts to take a lock, one ends its call, whatever else happens between them. The same number holds for steps of
-/// `add`, `remove` and `contains`. (Freedom from livelock.)
+/// Theorem: among any `n(4N + 15)(5n + 1)` successive steps of `add` and `remove` by the n threads of a LazyList that
+/// are not failed attempts to take a lock, one ends its call, whatever else happens in between. The same number holds
+/// for steps of `add`, `remove` and `contains`. (Freedom from livelock.)
 pub fn lazy_list_is_livelock_free()
     ensures { (reads : Bool) → IsLivelockFree (counted reads) lazy (lock_window lazy_steps) }
 {}
 
-/// Theorem: in each infinite run of a LazyList in which every thread with a pending call makes further steps, some call ends
-/// after each moment at which a call is pending. If an `add` or a `remove` is pending, an `add` or a `remove` ends; if one of
-/// `add`, `remove` and `contains` is pending, one of these three ends. (Freedom from deadlock, as Herlihy and Shavit define it.)
+/// Theorem: in each infinite run of a LazyList in which every thread with a pending call makes further steps, whenever
+/// a call is pending, some call ends later. If an `add` or a `remove` is pending, an `add` or a `remove` ends. If an
+/// `add`, `remove` or `contains` is pending, one of these three ends. (Freedom from deadlock, as Herlihy and Shavit
+/// define it.)
 #[tactic(auto, using(crate::proofs::CeilingEnds::all_deadlock_free, crate::proofs::LazyProgress::lazy_deadlock_free))]
 pub fn lazy_list_is_deadlock_free()
     ensures all { IsDeadlockFree each_call lazy }
     ensures counted { (reads : Bool) → IsDeadlockFree (counted reads) lazy }
 {}
 
-/// Lemma: the law of `lock_free_calls_end_alone` rejects a LockFreeList whose walk repeats a failed attempt to unlink a marked
-/// node and does not start again from the head.
+/// Lemma: the law of `lock_free_calls_end_alone` rejects a LockFreeList whose walk repeats a failed attempt to unlink a
+/// marked node instead of starting again from the head.
 #[tactic(auto, using(crate::proofs::WrongMachines::spinning_is_refused))]
 pub fn a_spinning_walk_is_refused()
     ensures { NoCallsEndUnhindered spinning }
 {}
 
-/// Lemma: the law of `lock_free_list_is_lock_free` rejects a LockFreeList whose walk repeats a failed attempt to unlink a marked
-/// node, whether steps of `contains` count or not.
+/// Lemma: the law of `lock_free_list_is_lock_free` rejects a LockFreeList whose walk repeats a failed attempt to unlink
+/// a marked node, whether or not steps of `contains` count.
 #[tactic(auto, using(crate::proofs::WrongMachines::spinning_is_not_lock_free))]
 pub fn a_spinning_walk_is_not_lock_free()
     ensures { NotLockFree spinning }
 {}
 
-/// Lemma: the law of `lock_free_list_is_lock_free` rejects a LockFreeList in which two calls of `add` can hinder each other for
-/// ever. Each writes its number beside the place of its node, and continues only if it then reads its own number there.
+/// Lemma: the law of `lock_free_list_is_lock_free` rejects a LockFreeList in which two calls of `add` can hinder each
+/// other forever. Each writes its number next to where its node belongs, and continues only if it then reads its own
+/// number there.
 #[tactic(auto, using(crate::proofs::Livelock::claiming_is_not_lock_free))]
 pub fn two_that_claim_a_place_are_not_lock_free()
     ensures { NotLockFree claiming }
@@ -202,15 +206,16 @@ pub fn a_kept_lock_is_refused()
     ensures { NoCallsEndAlone keeping }
 {}
 
-/// Lemma: the law of `some_lazy_call_gets_on` rejects a LazyList whose `remove` takes its two locks in the other order.
+/// Lemma: the law of `some_lazy_call_gets_on` rejects a LazyList whose `remove` takes its two locks in the opposite
+/// order.
 #[tactic(auto, using(crate::proofs::WrongMachines::crossed_is_refused))]
 pub fn crossed_locks_are_refused()
     ensures { SomeThreadGetsOn crossed → ⊥ }
 {}
 
-/// Lemma: the laws of freedom from livelock and from deadlock reject a LazyList whose `remove` takes its two locks in the other
-/// order, and in which a thread that finds its second lock taken releases the first and starts again. Two threads can repeat this
-/// for ever in a fair run.
+/// Lemma: the laws of freedom from livelock and from deadlock reject a LazyList whose `remove` takes its two locks in
+/// the opposite order, and in which a thread that finds its second lock taken releases the first and starts again. In a
+/// fair run, two threads can repeat this forever.
 pub fn two_that_yield_are_not_deadlock_free()
     ensures bounded { (reads : Bool) → NotLivelockFree (counted reads) yielding }
     ensures fair { (reads : Bool) → IsDeadlockFree (counted reads) yielding → ⊥ }

@@ -21,12 +21,12 @@ use Rattle.lset_rule.proofs.OneMoreEvent.{Tied}
 use Rattle.lset_rule.proofs.MovesKeepRule.{stands_at, own_tied}
 use Rattle.lset_words.specs.Words.{Opening, sizes}
 
--- The number of steps that remain for a call of at most `bound` steps; 0 once it has ended.
+-- Returns the number of steps that remain for a call of at most `bound` steps, or 0 if the call has ended.
 abbrev pub steps_left : Option Reply → ℕ → ℕ → ℕ
 steps_left (Some r) bound steps = 0
 steps_left None bound steps = bound - steps
 
--- The number of steps of the pending call is the number of the thread's steps since its Begin.
+-- States that the pending call has counted all steps that its thread has made since the call began.
 abbrev Counted : Option PendingCall → ℕ → Type 0
 Counted None n = Unit {0}
 Counted (Some u) n = u.steps ≡ n
@@ -55,7 +55,7 @@ counted T k es t (suc j) = counted_next T k es j (es j) t (under_at _ t j) (step
 counted_is : (o : Option PendingCall) (u : PendingCall) (n : ℕ) → Counted o n → o ≡ Some u → u.steps ≡ n
 counted_is o u n h e = subst (λ z. Counted z n) e h
 
--- A pending `contains` has made fewer steps than the bound.
+-- While a `contains` is pending, it has made fewer steps than the bound.
 pub not_yet : (m : Table) (law : Lawful m) → BoundedReads m → (key : Key) (v w : View) (f : Fed) → v.spent ≡ false →
     Comes m (Contains key) v f w → f.answer ≡ None
     → steps_of w.under < most_reads (sizes v.shape)
@@ -73,7 +73,7 @@ not_yet m law ends key v w f sp come none =
     subst (λ (s : _). steps_of w.under < most_reads (sizes s)) mid.0.same.1
     (subst (λ z. z < most_reads (sizes w.shape)) (sym (ap steps_of mid.0.under)) low)
 
--- Each step that does not end the call adds one.
+-- Each step that does not end the call increases the count by one.
 pub one_more : (m : Table) (n : ℕ) (v w w' : View) (f f' : Fed) (c : Call) → Comes m c v f w → f.answer ≡ None → Comes m c v f' w'
     → f'.answer ≡ None → Goes m w n w' → steps_of w'.under ≡ steps_of w.under + 1
 one_more m n v w w' f f' c come none come' none' goes =

@@ -1,4 +1,4 @@
--- The state that a thread keeps between two calls.
+-- The slots of a thread: the state that it keeps between two calls.
 use Rattle.lset_steps.specs.declared.Local.{Local}
 use Rattle.lset_steps.specs.Steps.{idle}
 use Rattle.lset_rule.specs.declared.slots.OwnSlots.{OwnSlots}
@@ -6,6 +6,6 @@ use Rattle.lset_rule.specs.declared.slots.OwnSlots.{OwnSlots}
 abbrev pub slots_of : Local → OwnSlots
 slots_of l = record { thread = l.thread; quota = l.quota; used = l.used }
 
--- Registers with these slots and no call.
+-- Returns registers with these slots and no call.
 abbrev pub resting : OwnSlots → Local
 resting s = record (idle s.quota s.thread) { used = s.used }

@@ -1,5 +1,4 @@
--- One step of a call by its row, as the interpreter makes it: its requirements on the seat and on the thread's state, and its
--- outcome.
+-- One step of a call by the interpreter: what it requires of the seat and of the thread's state, and its result.
 use Rattle.std.specs.Prelude.{◌≡◌, ℕ}
 use Rattle.atomic_table.specs.Seated.{TableId}
 use Rattle.lset_words.specs.Words.{Opening}
@@ -11,7 +10,7 @@ use Rattle.lset_rule.specs.Views.{IsOpen, Stands}
 use Rattle.lset_rule.specs.Calls.{Goes}
 use Rattle.lset_rule.specs.Seats.{TableSeat, IsOf, IsSeat}
 
--- The seat is one of this table and has a pending call, and its thread has these registers at some moment of some run.
+-- The seat belongs to this table and has a pending call. In some run, its thread has these registers at some moment.
 pub record MayStep (m : Table) (z : TableId) (k : Opening) (l : Local) (s : TableSeat) : Type 0 where
   pub place : IsOf z k s
   pub under_way : IsOpen s.me.0
@@ -19,7 +18,8 @@ pub record MayStep (m : Table) (z : TableId) (k : Opening) (l : Local) (s : Tabl
   pub held : l ≡ s.me.0.local
   pub occurs : Occurs m l
 
--- The call has made its next step. The seat is the same, and f is the table's step for the registers and the value seen.
+-- The call has made its next step from the same seat. f is the result that the table has for these registers and the
+-- value seen.
 pub record HasStepped (m : Table) (l : Local) (s : TableSeat) (f : Fed) (s' : TableSeat) : Type 0 where
   pub place : IsSeat s s'
   pub seen : ℕ

@@ -1,4 +1,4 @@
-//! The interpreter: makes a whole call on the shared words, one row of the machine's table at a time.
+//! The interpreter makes a whole call on the shared words, one row of the machine's table at a time.
 ghost use Rattle.std.specs.Prelude.{IfSome};
 ghost use Rattle.lset_words.specs.declared.Call.TheVariants.{Contains};
 ghost use Rattle.lset_rule.specs.Seats.{HasCalled, MayCall};
@@ -12,8 +12,8 @@ use lset_steps::{Machine, OpenReads};
 use lset_words::{Call, Key, Reply};
 use std::marker::Brand;
 
-/// The code between two steps: returns the reply of a call that has ended, and pauses otherwise. This is a macro and not a
-/// function: after a call of a function that may block, as a pause may, the compiler does not lead straight to the next row.
+/// The code between two steps: returns the reply if the call has ended, and pauses otherwise. This is a macro, since
+/// the compiler does not lead straight to the next row after a call of a function that may block, as a pause may.
 macro_rules! ends_or_pauses {
     ($last:expr, $pause:expr) => {
         if let Some(reply) = $last.fed.answer {
@@ -29,13 +29,13 @@ macro_rules! ends_or_pauses {
 
 /// Makes a whole call step by step, in at most `N::MOST` rounds of four steps each.
 ///
-/// `place` is an idle seat of these words. `slots` are the slots of its thread, as its last call returned them. After each step
-/// that does not end the call, `pause.failed` is called if the step has failed, and `pause.moved` otherwise, also after a lock
-/// that was waited for is taken. `pause.taken` is never called.
+/// `place` is an idle seat of these words. `slots` are its thread's slots, as its last call returned them. After each
+/// step that does not end the call, `pause.failed` is called if the step has failed, and `pause.moved` otherwise, even
+/// when the call takes a lock that it has waited for. `pause.taken` is never called.
 ///
-/// Returns the thread's slots after the call, and the reply. The call began after all events that the seat had seen, and the
-/// seat's record has grown by this call. Returns `None` if the call has not ended after these rounds. The call is then still
-/// pending and keeps its locks, and the seat can make no other call.
+/// Returns the thread's slots after the call, and the reply. The call began after all events that the seat had seen,
+/// and the seat's record has grown by this call. Returns `None` if the call has not ended after these rounds. The call
+/// is then still pending and keeps its locks, and the seat can make no other call.
 pub fn interpret_within<M: Machine, P: Pause, N: Rounds>(
     table: &Words<M>,
     place: &mut TableSeat,
@@ -53,8 +53,8 @@ pub fn interpret_within<M: Machine, P: Pause, N: Rounds>(
         fed: M::feed(&begun, seen),
         failed: has_failed(action, seen),
     };
-    // Four steps in a round: within a round the compiler leads from the code of a row straight to the code of the next row. At
-    // the end of a round it searches for the row.
+    // A round has four steps. Within a round, the compiler leads from the code of one row straight to the code of the
+    // next. At the end of a round, the code for the next row is looked up.
     for round in 0..N::MOST {
         ends_or_pauses!(last, pause);
         let second = one_step::<M, 1>(table, place, &last.fed.local);
@@ -69,8 +69,8 @@ pub fn interpret_within<M: Machine, P: Pause, N: Rounds>(
     Some((OwnSlots::of(&last.fed.local), reply))
 }
 
-/// Makes a whole `contains` of `key` step by step, without blocking. This is for the lists whose walk reaches each node at most
-/// once (`OpenReads`): the lists that mark nodes before they unlink them.
+/// Makes a whole `contains` of `key` step by step, without blocking. This is for lists whose walk reaches each node at
+/// most once (`OpenReads`), which are the lists that mark nodes before they unlink them.
 ///
 /// `place` and `slots` are those of [`interpret_within`]. Returns the thread's slots after the call, and the reply.
 pub fn interpret_read<M: OpenReads>(

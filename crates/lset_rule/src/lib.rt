@@ -1,9 +1,9 @@
-//! The rule of a list on shared words, for every machine (`lset_steps::Machine`): between any two moves of the threads there is a
-//! list of events whose run ends with the words of the table, and each seat has seen a prefix of this list.
+//! The rule of a list on shared words, for every machine (`lset_steps::Machine`): between any two moves of the threads,
+//! there is a list of events whose run ends with the table's words, and each seat has seen a prefix of this list.
 //!
-//! `rule` states the rule for the table of words, `view` is the knowledge of a seat, `word_steps` has the steps of a call,
-//! `pause` the code between two steps, and `interpreter` makes whole calls of them. The definitions are in specs/, to be read in
-//! this order: `Pasts`, `Runs`, `Views`, `Rule`, `Calls`, `Seats`.
+//! `rule` states the rule for the table of words, `view` has what a seat knows, `word_steps` has the steps of a call,
+//! `pause` the code between two steps, and `interpreter` makes whole calls from these steps. Read the definitions in
+//! specs/ in this order: `Pasts`, `Runs`, `Views`, `Rule`, `Calls`, `Seats`.
 #![tactic(auto)]
 
 mod interpreter;

@@ -3,32 +3,34 @@
 use crossbeam_utils::Backoff;
 use std::cell::Cell;
 
-/// The code that a call runs between two of its steps. No contract depends on it: it cannot see the words or the seat, and
-/// changes only how long a call takes.
+/// The code that a call runs between two of its steps. No contract depends on it: it cannot access the words or the
+/// seat, and affects only how long a call takes.
 ///
-/// There is a function for each outcome, not one function with the outcome as an argument: the kit reads a byte after each call
-/// of a function that can reach a yield. A pause that yields only after a failed step costs nothing after the others.
+/// Each outcome has a function of its own, because the kit reads a byte after each call of a function that can yield.
+/// This way, a pause that yields only after a failed step costs nothing after other steps.
 pub trait Pause {
-    /// Called after a step that succeeded and did not end the call. `thread` is the number of the calling thread.
+    /// Called after a step that succeeded without ending the call. `thread` is the number of the calling thread.
     fn moved(&self, thread: u32);
 
-    /// Called after a step that failed and did not end the call: an exchange that found another value than it expected, such as a
-    /// lock that is taken. `thread` is the number of the calling thread.
+    /// Called after a step that failed without ending the call: an exchange that found another value than it expected,
+    /// for example because a lock is taken. `thread` is the number of the calling thread.
     fn failed(&self, thread: u32);
 
-    /// Called by the loops of the four lists with locks, in place of `moved`, after a lock that was waited for is taken. The
-    /// interpreter (`interpret_within`) calls `moved` then, too. `thread` is the number of the calling thread.
+    /// Called instead of `moved` when a call takes a lock that it has waited for. Only the loops of the four lists with
+    /// locks call this function; the interpreter (`interpret_within`) calls `moved` then, too. `thread` is the number
+    /// of the calling thread.
     fn taken(&self, thread: u32) {
         self.moved(thread)
     }
 }
 
-/// The maximum number of waits of `Backoff` after a failed step. At 16 waits a thread pauses 1,024 times. In that time the holder
-/// of a lock makes many calls, and the lock's cache line stays with it.
+/// The maximum number of `Backoff` waits after a failed step. At 16 waits, a thread pauses 1,024 times. In that time
+/// the holder of a lock makes many calls, and the lock's cache line stays with it.
 const MOST_WAITS: u32 = 16;
 
-/// Backs off after each failed exchange by `Backoff` of `crossbeam_utils`: twice as long each time, up to a limit. Beyond the
-/// limit it also yields the processor. At the next lock it starts anew. Each call has its own `Spin`.
+/// Waits after each failed exchange with `Backoff` of `crossbeam_utils`: twice as long each time, up to a limit. Beyond
+/// the limit, it also yields the processor. At the next lock, the waits start from the beginning. Each call has its own
+/// `Spin`.
 #[derive(Drop)]
 pub struct Spin {
     backoff: Backoff,
@@ -36,7 +38,7 @@ pub struct Spin {
 }
 
 impl Spin {
-    /// Returns a pause after which no step has failed yet.
+    /// Returns a pause for a new call, in which no step has failed yet.
     pub fn new() -> Spin {
         Spin {
             backoff: Backoff::new(),

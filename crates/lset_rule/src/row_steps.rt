@@ -1,19 +1,19 @@
-//! The next step of a call whose registers the interpreter holds, by the code of its row.
+//! The next step of the interpreter's call, by the code of its row.
 ghost use Rattle.std.specs.Prelude.{◌≡◌};
 ghost use Rattle.lset_rule.specs.RowSteps.{HasStepped, MayStep};
 
 use crate::word_steps::{TableSeat, Words, step_on};
 use lset_steps::{Action, Fed, Local, Machine};
 
-/// The outcome of a step: the thread's state after it, with the reply if the step ended the call; and whether the step was an
-/// exchange that failed.
+/// The outcome of a step: the thread's state after it, the reply if the step ended the call, and whether the step was a
+/// failed exchange.
 #[derive(Clone, Copy)]
 pub(crate) struct Stepped {
     pub fed: Fed,
     pub failed: bool,
 }
 
-/// Returns whether a step that made `action` and saw `seen` was an exchange that failed.
+/// Returns whether a step was a failed exchange, given its action and the value that it saw.
 #[inline(always)]
 pub(crate) fn has_failed(action: Action, seen: u64) -> bool {
     match action {
@@ -22,8 +22,8 @@ pub(crate) fn has_failed(action: Action, seen: u64) -> bool {
     }
 }
 
-/// Makes the next step of a call at row `PC`. `PC` is a constant for the compiler: it compiles only this row of the machine's
-/// `next` and `feed`, its access and the state after it.
+/// Makes the next step of a call at row `PC`. `PC` is a constant for the compiler, which compiles only this row of the
+/// machine's `next` and `feed`, its access, and the state after it.
 fn row_step<M: Machine, const PC: u8>(
     table: &Words<M>,
     place: &mut TableSeat,
@@ -42,9 +42,9 @@ fn row_step<M: Machine, const PC: u8>(
     }
 }
 
-/// Makes the next step of a call at a row without an arm in [`one_step`]. `SITE` numbers the places of the call and is not used
-/// otherwise: a function that is called from a single place is inlined there. If this function were inlined, the registers would
-/// have to be kept in memory at every step of every row.
+/// Makes the next step of a call at a row that has no arm in [`one_step`]. `SITE` is different at each call site and
+/// has no other use: a function that is called from a single place is inlined there. If this function were inlined, the
+/// registers would have to be kept in memory at every step of every row.
 fn other_step<M: Machine, const SITE: u8>(
     table: &Words<M>,
     place: &mut TableSeat,
@@ -61,11 +61,11 @@ fn other_step<M: Machine, const SITE: u8>(
     }
 }
 
-/// Makes the next step of a call, by the code of its row.
+/// Makes the next step of a call by the code of its row.
 ///
-/// `place` is a seat of these words with a pending call, and `local` is the state of its thread. Each place that calls this
-/// function has its own number `SITE`. The arms cover each row of the five tables. A table with further rows works without an arm
-/// for them here, but their steps are slower.
+/// `place` is a seat of these words with a pending call, and `local` is the state of its thread. Each call site passes
+/// its own number `SITE`. There is an arm for each row of the five tables. Rows of other tables work without an arm
+/// here, but their steps are slower.
 #[inline(always)]
 pub(crate) fn one_step<M: Machine, const SITE: u8>(
     table: &Words<M>,

@@ -6,8 +6,8 @@ ghost use Rattle.lset_rule.specs.OwnSlots.{slots_of, resting};
 use lset_steps::Local;
 use lset_words::{Call, Key, Layout};
 
-/// The state that a thread keeps between two calls: its number, the number of its slots, and how many of them it has used. The
-/// next call does not depend on its other registers.
+/// The state that a thread keeps between two calls: its number, the number of its slots, and how many of them it has
+/// used. The next call does not depend on the other registers.
 #[derive(Clone, Copy)]
 pub struct OwnSlots {
     pub thread: u32,
@@ -27,7 +27,7 @@ impl OwnSlots {
         }
     }
 
-    /// Returns the slots that the registers state.
+    /// Returns the slots that the registers contain.
     pub(crate) fn of(local: &Local) -> OwnSlots
         ensures { result ≡ slots_of local.now }
     {

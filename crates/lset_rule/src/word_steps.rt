@@ -1,5 +1,4 @@
-//! One step of a call on the shared words: the first step of a call, or a further one. It must be the step of the current row of
-//! the seat's call.
+//! Single steps of a call on the shared words. Each must be the step of the current row of the seat's call.
 ghost use Rattle.std.specs.Prelude.{◌≡◌, ◌<◌, ℕ};
 ghost use Rattle.lset_words.specs.Words.{target, tail_word};
 ghost use Rattle.lset_steps.specs.declared.Action.TheVariants.{Store};
@@ -13,17 +12,18 @@ use atomic_table::{Seat, Shared};
 use lset_steps::{Action, Machine};
 use lset_words::Call;
 
-/// The place of a seat among the shared words: a token of no bytes, with a view.
+/// A seat of the shared words: a zero-sized token with a view.
 pub type TableSeat = Seat<(), View>;
 
-/// The shared words of a set whose list is `M`: lock words, counts, and keys and links of the nodes.
+/// The shared words of a set whose list is `M`: the locks, the counts, and the keys and links of the nodes.
 pub type Words<M> = Shared<(), View, Opened, Follows<M>>;
 
-/// Makes a further step of a pending call.
+/// Makes a step of a pending call that is not its first.
 ///
-/// `place` is a seat of these words with a pending call, and `action` is the action of the call's current row. Returns the value
-/// to feed to the machine: the value that was seen, which for an exchange is the expected value exactly if the exchange was
-/// made, or the value that was stored. The seat has then seen all events up to this step.
+/// `place` is a seat of these words with a pending call, and `action` is the action of the call's current row. Returns
+/// the value to feed to the machine: the value that was loaded or stored. For an exchange, it is the value that was
+/// found, which equals the expected value exactly if the exchange succeeded. The seat has then seen all events up to
+/// this step.
 #[inline(always)]
 pub fn step_on<M: Machine>(table: &Words<M>, place: &mut TableSeat, action: Action) -> u64
     requires place { IsOf table.now.table_id table.now.key place.old }
@@ -47,8 +47,8 @@ pub fn step_on<M: Machine>(table: &Words<M>, place: &mut TableSeat, action: Acti
 
 /// Makes the first step of a call. The call begins with this step, after all events that the seat had seen.
 ///
-/// `place` is an idle seat of these words. `call` is the call, with a key below that of the tail, and `action` the action of its
-/// first row. Returns the value to feed to the machine, as [`step_on`] does.
+/// `place` is an idle seat of these words. `call` is the call; its key must be below the tail's. `action` is the action
+/// of the call's first row. Returns the value to feed to the machine, as [`step_on`] does.
 #[inline(always)]
 pub fn start_on<M: Machine, J: Asking>(
     table: &Words<M>,

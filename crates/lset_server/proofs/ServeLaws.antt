@@ -1,4 +1,4 @@
--- Laws of the sums over the results of the workers.
+-- Laws of the sums over the workers' results.
 use Rattle.std.proofs.Common.{◌≡◌, ◌≢◌, ℕ, zero, suc, ◌+◌, ◌-◌, ◌*◌, ◌<◌, ◌≤◌, eqb, List, [], ◌∷◌, ◌++◌, length, map, sum_by, Option, None}
 use Rattle.std.proofs.Common.{refl, sym, ap, ◌∙◌, subst, append_assoc, append-nil, arith, length-append, true, false, ⊎_elim}
 use Rattle.std.proofs.lemmas.Bool.{ne_eqb, eq-eqb}
@@ -18,9 +18,9 @@ use Rattle.lset_server.specs.Serving.{followed, HasGathered}
 use Rattle.lset_server.specs.Workers.{HasWorked, HaveWorked}
 use Rattle.lset_server.proofs.BalanceKept.{weigh-append}
 
--- ---- one worker
+-- ---- Lemmas about a single worker
 
--- A worker has held one more session.
+-- A worker has completed one more session.
 pub worked_more : (s s1 s2 : SeatValue) (v v' : Tally) (n m k number : ℕ) → HasWorked s s1 v n m
     → v' ≡ tally v.parts v.sent (v.received ++ number ∷ []) → s2.held ≡ s1.held
     → ((added : List CallMade) × (s2.past ≡ with_calls s1.past added) × (k ≡ length added)) → HasWorked s s2 v' (n + 1) (m + k)
@@ -34,13 +34,13 @@ worked_more s s1 s2 v v' n m k number b e same (more, recorded, count) = record 
   held = same ∙ b.held;
 }
 
--- ---- the sender
+-- ---- Lemmas about the sender of connections
 
 length-numbers : (n : ℕ) → length (numbers_below n) ≡ n
 length-numbers zero = refl
 length-numbers (suc n) = omega (arith, length-append (numbers_below n) (n ∷ []), length-numbers n)
 
--- One more part was split off the sender's pass.
+-- The sender has split one more part off its pass.
 pub part_more : (v u u' : Tally) (n m : ℕ) → u ≡ tally (v.parts - n) v.sent v.received →
     u' ≡ tally (u.parts - 1) u.sent u.received → m ≡ n + 1
     → u' ≡ tally (v.parts - m) v.sent v.received
@@ -48,7 +48,7 @@ part_more v u u' n m e f more =
     let parts : (v.parts - n) - 1 ≡ v.parts - m = omega (arith, more) in
     f ∙ ap (λ (x : Tally). tally (x.parts - 1) x.sent x.received) e ∙ ap (λ p. tally p v.sent v.received) parts
 
--- ---- the workers start and are joined
+-- ---- Lemmas about starting and joining the workers
 
 followed_more : (rs : List Record) (css : List (List CallMade)) (r : Record) (cs : List CallMade) → length css ≡ length rs
     → followed (rs ++ r ∷ []) (css ++ cs ∷ []) ≡ followed rs css ++ with_calls r cs ∷ []
@@ -131,7 +131,7 @@ bound_next' s d most n n' total h e small =
     let full : s + MOST_LINES * (most * (n' + 1)) ≤ total = subst (λ x. s + MOST_LINES * (most * x) ≤ total) e h in
     omega (arith, full, small)
 
--- ---- the whole
+-- ---- Lemmas about the whole server
 
 pub as_many : {H T : Type 0} (seat_of : H → T) (hs : List H) (ss : List T) → map seat_of hs ≡ ss → length hs ≡ length ss
 as_many seat_of hs ss e = sym (length-map hs seat_of) ∙ ap (λ l. length l) e
@@ -149,7 +149,7 @@ whole_again n many v u x y received k a few b c e f =
     f ∙ ap (λ (z : Tally). tally (z.parts + k) z.sent (z.received ++ received)) xv
     ∙ ap (λ p. tally p (numbers_below many) received) (omega (arith, few, e))
 
--- If each number weighs 1, the weight of a list is its length.
+-- If each number has weight 1, the weight of a list is its length.
 weigh-one : (xs : List ℕ) → weigh (λ _. 1) xs ≡ length xs
 weigh-one [] = refl
 weigh-one (x ∷ xs) = omega (arith, weigh-one xs)
@@ -187,7 +187,7 @@ times-below (suc n) m lt =
     below : (n ≢ m) → m < n
     below other = omega (arith, lt, other)
 
--- As many connections were received as were sent. Therefore each was received once, and none is left in the queue.
+-- If as many connections were received as were sent, each was received once, and the queue is empty.
 pub received_once : (n : ℕ) (v : Tally) (received left : List ℕ) → v ≡ tally PARTS (numbers_below n) received →
     n ≡ length received
     → ((h : ℕ → ℕ) → weigh h v.sent ≡ weigh h v.received + weigh h left) → ReceivedOnce n v

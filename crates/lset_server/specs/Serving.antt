@@ -1,4 +1,4 @@
--- [Served]: the effect of a server.
+-- [Served]: what a server has done when it ends.
 use Rattle.std.specs.Prelude.{◌≡◌, ℕ, List, [], ◌∷◌, length, sum_by, Option, None}
 use Rattle.lset_words.specs.Records.{Record, CallMade, with_calls}
 use Rattle.lset_live.specs.Explained.{IsOneLegalOrder}
@@ -7,21 +7,21 @@ use Rattle.lset_server.specs.declared.channel.Tally.{Tally}
 use Rattle.lset_server.specs.Tallies.{ReceivedOnce}
 use Rattle.lset_words.specs.Words.{Opening}
 
--- Each record, followed by calls.
+-- Returns the records, each extended by some calls.
 abbrev pub followed : List Record → List (List CallMade) → List Record
 followed [] more = []
 followed (r ∷ rs) [] = r ∷ rs
 followed (r ∷ rs) (cs ∷ more) = with_calls r cs ∷ followed rs more
 
--- One legal order of the calls of these records and of `calls` further calls has no other call and leaves these keys. Each record
--- is followed by calls of its own thread.
+-- One legal order leaves these keys. It has the calls in these records, `calls` more calls, and no others. The
+-- additional calls that follow a record were made by the record's own thread.
 pub record IsServed (k : Opening) (records : List Record) (calls : ℕ) (keys : List ℕ) : Type 0 where
   pub added : List (List CallMade)
   pub each : length added ≡ length records
   pub count : calls ≡ sum_by (λ cs. length cs) added
   pub explained : IsOneLegalOrder k (followed records added) keys
 
--- The seats of all workers are gathered, and each of the connections was received once.
+-- The seats of all workers are gathered, and each connection was received once.
 pub record HasGathered (starts : List Record) (end : Option Record) (v : Tally) (asked sessions calls : ℕ) : Type 0 where
   pub added : List (List CallMade)
   pub each : length added ≡ length starts

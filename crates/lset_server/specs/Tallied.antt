@@ -1,8 +1,8 @@
--- The part of a server's result that only contracts see.
+-- The part of a server's result that only contracts can see.
 use Rattle.crossbeam_channel.specs.Claims.{view}
 use Rattle.lset_server.specs.declared.channel.Tally.{Tally}
 use Rattle.lset_server.specs.declared.set_server.Served.{Served}
 
--- The tally of the single pass into which all passes to the channel were joined.
+-- Returns the tally of the pass into which all passes of the channel were joined.
 abbrev pub tally_of : Served → Tally
 tally_of s = view s.pass

@@ -1,5 +1,5 @@
--- The rule of the channel that passes connections to the workers. Each pass to the channel has a tally of the numbers of the
--- connections that were sent and received with it. No connection is lost or doubled: each number was sent exactly as often as it
+-- The rule of the channel that passes connections to the workers. Each pass has a tally: the numbers of the connections
+-- that were sent and received with it. No connection is lost or duplicated: each number was sent exactly as often as it
 -- was received or is in the queue.
 use Rattle.std.specs.Prelude.{◌≡◌, ◌==◌, ◌≤◌, ◌<◌, ℕ, ◌+◌, zero, suc, List, [], ◌∷◌, ◌++◌, if◌then◌else◌}
 use mathlib.Core.Option.{some}
@@ -13,52 +13,52 @@ use Rattle.lset_server.specs.declared.channel.Tally.{Tally}
 abbrev pub tally : ℕ → List ℕ → List ℕ → Tally
 tally parts sent received = record { parts = parts; sent = sent; received = received }
 
--- The number of a connection; the message Close has none.
+-- Returns the number of a connection as a list. The message Close has none.
 abbrev pub number_of : {S : Type 0} → Message S → List ℕ
 number_of (message.Connection c) = c.number ∷ []
 number_of message.Close = []
 
--- The numbers of the connections among the messages.
+-- Returns the numbers of the connections among these messages.
 abbrev pub numbers : {S : Type 0} → List (Message S) → List ℕ
 numbers = flat_map number_of
 
--- The sum of the weights of the numbers.
+-- Returns the sum of the weights of the numbers.
 abbrev pub weigh : (ℕ → ℕ) → List ℕ → ℕ
 weigh h [] = 0
 weigh h (x ∷ xs) = h x + weigh h xs
 
--- 1 for the number n, and 0 for any other.
+-- Returns 1 for the number n, and 0 for any other.
 abbrev pub one_at : ℕ → ℕ → ℕ
 one_at n m = if m == n then 1 else 0
 
--- How often a number occurs in a list.
+-- Returns how often a number occurs in a list.
 abbrev pub times : ℕ → List ℕ → ℕ
 times n = weigh (one_at n)
 
--- The sum of f over the tallies.
+-- Returns the sum of f over the tallies.
 abbrev pub total : (Tally → ℕ) → List Tally → ℕ
 total f [] = 0
 total f (v ∷ vs) = f v + total f vs
 
--- A pass without parts has sent and received nothing.
+-- States that a pass without parts has sent and received nothing.
 abbrev pub IdleIsEmpty : List Tally → Type 0
 IdleIsEmpty views = (port : ℕ) (v : Tally) → get_elem? views port ≡ some v → v.parts ≡ 0 → (v.sent ≡ []) × (v.received ≡ [])
 
--- The rule: the passes have all parts together; and for all weights, the numbers that were sent weigh as much as the numbers that
--- were received and the numbers in the queue together.
+-- The rule: the passes together have all parts. For any weights, the numbers that were sent weigh as much as those that
+-- were received and those in the queue together.
 abbrev pub IsBalanced : List ℕ → List Tally → Type 0
 IsBalanced queue views =
     (total (λ v. v.parts) views ≡ PARTS)
     × ((h : ℕ → ℕ) → total (λ v. weigh h v.sent) views ≡ total (λ v. weigh h v.received) views + weigh h queue)
     × IdleIsEmpty views
 
--- The numbers of the first n connections.
+-- Returns the numbers of the first n connections.
 abbrev pub numbers_below : ℕ → List ℕ
 numbers_below zero = []
 numbers_below (suc n) = numbers_below n ++ n ∷ []
 
--- All passes to a channel are joined into one with this tally. The numbers below n were sent, in order; each of them was received
--- once, and no other number was.
+-- All passes of a channel have been joined into one with this tally. The numbers below n were sent, in order. Each of
+-- them was received once, and no other number was received.
 pub record ReceivedOnce (n : ℕ) (v : Tally) : Type 0 where
   pub parts : v.parts ≡ PARTS
   pub sent : v.sent ≡ numbers_below n

@@ -1,4 +1,4 @@
-//! The channel that passes connections to the workers, under a rule.
+//! The channel that passes connections to the workers, and its rule.
 ghost use Rattle.std.specs.Prelude.{◌≡◌, ◌<◌, ◌++◌, [], ℕ, List, MatchResult, ⊤, ◌-◌, ◌+◌};
 ghost use Rattle.crossbeam_channel.specs.Claims.{view, IsSeatAt};
 ghost use Rattle.crossbeam_channel.specs.Ends.{sends_on, receives_on};
@@ -11,33 +11,33 @@ use std::alloc::Global;
 use std::collections::LinkedList;
 use std::sync::Wait;
 
-/// The number of parts of the knowledge of the whole channel: one for each worker and one for the sender. There are at most as
-/// many workers as threads of a set.
+/// The number of parts into which knowledge of the whole channel can be split: one for each worker and one for the
+/// sender. There are at most as many workers as a set has threads.
 pub(crate) const PARTS: u64 = MOST_THREADS as u64 + 1;
 
-/// A connection and its number, counted from 0 in the order of acceptance.
+/// A connection with its number. Connections are counted from 0 in the order in which they are accepted.
 #[derive(Drop)]
 pub(crate) struct Connection<S> {
     pub number: u64,
     pub stream: S,
 }
 
-/// A message in the channel: a connection, or the notice that no more connections come.
+/// A message in the channel: a connection, or the notice that no more connections will come.
 #[derive(Drop)]
 pub(crate) enum Message<S> {
     Connection(Connection<S>),
     Close,
 }
 
-/// The part of a pass that contracts see: the numbers of the connections that were sent and received with it, and how many parts
-/// of the knowledge of the whole channel it has. A running program has no value of this type.
+/// What contracts see of a pass: the numbers of the connections sent and received with it, and how many parts of the
+/// knowledge of the whole channel it has. A running program has no value of this type.
 pub(crate) struct Tally {
     pub parts: u64,
     pub sent: LinkedList<u64>,
     pub received: LinkedList<u64>,
 }
 
-/// The rule of the channel: each connection that was sent was received or is in the queue.
+/// The rule of the channel: each connection that was sent has been received or is in the queue.
 pub(crate) struct NothingLost;
 
 impl<S> Protocol<Message<S>, Tally> for NothingLost {
@@ -50,7 +50,7 @@ impl<S> Protocol<Message<S>, Tally> for NothingLost {
     ghost first = { tally PARTS [] [] };
 }
 
-/// The moves that split a part off a pass, and that join a pass to another.
+/// The moves that split a part off a pass, or join one pass to another.
 pub(crate) struct Parting;
 
 impl Split<Tally> for Parting {
@@ -93,7 +93,8 @@ impl<S> Lesson<Message<S>, Tally> for Receiving {
     ghost fact = { λ v items. ⊤ };
 }
 
-/// The fact about the queue that follows from holding all parts: what was sent is what was received and what is queued.
+/// What follows about the queue if a pass has all parts: the messages sent are the messages received and the messages
+/// in the queue.
 pub(crate) struct Balanced;
 
 impl<S> Lesson<Message<S>, Tally> for Balanced {
@@ -107,7 +108,7 @@ pub(crate) type Sender<S> = RuledSender<Message<S>, Tally, NothingLost>;
 
 pub(crate) type Receiver<S> = RuledReceiver<Message<S>, Tally, NothingLost>;
 
-/// The right to send and receive on the channel. A token takes no memory.
+/// The right to send and receive on the channel. A token is zero-sized.
 pub(crate) type Token<S> = Pass<Message<S>, Tally>;
 
 /// Sends a message. Blocks while the channel is full.
@@ -127,7 +128,7 @@ pub fn send<S: Drop, R: Wait>(
     to.send_as::<Sending, R>(rt, pass, message)
 }
 
-/// Receives a message. Blocks until there is one.
+/// Receives a message. Blocks until a message arrives.
 pub fn receive<S: Drop, R: Wait>(
     rt: &R,
     from: &Receiver<S>,
@@ -143,7 +144,7 @@ pub fn receive<S: Drop, R: Wait>(
     from.recv_as::<Receiving, R>(rt, pass)
 }
 
-/// Splits off a pass for a receiver.
+/// Splits a pass for a receiver off this one.
 pub(crate) fn cut_part<S: Drop>(to: &Sender<S>, pass: &mut Token<S>) -> Token<S>
     requires channel { IsSeatAt (sends_on to.now) pass.old }
     requires parts { 1 < (view pass.old).parts }
@@ -165,7 +166,7 @@ pub(crate) fn take_back<S: Drop>(to: &Sender<S>, pass: &mut Token<S>, other: Tok
     to.absorb::<Parting>(pass, other)
 }
 
-/// Lemma: with all parts, the messages that were sent are those that were received and those in the queue.
+/// Lemma: if the pass has all parts, the messages sent are the messages received and those in the queue.
 pub(crate) fn balance<S: Drop>(to: &Sender<S>, pass: &mut Token<S>)
     requires channel { IsSeatAt (sends_on to.now) pass.old }
     requires all { (view pass.old).parts ≡ PARTS }

@@ -1,4 +1,4 @@
-//! The set server: sessions on the seats of a running set, with one worker for each seat.
+//! The set server: sessions on the seats of a running set, with one worker thread for each seat.
 #![tactic(auto)]
 
 mod channel;

@@ -1,6 +1,6 @@
-//! The end of a connection. If a connection is closed while bytes of its client are unread, the system resets it, and answers
-//! that the client has not received yet are lost. So if a session ends before its client's bytes do, the server first closes its
-//! own sending side and reads on for a while.
+//! Closing a connection. If the server closes a connection before it has read all bytes of the client, the system
+//! resets the connection, and answers that the client has not received yet are lost. So if a session ends before the
+//! client's bytes do, the server first closes only its own sending side, and reads on for a while.
 ghost use Rattle.std.specs.Prelude.{◌≡◌, false};
 
 use lset_session::{Device, EndReason, Source};
@@ -12,10 +12,10 @@ use std::time::{Clock, Duration, Instant};
 /// The maximum number of bytes that are read and dropped after the last answer.
 const MOST_DROPPED: usize = 1_048_576;
 
-/// The maximum time of reading and dropping bytes, in seconds.
+/// The maximum time in seconds during which bytes are read and dropped.
 const MOST_SECONDS: u64 = 1;
 
-/// A connection that can be read for a limited time. Reads fail after that time.
+/// A connection that can be read for a limited time. After that time, reads fail.
 #[derive(Drop)]
 struct Closing<'a, R> {
     rt: &'a R,
@@ -27,7 +27,7 @@ impl<R: Clock> Read for Closing<'_, R> {
     fn read(&mut self, buffer: &mut [u8]) -> io::Result<usize> {
         let spent = self.start.elapsed(self.rt)?;
         let left = Duration::from_secs(MOST_SECONDS).saturating_sub(spent);
-        // If no time is left, this returns an error: a read timeout of 0 is not allowed.
+        // Returns an error if no time is left, since a read timeout of 0 is not allowed.
         self.stream.set_read_timeout(Some(left))?;
         let mut stream = self.stream;
         stream.read(buffer)
@@ -52,9 +52,10 @@ fn drop_rest<I: Source>(reader: &mut I)
     }
 }
 
-/// Ends the exchange with a client whose session has ended for the reason `why`, before its connection is closed. If the session
-/// has ended before the client's bytes did, closes the sending side, and then reads on to the end of the client's bytes, for at
-/// most one second and 1,048,576 bytes. The system then has time to deliver the answers. Returns at once if the system refuses.
+/// Finishes the exchange with a client whose session has ended for the reason `why`, before the connection is closed.
+/// If the session ended before the client's bytes did, closes the sending side, then reads the client's remaining
+/// bytes, for at most one second and 1,048,576 bytes. This gives the system time to deliver the answers. Returns at
+/// once if the system refuses.
 pub(crate) fn take_leave<R: Clock>(rt: &R, stream: &TcpStream, why: EndReason) {
     match why {
         EndReason::Quit | EndReason::Long | EndReason::Limit => {}

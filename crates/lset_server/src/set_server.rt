@@ -1,4 +1,4 @@
-//! Serves the connections of a listener.
+//! Serves the connections that a listener accepts.
 ghost use Rattle.std.specs.Prelude.{◌≡◌, ◌≢◌, ◌<◌, ◌≤◌, ◌↔◌, ◌++◌, [], All, None, Some, length, map, sum_by};
 ghost use Rattle.std.specs.Prelude.{IfErr, IfOk, IfSome, IsOk, OnOk};
 ghost use Rattle.std.specs.Option.{option_map};
@@ -29,7 +29,7 @@ pub enum ServeCause {
     /// The seats do not hold all seats of the set. No connection was accepted.
     #[error("the seats do not hold all seats of the set")]
     Seats,
-    /// The system failed to accept a connection.
+    /// The system did not accept a connection.
     #[error("the system did not accept a connection")]
     Accept,
     /// The system refused to start a thread.
@@ -46,7 +46,8 @@ pub enum ServeCause {
     Left,
 }
 
-/// The result of serving: the number of sessions, the number of calls made in them, and the final keys in increasing order.
+/// The result of serving: the number of sessions, the number of calls made in them, and the final keys in increasing
+/// order.
 #[derive(Drop)]
 pub struct Served {
     pub sessions: u64,
@@ -55,8 +56,8 @@ pub struct Served {
     pass: Token<TcpStream>,
 }
 
-/// The error of `serve`. After the cause `Seats` no connection was accepted, and `back` contains the set and the seats. After the
-/// other causes `back` is `None`.
+/// The error of `serve`. After `Seats`, no connection was accepted, and `back` contains the set and the seats. After
+/// the other causes, `back` is `None`.
 #[derive(Drop, Error)]
 #[error("{cause}")]
 pub struct ServeFault<M: Running> {
@@ -72,7 +73,7 @@ impl<M: Running> fmt::Debug for ServeFault<M> {
     }
 }
 
-/// Accepts `sessions` connections and sends them to the workers, numbered from 0.
+/// Accepts `sessions` connections, numbers them from 0, and sends them to the workers.
 fn accept_all<R: Wait>(
     rt: &R,
     listener: &TcpListener,
@@ -100,7 +101,7 @@ fn accept_all<R: Wait>(
     Ok(())
 }
 
-/// Sends each worker the message that no more connections come.
+/// Tells each worker, by a message, that no more connections will come.
 fn close_all<R: Wait>(
     rt: &R,
     to: &Sender<TcpStream>,
@@ -119,7 +120,7 @@ fn close_all<R: Wait>(
     Ok(())
 }
 
-/// Accepts `sessions` connections, sends them to the workers, and then sends each worker the message that no more come.
+/// Accepts `sessions` connections and sends them to the workers. Then tells each worker that no more will come.
 fn send_all<R: Wait>(
     rt: &R,
     listener: &TcpListener,
@@ -137,7 +138,8 @@ fn send_all<R: Wait>(
     close_all(rt, to, pass, workers)
 }
 
-/// Starts the workers, accepts the connections and joins the workers. Returns the pass with all parts, and the gathered seat.
+/// Starts the workers, accepts the connections, and joins the workers. Returns the pass with all parts, and the
+/// gathered seat.
 fn serve_in<'s, E, R: Threads + Wait + Clock + Sync, M: Running + Send + Sync>(
     alloc: Global,
     scope: &Scope<'s, E>,
@@ -173,7 +175,7 @@ fn serve_in<'s, E, R: Threads + Wait + Clock + Sync, M: Running + Send + Sync>(
     Ok((pass, gathered))
 }
 
-/// Creates the channel and serves through it. After an error the channel is dropped, and the workers end.
+/// Creates the channel, and serves the connections. After an error, the channel is dropped, and the workers end.
 fn serve_all<R: Threads + Wait + Clock + Sync, M: Running + Send + Sync>(
     rt: &R,
     alloc: Global,
@@ -215,23 +217,23 @@ fn serve_all<R: Threads + Wait + Clock + Sync, M: Running + Send + Sync>(
 
 /// Serves a set to `sessions` connections, with one worker for each of `seats`.
 ///
-/// `seats` must be seats of `set`. Connections are numbered from 0, and go through a channel with as many places as there are
-/// seats. Each worker runs `buffered_session` on its seat, for one connection after another. A session that ends with a fault
-/// does not end the server. At the end the seats are gathered and the set is closed. Blocks until all connections have come and
-/// all workers have ended; each worker waits for its client.
+/// `seats` must belong to `set`. Connections are numbered from 0, and go through a channel with as many places as there
+/// are seats. Each worker runs `buffered_session` on its seat, for one connection after another. A session that ends
+/// with a fault does not end the server. At the end, the seats are gathered and the set is closed. Blocks until all
+/// connections have been accepted and all workers have ended. Each worker waits for its client.
 ///
 /// # Errors
 ///
 /// Returns a `ServeFault` with one of these causes:
 ///
-/// - `Seats`: exactly if the seats do not hold all seats of the set. No connection was accepted, and the set and the seats are
+/// - `Seats`: if and only if the seats do not hold all seats of the set. No connection was accepted, and the set and the seats are
 ///   returned.
 /// - `Accept`, `Spawn`: the system refused a connection or a thread.
 /// - `Send`: the channel returned a connection.
 /// - `Left`: the workers received fewer connections than were accepted.
 /// - `Memory`: an allocation failed.
 ///
-/// After each cause but `Seats` the started workers end, and the set is dropped.
+/// After each cause except `Seats`, the workers that were started end, and the set is dropped.
 pub fn serve<R: Threads + Wait + Clock + Sync, M: Running + Send + Sync>(
     rt: &R,
     alloc: Global,
@@ -243,7 +245,7 @@ pub fn serve<R: Threads + Wait + Clock + Sync, M: Running + Send + Sync>(
     requires { All (λ s. s.set ≡ set) seats.items }
     // [Received once]: each connection was received once.
     ensures received { IfOk result (λ s. (s.sessions ≡ sessions) × ReceivedOnce sessions (tally_of s)) }
-    // [Served]: one legal order of the seats' earlier calls and of `calls` further calls leaves the final keys.
+    // [Served]: one legal order of the seats' earlier calls and of `calls` more calls leaves the final keys.
     ensures served { IfOk result (λ s. IsServed set.shape (map (λ t. t.past) seats.items) s.calls s.keys.items) }
     ensures all { IsOk result → sum_by (λ s. s.held) seats.items ≡ set.shape.threads }
     ensures refused { IfErr result (λ f. f.cause ≡ ServeCause.Seats ↔ (sum_by (λ s. s.held) seats.items ≢ set.shape.threads)) }

@@ -24,7 +24,7 @@ use std::sync::Wait;
 use std::thread::{Promise, PromisedHandle, Scope, Threads};
 use std::time::Clock;
 
-/// The result of a worker: its pass, its seat, and the numbers of its sessions and calls.
+/// The result of a worker: its pass, its seat, and how many sessions and calls it has completed.
 #[derive(Drop)]
 pub(crate) struct WorkerResult<M: Running> {
     pub pass: Token<TcpStream>,
@@ -33,7 +33,8 @@ pub(crate) struct WorkerResult<M: Running> {
     pub calls: u64,
 }
 
-/// The promise of a worker: the channel, the set and the seat with which it was started, and its maximum number of sessions.
+/// What a worker promises. It contains the channel, the set and the seat with which the worker was started, and its
+/// maximum number of sessions.
 #[derive(Drop)]
 pub(crate) struct WorkerPromise<M: Running> {
     pub from: Snapshot<Receiver<TcpStream>>,
@@ -69,8 +70,8 @@ fn next<R: Wait>(
     }
 }
 
-/// Holds a session with a client on the seat and ends the exchange with the client. Returns the number of calls made. A fault
-/// ends only this session.
+/// Serves one client in a session on the seat, and finishes the exchange with the client. Returns the number of calls
+/// made. A fault ends only this session.
 fn hold<R: Wait + Clock, M: Running>(
     rt: &R,
     stream: &TcpStream,
@@ -82,14 +83,14 @@ fn hold<R: Wait + Clock, M: Running>(
     ensures calls { (added : List CallMade) × (seat.new.past ≡ with_calls seat.old.past added) × (result ≡ length added) }
     ensures few { result ≤ MOST_LINES }
 {
-    // If the system refuses the option, answers can arrive later; nothing else changes.
+    // If the system refuses this option, answers can arrive later, but nothing else changes.
     let _ = stream.set_nodelay(true);
     let ended = buffered_session(rt, Device::new(stream), Device::new(stream), set, seat);
     take_leave(rt, stream, ended.why);
     ended.calls
 }
 
-/// Serves connections on the seat until no more come or `most` were received.
+/// Serves connections on the seat until no more come or `most` have been received.
 fn work<R: Wait + Clock, M: Running>(
     rt: &R,
     from: &Receiver<TcpStream>,
@@ -122,7 +123,7 @@ fn work<R: Wait + Clock, M: Running>(
     }
 }
 
-/// The numbers of sessions and calls of all workers together, and the seat into which their seats were gathered.
+/// How many sessions and calls all workers have completed together, and the seat into which their seats were gathered.
 #[derive(Drop)]
 pub(crate) struct Gathered<M: Running> {
     pub seat: Option<Seat<M>>,
@@ -130,8 +131,8 @@ pub(crate) struct Gathered<M: Running> {
     pub calls: u64,
 }
 
-/// A pool of workers: the set on whose seats they work, both ends of the channel that passes connections to them, and the number
-/// of connections.
+/// A pool of workers: the set with whose seats they work, both ends of the channel that passes connections to them, and
+/// the number of connections.
 #[derive(Drop)]
 pub(crate) struct Pool<'s, R, M: Running> {
     pub rt: &'s R,
@@ -142,7 +143,7 @@ pub(crate) struct Pool<'s, R, M: Running> {
 }
 
 impl<'s, R: Threads + Wait + Clock + Sync, M: Running + Send + Sync> Pool<'s, R, M> {
-    /// Starts a worker on the seat. Returns `None` if the system refuses the thread.
+    /// Starts a worker on the seat. Returns `None` if the system refuses to start the thread.
     fn start<E>(
         &self,
         scope: &Scope<'s, E>,
@@ -170,8 +171,8 @@ impl<'s, R: Threads + Wait + Clock + Sync, M: Running + Send + Sync> Pool<'s, R,
             .ok()
     }
 
-    /// Starts a worker on each seat, with a part of the sender's pass. Memory for all handles is allocated before the first
-    /// worker is started.
+    /// Starts a worker on each seat, with a part of the sender's pass. Allocates the memory for all handles before it
+    /// starts the first worker.
     pub fn start_all<E>(
         &self,
         alloc: Global,

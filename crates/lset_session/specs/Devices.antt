@@ -1,20 +1,20 @@
--- The effect of writing a text that may be written in part.
+-- What it means to write a text in full or only in part.
 use Rattle.std.specs.Prelude.{◌≡◌, ℕ, Bool, MatchBool, List, ◌∷◌, ◌++◌, Option}
 use Rattle.std.specs.Io.KnownBytes.{Appends}
 use Rattle.lset_session.specs.declared.devices.Device.{Device}
 
--- The reader or writer of a device.
+-- Returns the reader or writer in a device.
 abbrev pub inner_of : {T : Type 0} → Device T → T
 inner_of d = d.inner
 
--- Whether a device has failed.
+-- Returns whether a device has failed.
 abbrev pub is_failed : {T : Type 0} → Device T → Bool
 is_failed d = d.failed
 
--- A proper prefix of the text was written.
+-- States that a proper prefix of the text was written.
 abbrev pub CutShort : Option (List ℕ) → Option (List ℕ) → List ℕ → Type 0
 CutShort old new text = (front : List ℕ) × (b : ℕ) × (cut : List ℕ) × (text ≡ front ++ b ∷ cut) × Appends old new front
 
--- The whole text was written, or a proper prefix of it.
+-- States that the whole text was written or, if the write failed, a proper prefix.
 abbrev pub Writes : Bool → Option (List ℕ) → Option (List ℕ) → List ℕ → Type 0
 Writes whole old new text = MatchBool whole (Appends old new text) (CutShort old new text)

@@ -1,5 +1,5 @@
--- [Session text]: the requests in the lines of a session, and their answers. It is stated for all bytes of the input at once, cut
--- at newlines.
+-- [Session text]: the requests in the lines of a session, and the answers to them. The definitions are about all bytes
+-- of the input at once, cut at newlines.
 use Rattle.std.specs.Prelude.{ℕ, ◌-◌, ◌==◌, nat_lt, List, [], ◌∷◌, ◌++◌, map, length, codes, if◌then◌else◌}
 use Rattle.std.specs.Fmt.{decimal}
 use Rattle.std.specs.List.{flat_map}
@@ -21,9 +21,9 @@ use Rattle.lset_session.specs.declared.requests.Request.TheVariants as request
 use Rattle.lset_session.specs.declared.sessions.EndReason.{EndReason}
 use Rattle.lset_session.specs.declared.sessions.EndReason.TheVariants as why
 
--- ---- the request in a line
+-- ---- The request in a line
 
--- The line of a call: its name and a key.
+-- Returns the form of a call's line: the call's name and a key.
 abbrev pub call_line : List ℕ → (Key → Call) → LineKind Request
 call_line name call = (word name ∷ any ∷ [], λ t. request.Call (call (record { 0 = t.1.0 })))
 
@@ -36,24 +36,25 @@ request_lines =
 abbrev pub request_of_pieces : List (List ℕ) → Request
 request_of_pieces pieces = result_unwrap_or (first_of Two Line request_lines pieces) request.Bad
 
--- The request in a line, without its newline.
+-- Returns the request in a line, given without its newline.
 unfoldable pub request_of : List ℕ → Request
 request_of line = request_of_pieces (cut_at 32 line)
 
--- ---- the requests in the bytes of a session
+-- ---- The requests in the bytes of a session
 
--- A turn: a line that is answered; or a line that is too long; or the limit of answered lines.
+-- A turn: a line that is answered, a line that is too long, or the limit of answered lines.
 pub data Turn : Type 0 where
   line : Request → Turn
   long : Turn
   limit : Turn
 
--- The turn of a line, and the turns after it: none after QUIT, and the limit if no further line can be answered.
+-- Returns a line's turn and those after it. After QUIT there are none. If no more lines can be answered, the limit
+-- follows.
 abbrev pub turns_after : ℕ → Request → List Turn → List Turn
 turns_after left request.Quit later = line request.Quit ∷ []
 turns_after left other later = line other ∷ (if left == 1 then limit ∷ [] else later)
 
--- The turns of the parts between newlines, if `left` more lines can be answered. The last part has no newline.
+-- Returns the turns of the parts between newlines, if `left` lines can still be answered. The last part has no newline.
 abbrev pub turns_at : ℕ → List (List ℕ) → List Turn
 turns_at left [] = []
 turns_at left (rest ∷ []) = if nat_lt LONGEST_LINE (length rest) then long ∷ [] else []
@@ -64,7 +65,7 @@ turns_at left (first ∷ next ∷ more) =
 unfoldable pub turns_of : List ℕ → List Turn
 turns_of bytes = turns_at MOST_LINES (cut_at 10 bytes)
 
--- The end of a session with these turns.
+-- Returns the reason why a session with these turns ends.
 abbrev pub end_after : Turn → EndReason → EndReason
 end_after (line request.Quit) otherwise = why.Quit
 end_after (line other) otherwise = otherwise
@@ -75,7 +76,7 @@ abbrev pub end_of : List Turn → EndReason
 end_of [] = why.End
 end_of (t ∷ ts) = end_after t (end_of ts)
 
--- ---- the answers
+-- ---- The answers to requests
 
 -- A turn with its answer: a call with its reply, or one of the other answers.
 pub data Exchange : Type 0 where
@@ -99,7 +100,7 @@ reply_word reply.Full = codes "FULL"
 reply_word (reply.At k) = codes "AT " ++ decimal k.0
 reply_word reply.Nothing = codes "NONE"
 
--- The line that answers a turn.
+-- Returns the line that answers a turn.
 abbrev pub answer_of : Exchange → List ℕ
 answer_of (made c) = ended (reply_word c.reply)
 answer_of bad = ended (codes "BAD")

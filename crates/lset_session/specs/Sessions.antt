@@ -1,4 +1,4 @@
--- [Session]: the effect of a session that has ended.
+-- [Session]: what a session has done when it ends.
 use Rattle.std.specs.Prelude.{◌≡◌, ◌≢◌, ℕ, List, [], ◌∷◌, ◌++◌, length, Option}
 use Rattle.std.specs.Io.KnownBytes.{Appends, Consumes, IsAtEnd}
 use Rattle.lset_words.specs.Records.{Record, with_calls}
@@ -6,34 +6,35 @@ use Rattle.lset_session.specs.declared.sessions.EndReason.{EndReason}
 use Rattle.lset_session.specs.declared.sessions.EndReason.TheVariants as why
 use Rattle.lset_session.specs.SessionText.{Turn, turns_of, end_of, Exchange, turns_in, answers_in, calls_in, answer_of}
 
--- All answers but the last were written, and of the last one a proper prefix.
+-- States that all answers except the last were written, and a proper prefix of the last.
 abbrev pub CutAnswers : Option (List ℕ) → Option (List ℕ) → List Exchange → Type 0
 CutAnswers w w' talk =
     (said : List Exchange) × (last : Exchange) × (front : List ℕ) × (b : ℕ) × (cut : List ℕ)
     × (talk ≡ said ++ last ∷ []) × (answer_of last ≡ front ++ b ∷ cut) × Appends w w' (answers_in said ++ front)
 
--- The bytes that were written, if the session has ended for this reason.
+-- States which bytes have been written, if the session has ended for this reason.
 abbrev pub Wrote : EndReason → Option (List ℕ) → Option (List ℕ) → List Exchange → Type 0
 Wrote why.WriteFault w w' talk = CutAnswers w w' talk
 Wrote end w w' talk = Appends w w' (answers_in talk)
 
--- The end of the text that was read, if the session has ended for this reason. After a failed read no line has ended the text.
+-- Returns how the text that was read ends, if the session has ended for this reason. If a read failed, the text just
+-- stops.
 abbrev pub text_end : EndReason → EndReason
 text_end why.ReadFault = why.End
 text_end end = end
 
--- A session that has ended for the reason `end` after this number of calls: s and s' are the remaining input before and after it,
--- r and r' the records of its seat, and w and w' the bytes written.
+-- A session that has ended for the reason `end` after this number of calls. s and s' are the remaining input before and
+-- after it, r and r' the records of its seat, and w and w' the bytes written.
 pub record IsSession (end : EndReason) (calls : ℕ) (s s' : Option (List ℕ)) (r r' : Record) (w w' : Option (List ℕ)) : Type 0 where
-  -- The bytes that were read, and the turns with their answers.
+  -- The bytes that were read, and their turns with the answers.
   pub bytes : List ℕ
   pub talk : List Exchange
   pub read : Consumes s s' bytes
-  -- The turns are those of these bytes: all of them, unless a write has failed.
+  -- The turns are the turns of these bytes. Unless a write has failed, they are all of them.
   pub turns : (later : List Turn) × (turns_of bytes ≡ turns_in talk ++ later) × (end ≢ why.WriteFault → later ≡ [])
   pub recorded : r' ≡ with_calls r (calls_in talk)
   pub count : calls ≡ length (calls_in talk)
   pub wrote : Wrote end w w' talk
-  -- The text of these bytes ends for this reason, unless a write has failed.
+  -- The text of these bytes ends for the same reason as the session, unless a write has failed.
   pub ends : end ≢ why.WriteFault → end_of (turns_of bytes) ≡ text_end end
   pub drained : end ≡ why.End → IsAtEnd s'

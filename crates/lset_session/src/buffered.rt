@@ -1,7 +1,7 @@
-//! Sessions that buffer their answers. A plain session writes each answer before it makes the next call. Here the answers wait in
-//! a buffer of 4,096 bytes, and are written together: before the session reads again, when the buffer is full, and at the end of
-//! the session. A client that sends many lines at once causes only a few writes, and its answers are written before the session
-//! waits for its next line.
+//! Sessions that buffer their answers. A plain session writes each answer before it makes the next call. A buffered
+//! session collects its answers in a buffer of 4,096 bytes and writes them together: before it reads again, when the
+//! buffer is full, and when it ends. So a client that sends many lines at once causes only a few writes, and its
+//! answers are written before the session waits for its next line.
 ghost use Rattle.std.specs.Prelude.{◌≡◌, ◌≢◌, ◌<◌, ◌≤◌, IfSome, IsTrue, None, false, length, Option, List, ℕ};
 ghost use Rattle.lset_session.specs.Sessions.{IsSession};
 ghost use Rattle.lset_session.specs.declared.TheConstants.{MOST_LINES};
@@ -16,7 +16,7 @@ use std::sync::Wait;
 /// The size of the buffer in bytes.
 const ROOM: usize = 4096;
 
-/// A buffer of answers that are not written yet, their writer, and whether a write has failed.
+/// A buffer of answers that have not been written, their writer, and whether a write has failed.
 #[derive(Drop)]
 struct Buffer<O: Sink> {
     bytes: [u8; ROOM],
@@ -40,7 +40,7 @@ impl<O: Sink> Buffer<O> {
         }
     }
 
-    /// Writes the buffered answers, and returns whether all were written. Makes no further write after one that fails.
+    /// Writes the buffered answers, and returns whether all were written. Does not write again after a failed write.
     fn flush(&mut self) -> bool
         ensures { IsTrue result → self.new.len ≡ 0 }
     {
@@ -53,7 +53,7 @@ impl<O: Sink> Buffer<O> {
         whole
     }
 
-    /// Buffers a prefix of the text, as much as there is space for, and returns its length.
+    /// Copies as much of the text into the buffer as fits, and returns the number of bytes copied.
     fn put(&mut self, text: &[u8]) -> usize
         ensures bound { result ≤ length text.now }
         ensures some { self.old.len ≢ ROOM → 0 < length text.now → 0 < result }
@@ -65,8 +65,8 @@ impl<O: Sink> Buffer<O> {
         count
     }
 
-    /// Buffers a prefix of the text and returns its length. If the buffer is full, writes its answers first; returns `None` if
-    /// that fails.
+    /// Copies as much of the text into the buffer as fits, and returns the number of bytes copied. If the buffer is
+    /// full, writes its answers first, and returns `None` if that fails.
     fn write(&mut self, text: &[u8]) -> Option<usize>
         ensures { IfSome result (λ n. (n ≤ length text.now) × (0 < length text.now → 0 < n)) }
     {
@@ -77,7 +77,7 @@ impl<O: Sink> Buffer<O> {
     }
 }
 
-/// Writes the answers of the buffer, and returns whether all were written.
+/// Writes the buffer's answers, and returns whether all were written.
 fn flush<O: Sink>(buffer: &RefCell<Buffer<O>>) -> bool {
     match buffer.try_borrow_mut() {
         Ok(mut buffer) => buffer.flush(),
@@ -85,7 +85,7 @@ fn flush<O: Sink>(buffer: &RefCell<Buffer<O>>) -> bool {
     }
 }
 
-/// The reader of a buffered session: the buffered answers are written before each read.
+/// The reader of a buffered session. It writes the buffered answers before each read.
 #[derive(Drop)]
 struct Flushing<'a, I, O: Sink> {
     reader: I,
@@ -109,8 +109,8 @@ impl<I: Source, O: Sink> Source for Flushing<'_, I, O> {
     }
 }
 
-/// The writer of a buffered session: the answers go into the buffer. No contract knows the contents of a cell, so no contract
-/// states what was written.
+/// The writer of a buffered session. It puts answers into the buffer. No contract can see into a cell, so no contract
+/// states which bytes were written.
 #[derive(Drop)]
 struct Buffered<'a, O: Sink> {
     buffer: &'a RefCell<Buffer<O>>,
@@ -133,13 +133,13 @@ impl<O: Sink> Sink for Buffered<'_, O> {
     }
 }
 
-/// Serves one client as `session` does, and buffers up to 4,096 bytes of answers. It writes them before each read of `reader`,
-/// when the buffer is full, and at the end of the session. `reader` and `writer` must not have failed; `seat` must be a seat of
-/// `set`.
+/// Serves one client as `session` does, but buffers up to 4,096 bytes of answers. Writes them before each read of
+/// `reader`, when the buffer is full, and at the end of the session. `reader` and `writer` must not have failed, and
+/// `seat` must belong to `set`.
 ///
-/// If a write fails, the session ends with `WriteFault`, and no write follows. The written bytes are then a prefix of the
-/// answers. Calls whose answers were not written stay made, and are counted. Can block, as its set, its reader and its writer
-/// can. Does not allocate.
+/// If a write fails, the session ends with `WriteFault` and writes nothing more. The bytes written are then a prefix of
+/// the answers. Calls whose answers were not written have still been made, and are counted. Can block when its set, its
+/// reader or its writer does. Does not allocate.
 pub fn buffered_session<R: Wait, I: Source + Drop, O: Sink + Drop, S: SetCalls>(
     rt: &R,
     reader: I,
@@ -149,7 +149,8 @@ pub fn buffered_session<R: Wait, I: Source + Drop, O: Sink + Drop, S: SetCalls>(
 ) -> Ended
     requires seat { S.is_of set.now seat.old }
     requires works { (I.has_failed reader ≡ false) × (O.has_failed writer ≡ false) }
-    // [Session] holds of the bytes that were read and the calls that were made. Nothing is stated of the bytes that were written.
+    // [Session] holds for the bytes that were read and the calls that were made. Nothing is stated about the bytes that
+    // were written.
     ensures session { (end : Ending) × (left : Option (List ℕ)) × (result.why ≢ EndReason.WriteFault → result.why ≡ end)
         × IsSession end result.calls (I.remaining reader) left (S.record_of seat.old) (S.record_of seat.new) None None }
     ensures few { result.calls ≤ MOST_LINES }

@@ -1,20 +1,20 @@
-//! The reader and the writer of a session.
+//! Readers and writers of sessions.
 ghost use Rattle.std.specs.Prelude.{◌≡◌, ◌<◌, ◌≤◌, if◌then◌else◌, ℕ, List, Bool, true, false, Option, length, take, IfSome, MatchOption};
 ghost use Rattle.std.specs.Io.KnownBytes.{Appends, Consumes, IsAtEnd, Keeps};
 ghost use Rattle.lset_session.specs.Devices.{inner_of, is_failed, Writes};
 
 use std::io::{Read, Write};
 
-/// A reader of a session's bytes. It is not read from again after a read has failed.
+/// A reader of a session's bytes. After a failed read, it is not read again.
 pub trait Source {
-    /// The remaining bytes, if they are known.
+    /// The bytes that remain to be read, if they are known.
     ghost remaining: { Self → Option (List ℕ) };
 
     /// Whether a read has returned `None`.
     ghost has_failed: { Self → Bool };
 
-    /// Reads bytes into the front of `buffer` and returns their number. The number is 0 only at the end of the input, or if the
-    /// buffer is empty. Returns `None` if the read fails.
+    /// Reads bytes into `buffer`, from its first byte on, and returns how many. The number is 0 only at the end of the
+    /// input, or if the buffer is empty. Returns `None` if the read fails.
     fn read(&mut self, buffer: &mut [u8]) -> Option<usize>
         requires works { has_failed self.old ≡ false }
         ensures bound { IfSome result (λ n. n ≤ length buffer.new) }
@@ -24,16 +24,16 @@ pub trait Source {
         ensures failed { MatchOption result (has_failed self.new ≡ true) (λ n. has_failed self.new ≡ false) };
 }
 
-/// A writer of a session's answers. It is not written to again after a write has failed.
+/// A writer of a session's answers. After a failed write, it is not written to again.
 pub trait Sink {
-    /// The bytes that were written, if they are known.
+    /// The bytes that have been written, if they are known.
     ghost written: { Self → Option (List ℕ) };
 
     /// Whether a write has returned `None`.
     ghost has_failed: { Self → Bool };
 
-    /// Writes a prefix of `text` and returns its length, which is at least 1 if the text is not empty. Returns `None` if the
-    /// write fails; nothing was written then.
+    /// Writes a prefix of `text` and returns its length, which is at least 1 if the text is not empty. Returns `None`
+    /// if the write fails; nothing has been written then.
     fn write(&mut self, text: &[u8]) -> Option<usize>
         requires works { has_failed self.old ≡ false }
         ensures bound { IfSome result (λ n. (n ≤ length text.now) × (0 < length text.now → 0 < n)) }
@@ -42,8 +42,8 @@ pub trait Sink {
         ensures failed { MatchOption result (has_failed self.new ≡ true) (λ n. has_failed self.new ≡ false) };
 }
 
-/// A reader or writer of the standard library as a `Source` or `Sink`. An error is a failure, and so is a write that accepts none
-/// of the bytes given.
+/// Makes a standard library reader or writer a `Source` or `Sink`. Errors count as failures, and so does a write that
+/// accepts none of the bytes.
 #[derive(Drop)]
 pub struct Device<T> {
     inner: T,
@@ -51,7 +51,7 @@ pub struct Device<T> {
 }
 
 impl<T> Device<T> {
-    /// Returns the device of a reader or writer, which has not failed.
+    /// Wraps a reader or writer that has not failed.
     pub fn new(inner: T) -> Device<T>
         ensures inner { inner_of result ≡ inner }
         ensures works { is_failed result ≡ false }
@@ -98,7 +98,7 @@ impl<T: Write> Sink for Device<T> {
     }
 }
 
-/// Writes the text, and returns whether all of it was written. Makes no further write after one that fails.
+/// Writes the text, and returns whether all of it was written. Does not write again after a failed write.
 pub fn write_all<W: Sink>(sink: &mut W, text: &[u8]) -> bool
     requires works { W.has_failed sink.old ≡ false }
     ensures text { Writes result (W.written sink.old) (W.written sink.new) text.now }

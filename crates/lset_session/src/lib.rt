@@ -1,4 +1,5 @@
-//! Sessions: requests in lines and their answers, over any reader and writer, and on any set whose calls are made from seats.
+//! Sessions: a client sends requests, one on each line, and gets answers. Works with any reader and writer, and with
+//! any set whose calls are made from seats.
 #![tactic(auto)]
 
 mod buffered;
@@ -11,8 +12,8 @@ pub use devices::{Device, Sink, Source, write_all};
 pub use requests::{Request, read_request};
 pub use sessions::{EndReason, Ended, session};
 
-/// The maximum length of a line of a session, in bytes without its newline.
+/// The maximum length of a line in a session, in bytes without the newline.
 pub const LONGEST_LINE: usize = 64;
 
-/// The maximum number of lines of a session.
+/// The maximum number of lines that a session answers.
 pub const MOST_LINES: u32 = 1_000_000;

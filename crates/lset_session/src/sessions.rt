@@ -1,4 +1,4 @@
-//! Sessions: reads lines from a reader and writes their answers to a writer.
+//! Sessions: read lines from a reader, and write the answers to a writer.
 ghost use Rattle.std.specs.Prelude.{◌≡◌, ◌≤◌, ◌↔◌, ◌∷◌, [], Bool, true, false, IsTrue, if◌then◌else◌, length, None};
 ghost use Rattle.lset_words.specs.Records.{with_calls};
 ghost use Rattle.lset_session.specs.Devices.{Writes};
@@ -15,31 +15,32 @@ use itoa::Buffer;
 use lset_words::{Reply, SetCalls};
 use std::sync::Wait;
 
-/// The reason for the end of a session.
+/// The reason why a session ended.
 #[derive(Clone, Copy, Debug, PartialEq, Eq)]
 pub enum EndReason {
-    /// A line was `QUIT`; the answer was `BYE`.
+    /// A line was `QUIT`. The answer was `BYE`.
     Quit,
-    /// The input has ended. Bytes after the last newline were dropped.
+    /// The input ended. Bytes after the last newline were dropped.
     End,
-    /// A line has more than 64 bytes; the answer was `LONG`.
+    /// A line has more than 64 bytes. The answer was `LONG`.
     Long,
-    /// 1,000,000 lines were answered, and `LIMIT` was written.
+    /// The session answered 1,000,000 lines, and then wrote `LIMIT`.
     Limit,
-    /// A read has failed.
+    /// A read failed.
     ReadFault,
-    /// A write has failed. Only a part of the last answer was written: a prefix without its last byte, or nothing.
+    /// A write failed. Of the last answer, at most a proper prefix was written.
     WriteFault,
 }
 
-/// The end of a session: its reason, and the number of calls made.
+/// How a session ended: the reason, and the number of calls made.
 #[derive(Clone, Copy, Debug, PartialEq, Eq)]
 pub struct Ended {
     pub why: EndReason,
     pub calls: u64,
 }
 
-/// The state of a session: the bytes of the current line, how many more lines can be answered, and the number of calls made.
+/// The state of a session: the bytes of the current line, how many lines can still be answered, and the number of calls
+/// made.
 #[derive(Drop)]
 struct Talk {
     line: [u8; LONGEST_LINE],
@@ -93,7 +94,7 @@ fn answer<R: Wait, W: Sink, S: SetCalls>(
     }
 }
 
-/// Writes the last line of a session, and returns the reason for its end: `why`, or `WriteFault` if the write fails.
+/// Writes the last line of a session, and returns the reason why it ends: `why`, or `WriteFault` if the write fails.
 fn last_line<W: Sink>(writer: &mut W, text: &[u8], why: EndReason) -> EndReason
     requires works { W.has_failed writer.old ≡ false }
     ensures { (whole : Bool) × (result ≡ (if whole then why else EndReason.WriteFault))
@@ -117,7 +118,7 @@ fn count_of(request: Request) -> u64
     }
 }
 
-/// Answers the current line, which is complete. Returns `None` if the session continues.
+/// Answers the current line, which is complete. Returns `None` if the session continues afterwards.
 fn line_in<R: Wait, W: Sink, S: SetCalls>(
     rt: &R,
     writer: &mut W,
@@ -150,7 +151,7 @@ fn line_in<R: Wait, W: Sink, S: SetCalls>(
     None
 }
 
-/// Processes one byte. Returns `None` if the session continues.
+/// Processes one byte. Returns `None` if the session continues afterwards.
 fn byte_in<R: Wait, W: Sink, S: SetCalls>(
     rt: &R,
     writer: &mut W,
@@ -179,7 +180,7 @@ fn byte_in<R: Wait, W: Sink, S: SetCalls>(
     None
 }
 
-/// Processes the bytes of one read. Returns `None` if the session continues.
+/// Processes the bytes of one read. Returns `None` if the session continues afterwards.
 fn bytes_in<R: Wait, W: Sink, S: SetCalls>(
     rt: &R,
     writer: &mut W,
@@ -205,21 +206,21 @@ fn bytes_in<R: Wait, W: Sink, S: SetCalls>(
     None
 }
 
-/// Serves one client: reads lines from `reader`, makes their calls from `seat`, which must be a seat of `set`, and writes an
-/// answer for each line to `writer`. `reader` and `writer` must not have failed.
+/// Serves one client: reads lines from `reader`, makes their calls from `seat`, which must belong to `set`, and writes
+/// an answer for each line to `writer`. `reader` and `writer` must not have failed.
 ///
-/// Each line ends with a newline. A line `ADD k`, `REMOVE k`, `CONTAINS k` or `CEILING k` is answered by `TRUE`, `FALSE`, `FULL`,
-/// `AT x` (the key x) or `NONE` (no key). `QUIT` is answered by `BYE`, and any other line by `BAD`. Each answer is written as a
-/// whole before the next call is made.
+/// Each line ends with a newline. A line `ADD k`, `REMOVE k`, `CONTAINS k` or `CEILING k` is answered with `TRUE`,
+/// `FALSE`, `FULL`, `AT x` (the key x) or `NONE` (no key). `QUIT` is answered with `BYE`, and any other line with
+/// `BAD`. Each answer is written completely before the next call is made.
 ///
 /// The session ends with:
 /// - `Quit`: a line was `QUIT`;
-/// - `End`: the input has ended; bytes after the last newline were dropped;
+/// - `End`: the input ended; bytes after the last newline were dropped;
 /// - `Long`: a line has more than 64 bytes; the answer is `LONG`;
 /// - `Limit`: 1,000,000 lines were answered, the last was not `QUIT`, and `LIMIT` was written;
-/// - `ReadFault`, `WriteFault`: a read or a write failed. Calls that were made stay made, and are counted.
+/// - `ReadFault`, `WriteFault`: a read or a write failed. The calls made until then are counted.
 ///
-/// Can block, as its set, its reader and its writer can. Does not allocate.
+/// Can block when its set, its reader or its writer does. Does not allocate.
 pub fn session<R: Wait, I: Source, O: Sink, S: SetCalls>(
     rt: &R,
     reader: &mut I,
@@ -229,10 +230,10 @@ pub fn session<R: Wait, I: Source, O: Sink, S: SetCalls>(
 ) -> Ended
     requires seat { S.is_of set.now seat.old }
     requires works { (I.has_failed reader.old ≡ false) × (O.has_failed writer.old ≡ false) }
-    // [Session]: the calls that were made and the bytes that were written are those of the text that was read.
+    // [Session]: the calls made and the bytes written are those that the input requires.
     ensures session { IsSession result.why result.calls (I.remaining reader.old) (I.remaining reader.new)
         (S.record_of seat.old) (S.record_of seat.new) (O.written writer.old) (O.written writer.new) }
-    // The session ends with a fault exactly if the device has failed.
+    // The session ends with `ReadFault` or `WriteFault` if and only if the reader or the writer has failed.
     ensures read_fault { IsTrue (I.has_failed reader.new) ↔ (result.why ≡ EndReason.ReadFault) }
     ensures write_fault { IsTrue (O.has_failed writer.new) ↔ (result.why ≡ EndReason.WriteFault) }
     ensures few { result.calls ≤ MOST_LINES }

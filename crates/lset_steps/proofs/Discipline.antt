@@ -1,4 +1,4 @@
--- Proof: a machine whose every step is one of the allowed changes satisfies the law of a machine in every run.
+-- Proof: if every step of a machine is one of the allowed changes, the machine satisfies its law in every run.
 use Rattle.std.specs.Prelude.{◌≡◌, ◌≢◌, ℕ, ◌+◌, ◌%◌, ◌<◌, ◌≤◌, ◌⊎◌, ◌-◌, Bool, true, false, Option, Some, None, List}
 use Rattle.std.specs.Prelude.{slice_set, slice_index_or, length, refl, if◌then◌else◌, ◌==◌, ◌||◌}
 use Rattle.std.proofs.Common.{arith, inl, inr, sym, ◌∙◌, ap, subst, zero, suc, get_or-set_other, get_or-set_same, length-set}
@@ -25,19 +25,20 @@ use Rattle.lset_steps.proofs.MoveLaws.{move-changed, marked_stays, later_same, l
 use Rattle.lset_steps.proofs.Hindsight.{hindsight}
 use Rattle.lset_steps.proofs.Openings.{opening_local, none_used, opening_ordered, opening_memory}
 
--- An outline: the knowledge of a thread at a moment. Its arguments are the quota, the thread, the views up to now, the first
--- moment of the call, the moment now, the view now, whether the call has made its change, and the thread's private state.
+-- An outline states what a thread knows at a moment. Its arguments are the quota, the thread, the views up to now, the
+-- first moment of the call, the current moment, the current view, whether the call has made its change, and the
+-- thread's private state.
 abbrev pub Outline : Type 1
 Outline = ℕ → ℕ → (ℕ → View) → ℕ → ℕ → View → Bool → Local → Type 0
 
--- What holds of the words at a moment, whichever thread steps next.
+-- The facts about the words at a moment. They do not depend on which thread steps next.
 pub record Here (marks : Bool) (sz : Sizes) (vs : ℕ → View) (now : ℕ) (ws : List ℕ) (used : ℕ → ℕ) : Type 1 where
   pub limits : IsWithin sz
   pub memory : Memory marks sz ws used
   pub course : Course vs now
   pub present : vs now ≡ view sz ws used
 
--- What holds of thread t and its private state l at that moment.
+-- The facts about thread t and its private state `l` at that moment.
 pub record Thread (At : Outline) (sz : Sizes) (t : ℕ) (vs : ℕ → View) (first now : ℕ) (ws : List ℕ) (used : ℕ → ℕ)
     (done : Bool) (l : Local) : Type 0 where
   pub registers : Registers sz t l
@@ -45,7 +46,7 @@ pub record Thread (At : Outline) (sz : Sizes) (t : ℕ) (vs : ℕ → View) (fir
   pub begun : first ≤ now
   pub at : At sz.quota t vs first now (view sz ws used) done l
 
--- One step of thread t, with everything that it must keep.
+-- One step of thread t, with all facts that the step must preserve.
 pub record StepOf (T : Table) (marks : Bool) (At : Outline) (sz : Sizes) (t : ℕ) (vs : ℕ → View) (first : ℕ → ℕ) (now : ℕ)
     (ws : List ℕ) (used : ℕ → ℕ) (done : ℕ → Bool) (locals : ℕ → Local) : Type 0 where
   pub action : Action
@@ -66,11 +67,11 @@ pub record StepOf (T : Table) (marks : Bool) (At : Outline) (sz : Sizes) (t : �
   pub own : At sz.quota t vs (first t) (suc now) (view sz words' used') (done t || is_change effect) local'
   pub others : (u : ℕ) → u < sz.threads → u ≢ t → At sz.quota u vs (first u) (suc now) (view sz words' used') (done u) (locals u)
 
--- The outline held at some moment before the call begins.
+-- States that the outline held at some moment before the call began.
 abbrev pub Before : Outline → ℕ → ℕ → (ℕ → View) → View → Local → Type 0
 Before At q t vs v l = (first : ℕ) × (now : ℕ) × (done : Bool) × At q t vs first now v done l
 
--- The obligations of a list: the outline holds at the opening, and each begin and each step keeps it for every thread.
+-- What a list must prove: its outline holds at the opening, and each event preserves it for every thread.
 pub record Discipline (T : Table) (marks : Bool) (At : Outline) : Type 1 where
   pub idle_at : (op : Opening) → Opens op → (t : ℕ) (vs : ℕ → View)
       → At op.quota t vs 0 0 (view_of (sizes op) (opening op)) false (idle op.quota t)
@@ -88,7 +89,7 @@ pub record Discipline (T : Table) (marks : Bool) (At : Outline) : Type 1 where
       (locals t).pc ≢ 0
       → StepOf T marks At sz t vs first now ws used done locals
 
--- The course of a run extends by one more moment.
+-- The moments of a run can be extended by one more moment.
 course_more : (vs : ℕ → View) (s : ℕ) → Course vs s → KeepsNodes (vs s) (vs (suc s)) → KeepsMarked (vs s) (vs (suc s))
     → IsOrdered (vs (suc s)) → Course vs (suc s)
 course_more vs s r g m ord = record {
@@ -131,7 +132,7 @@ answered_on false q vs first now t call pc (Some r) a = (
       record { moment = f.moment; from = f.from; upto = (let u : f.moment ≤ now = f.upto in omega arith); fits = f.fits }),
 )
 
--- Choosing one of two by a test; and below, the state of thread t after thread u was assigned a new one.
+-- Lemmas about choosing between two values by a test, and about replacing one thread's state.
 pub pick_yes : {A : Type 0} (b : Bool) (x y : A) → b ≡ true → (if b then x else y) ≡ x
 pick_yes b x y e = rw e refl
 
@@ -144,7 +145,7 @@ put_same s t l h = get_or-set_same s.locals t l (idle 0 0) h
 pub put_other : (s : State) (t u : ℕ) (l : Local) → u ≢ t → slice_index_or (slice_set s.locals t l) u (idle 0 0) ≡ local_of s u
 put_other s t u l h = get_or-set_other s.locals t u l (idle 0 0) h
 
--- The invariant at moment k.
+-- The invariant of a run at moment k.
 pub record Inv (marks : Bool) (At : Outline) (sz : Sizes) (vs : ℕ → View) (k : ℕ) (s : State) (first : ℕ → ℕ)
     (done : ℕ → Bool) : Type 1 where
   pub memory : Memory marks sz s.words (used_in s)
@@ -382,7 +383,7 @@ module _ (T : Table) (marks : Bool) (At : Outline) (d : Discipline T marks At) (
               (answered_on (done t || is_change m.effect) op.quota vs (first t) k t _ m.local'.pc m.answer m.answered))));
         }
 
--- The laws of a machine, from the invariant.
+-- The invariant implies the laws of a machine.
 module _ (T : Table) (marks : Bool) (At : Outline) (d : Discipline T marks At) (op : Opening) (es : ℕ → Event) (last : ℕ)
     (r : Run T op es last) where
   next_inv : (k : ℕ) (e : Event) → es k ≡ e → Enabled (state_at T op es k) e

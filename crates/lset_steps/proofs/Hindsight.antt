@@ -1,5 +1,6 @@
--- Hindsight (after O'Hearn and others): if a node was in the chain at some moment of a call, then at some moment of the call it
--- was in the chain with the link word that it has now. The result of a walk was therefore true at a moment of the call.
+-- Hindsight (after O'Hearn and others): if a node was in the chain at some moment of a call, then at some moment of the
+-- call it was in the chain with the link word that it has now. So the result of a walk was true at some moment of the
+-- call.
 use Rattle.std.proofs.Common.{◌≡◌, ◌≢◌, ℕ, zero, suc, ◌+◌, ◌-◌, ◌/◌, ◌%◌, ◌<◌, ◌≤◌, ◌⊎◌, inl, inr, [], sym, refl, ap, subst, ◌∙◌, arith}
 use Rattle.lset_steps.specs.Chain.{View, InChain, IsOrdered, Seen}
 use Rattle.lset_steps.proofs.Moves.{KeepsNodes, Course, InPast, Had, Lacked}
@@ -22,7 +23,7 @@ later_published vs n b (suc d) m t r e l mb =
 pub key_stays : (vs : ℕ → View) (n b m t : ℕ) → Course vs n → m ≤ t → t ≤ n → (vs m).published b → (vs t).key b ≡ (vs m).key b
 key_stays vs n b m t r l h mb = (later_published vs n b (t - m) m t r (omega arith) h mb).1
 
--- A marked node keeps its link: a node that is unmarked now was unmarked before.
+-- A marked node keeps its link. So a node that is unmarked now was never marked before.
 marked_by : (vs : ℕ → View) (n b d m t : ℕ) → Course vs n → t ≡ m + d → t ≤ n → (vs m).published b → (vs m).link b % 2 ≡ 1
     → (vs t).link b ≡ (vs m).link b
 marked_by vs n b zero m t r e l p odd = let f : m ≡ t = omega arith in subst (λ x. (vs x).link b ≡ (vs m).link b) f refl
@@ -42,7 +43,8 @@ unmarked_before vs n b m t r l h p even = elim (even_or_not ((vs m).link b)) [
     even_or_not : (x : ℕ) → (x % 2 ≡ 0) ⊎ (x % 2 ≡ 1)
     even_or_not x = grind arith
 
--- Hindsight: the link that is read from a node that was in the chain is one that the node had in the chain.
+-- Hindsight: if a node was once in the chain, each link read from it later is one that it had while it was in the
+-- chain.
 hindsight-by : (vs : ℕ → View) (n b d m t : ℕ) → Course vs n → t ≡ m + d → t ≤ n → InChain (vs m) b
     → Seen vs m t b ((vs t).link b)
 hindsight-by vs n b zero m t r e l i =
@@ -73,7 +75,7 @@ hindsight vs n first now b r l p =
     let d : p.at ≤ s.at = s.from in
     record { at = s.at; from = omega arith; upto = s.upto; in_chain = s.in_chain; link = s.link }
 
--- The next node after a link that was read was in the chain, too.
+-- If a node was in the chain with the link l, the node to which l leads was in the chain, too.
 pub next_in_past : (vs : ℕ → View) (first now b l : ℕ) → b ≢ 1 → Seen vs first now b l → InPast vs first now (l / 2)
 next_in_past vs first now b l n s = record {
   at = s.at;
@@ -82,7 +84,7 @@ next_in_past vs first now b l n s = record {
   in_chain = chain_on (vs s.at) b (l / 2) (l / 2) [] s.in_chain n (ap (λ x. x / 2) s.link) refl;
 }
 
--- A node that was in the chain up to now was in the chain up to any later moment.
+-- A node that was in the chain at some moment up to now was in the chain at some moment up to any later moment.
 abbrev pub in_past_on : (vs : ℕ → View) (first now later b : ℕ) → now ≤ later → InPast vs first now b → InPast vs first later b
 in_past_on vs first now later b l s =
     record { at = s.at; from = s.from; upto = (let u : s.at ≤ now = s.upto in omega arith); in_chain = s.in_chain }
@@ -91,7 +93,7 @@ abbrev pub seen_on : (vs : ℕ → View) (first now later b l : ℕ) → now ≤
 seen_on vs first now later b k l s =
     record { at = s.at; from = s.from; upto = (let u : s.at ≤ now = s.upto in omega arith); in_chain = s.in_chain; link = s.link }
 
--- A contains that stopped at a gap: at some moment of the call the set lacked the key.
+-- If a contains stops at a gap between two keys, the set did not have its key at some moment of the call.
 pub lacked_between : (vs : ℕ → View) (n first now a l k : ℕ) → Course vs n → now ≤ n → a ≢ 1 → Seen vs first now a l
     → (vs now).key a < k + 1 → k + 1 < (vs now).key (l / 2) → Lacked vs first now k
 lacked_between vs n first now a l k r le na s lo hi =
@@ -111,7 +113,7 @@ lacked_between vs n first now a l k r le na s lo hi =
           gap (vs s.at) ord a c.0 s.in_chain c.1 na (omega arith) (omega arith);
     }
 
--- A contains that found its key unmarked: at some moment of the call the set had the key.
+-- If a contains finds its key unmarked, the set had the key at some moment of the call.
 pub had_at : (vs : ℕ → View) (n first now b k : ℕ) → Course vs n → now ≤ n → InPast vs first now b → 1 < b
     → (vs now).key b ≡ k + 1 → (vs now).link b % 2 ≡ 0 → Had vs first now k
 had_at vs n first now b k r le p user kb even =
@@ -127,7 +129,7 @@ had_at vs n first now b k r le p user kb even =
       has = (b, s.in_chain, user, sym ks ∙ kb, ap (λ x. x % 2) s.link ∙ even);
     }
 
--- A contains that found its key marked: at some moment of the call the set lacked the key.
+-- If a contains finds its key marked, the set did not have the key at some moment of the call.
 pub lacked_at : (vs : ℕ → View) (n first now b k : ℕ) → Course vs n → now ≤ n → InPast vs first now b
     → (vs now).key b ≡ k + 1 → (vs now).link b % 2 ≡ 1 → Lacked vs first now k
 lacked_at vs n first now b k r le p kb odd =

@@ -1,4 +1,4 @@
--- The effect of marking a node of the chain: on the order, the chain and the content.
+-- How marking a node of the chain affects the order of keys, the chain and the content.
 use Rattle.std.proofs.Common.{◌≡◌, ◌≢◌, ℕ, ◌+◌, ◌/◌, ◌%◌, ◌<◌, ◌≤◌, inl, inr, sym, ap, subst, ◌∙◌, arith}
 use Rattle.lset_words.proofs.Numbers.{same_or_not}
 use Rattle.lset_steps.specs.Chain.{View, InChain, InContent, IsOrdered}

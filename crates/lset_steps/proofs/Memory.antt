@@ -1,4 +1,4 @@
--- The changes that a step can make to the words, and the words that it leaves unchanged.
+-- How a step can change the words, and which words it does not change.
 use Rattle.std.specs.Prelude.{◌≡◌, ◌≢◌, ℕ, ◌+◌, ◌*◌, ◌/◌, ◌%◌, ◌<◌, ◌≤◌, ◌⊎◌, Bool, true, false, Option, Some, None, List, []}
 use Rattle.std.specs.Prelude.{slice_index, slice_set, length, refl, if◌then◌else◌, ◌==◌}
 use Rattle.std.proofs.Common.{arith, inl, inr, sym, ◌∙◌, ap, subst, length-set}
@@ -20,7 +20,7 @@ use Rattle.lset_steps.proofs.MoveLaws.{move-ordered, move-goes, tail_stays, mark
 use Rattle.lset_steps.proofs.AfterWrite.{key_after_key, key_after_link, key_after_lock, link_after_key, link_after_link}
 use Rattle.lset_steps.proofs.AfterWrite.{link_after_lock, not_key, not_link, set_same}
 
--- Slots of two threads are different nodes.
+-- Slots of different threads are different nodes.
 pub row_once : (q t u i j : ℕ) → i < q → j < q → t * q + i ≡ u * q + j → (t ≡ u) × (i ≡ j)
 row_once q t u i j a b e =
     let r : t ≡ u = grind arith in
@@ -31,7 +31,7 @@ row_once q t u i j a b e =
 slot_in : (sz : Sizes) (t j : ℕ) → t < sz.threads → j < sz.quota → slot_node sz.quota t j < opening_node sz 0
 slot_in sz t j h k = let z : t * sz.quota + j < sz.threads * sz.quota = grind arith in omega arith
 
--- The slot that a thread uses next.
+-- Returns the slot that a thread uses next.
 abbrev pub own_of : ℕ → ℕ → (ℕ → ℕ) → ℕ
 own_of q t used = slot_node q t (used t)
 
@@ -44,11 +44,11 @@ one_more_same used t = grind (arith, nat_tests)
 pub one_more_other : (used : ℕ → ℕ) (t u : ℕ) → u ≢ t → one_more used t u ≡ used u
 one_more_other used t u d = grind (arith, nat_tests)
 
--- The action writes x to word i.
+-- States that the action writes x to word i.
 abbrev pub Writes : List ℕ → Action → ℕ → ℕ → Type 0
 Writes ws a i x = (a ≡ Store i x) ⊎ (a ≡ Exchange i (slice_index ws i) x)
 
--- The steps of thread t: the action, the words and counts after it, and the change of the content.
+-- The possible steps of thread t: each action with the words and counts after it, and the change of the content.
 pub data WordStep (marks : Bool) (sz : Sizes) (t : ℕ) (ws : List ℕ) (used : ℕ → ℕ) : Action → List ℕ → (ℕ → ℕ)
     → Option (Key × Bool) → Type 0 where
   reads : (x : ℕ) → x < word_count sz → WordStep marks sz t ws used (Load x) ws used None
@@ -82,7 +82,7 @@ pub data WordStep (marks : Bool) (sz : Sizes) (t : ℕ) (ws : List ℕ) (used : 
       → node_link ws p ≡ 2 * c → node_link ws c / 2 ≡ d → node_key ws c ≡ key_word_of k
       → WordStep marks sz t ws used a (slice_set ws (link_index p) (2 * d)) used (Some (k, false))
 
--- The invariant of the words in every world of a run.
+-- The invariant of the words at every moment of a run.
 pub record Memory (marks : Bool) (sz : Sizes) (ws : List ℕ) (used : ℕ → ℕ) : Type 0 where
   pub words : length ws ≡ word_count sz
   pub room : (t : ℕ) → t < sz.threads → used t ≤ sz.quota
@@ -91,7 +91,7 @@ pub record Memory (marks : Bool) (sz : Sizes) (ws : List ℕ) (used : ℕ → �
   pub tail_key : node_key ws 1 ≡ tail_word
   pub tail_link : node_link ws 1 ≡ 2
   pub marked : UnmarkedInChain marks (view sz ws used)
-  -- In a list that does not mark nodes no link is marked, not even the link of an unused slot.
+  -- In a list that does not mark nodes, no link is marked, not even that of an unused slot.
   pub unmarked : marks ≡ false → (i : ℕ) → i < node_count sz → node_link ws i % 2 ≡ 0
 
 module _ (marks : Bool) (sz : Sizes) (ws : List ℕ) (used : ℕ → ℕ) (m : Memory marks sz ws used) where
@@ -139,7 +139,7 @@ module _ (marks : Bool) (sz : Sizes) (ws : List ℕ) (used : ℕ → ℕ) (m : M
   pub own_in : (t : ℕ) → t < sz.threads → used t < sz.quota → own_of sz.quota t used < node_count sz
   own_in t h r = let z : slot_node sz.quota t (used t) < opening_node sz 0 = slot_in sz t (used t) h r in omega arith
 
-  -- A node whose key word is below that of a key is not the tail.
+  -- If a node's key word is smaller than some call's, the node is not the tail.
   pub inner : (a k : ℕ) → node_key ws a < k → k < tail_word → a ≢ 1
   inner a k x y e = let z : node_key ws a ≡ node_key ws 1 = ap (node_key ws) e in
       let w : node_key ws 1 ≡ tail_word = m.tail_key in omega arith
@@ -211,7 +211,7 @@ grown_from sz t used i (inr (inl h)) = elim (same_or_not h.0 t) [
         let c : one_more used t h.0 ≡ used t + 1 = rw a (one_more_same used t) in
         grind arith
 
--- The words after an action that writes x to word i.
+-- Lemmas about the words after an action that writes x to word i.
 module _ (ws : List ℕ) where
   written : (a : Action) (i x : ℕ) → Writes ws a i x → left_by ws a ≡ slice_set ws i x
   written a i x (inl e) = rw e refl
@@ -323,7 +323,7 @@ module _ (marks : Bool) (sz : Sizes) (ws : List ℕ) (used : ℕ → ℕ) (m : M
   even_at c e at = let z : UnmarkedInChain false (view sz ws used) =
       subst (λ b. UnmarkedInChain b (view sz ws used)) e m.marked in z c (chain_published c at)
 
-  -- Each step is a move.
+  -- Each step makes one of the moves of `Moves`.
   pub moved : (a : Action) (ws' : List ℕ) (used' : ℕ → ℕ) (ch : Option (Key × Bool)) → WordStep marks sz t ws used a ws' used' ch
       → Move marks (view sz ws used) (view sz ws' used') ch
   moved a ws' used' ch (reads x i) = quiet
@@ -387,7 +387,7 @@ module _ (marks : Bool) (sz : Sizes) (ws : List ℕ) (used : ℕ → ℕ) (m : M
   lock_use a ws' used' ch (cuts b p c d w at first inn follows next) = no_lock ws a t p (2 * d) w
   lock_use a ws' used' ch (drops b p c d k y w at first inn follows next key) = no_lock ws a t p (2 * d) w
 
-  -- The step changes the thread's own count as its change of the content requires.
+  -- The thread's own count changes as the step's change of the content requires.
   pub mine_counted : (a : Action) (ws' : List ℕ) (used' : ℕ → ℕ) (ch : Option (Key × Bool))
       → WordStep marks sz t ws used a ws' used' ch → used' t ≡ count_after ch (used t)
   mine_counted a ws' used' ch (puts b p c k w at nt follows r ready key above under) = one_more_same used t
@@ -421,7 +421,7 @@ module _ (marks : Bool) (sz : Sizes) (ws : List ℕ) (used : ℕ → ℕ) (m : M
   same_length a ws' used' ch (cuts b p c d w at first inn follows next) = length-set ws (link_index p) (2 * d)
   same_length a ws' used' ch (drops b p c d k y w at first inn follows next key) = length-set ws (link_index p) (2 * d)
 
-  -- Writing an even word to one link keeps an even link even.
+  -- If an even value is written to one link, even links stay even.
   even_link : (p x i : ℕ) → p < node_count sz → x % 2 ≡ 0 → node_link ws i % 2 ≡ 0
       → node_link (slice_set ws (link_index p) x) i % 2 ≡ 0
   even_link p x i inn even before = elim (same_or_not i p) [

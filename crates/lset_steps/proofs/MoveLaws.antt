@@ -1,4 +1,4 @@
--- The properties that every move keeps.
+-- Properties that every move preserves.
 use Rattle.std.proofs.Common.{◌≡◌, ℕ, ◌%◌, ◌<◌, Bool, true, false, inl, inr, sym, refl, ap, subst, ◌∙◌, arith, Option, ◌*◌, ◌/◌}
 use Rattle.lset_words.proofs.Numbers.{same_or_not}
 use Rattle.lset_words.specs.declared.Key.{Key}
@@ -27,7 +27,7 @@ module _ (marks : Bool) (v w : View) (ord : IsOrdered v) where
   move-goes ch (clears pred curr q m) = unlink-goes v w ord pred curr q
   move-goes ch (removes pred curr k y q m u e) = unlink-goes v w ord pred curr q
 
-  -- The content changes exactly as the move states.
+  -- The content changes exactly as the move declares.
   pub move-changed : (ch : Option (Key × Bool)) → Move marks v w ch → Changed ch v w
   move-changed ch (quiet q) = λ j. (quiet_content v w ord q j, quiet_content w v (quiet-ordered v w ord q) (quiet_back v w q) j)
   move-changed ch (inserts pred own k q) = (
@@ -75,7 +75,7 @@ tail_stays marks v w ord ch (removes pred curr k y q m u e) = q.links 1 ord.tail
 not_both : {A : Type 0} (b : Bool) → b ≡ true → b ≡ false → A
 not_both b x y = absurd (let z : true ≡ false = sym x ∙ y in cc)
 
--- In a list that marks nodes, each unmarked published node is still in the chain.
+-- In a list that marks nodes, each unmarked published node stays in the chain.
 module _ (v w : View) (ord : IsOrdered v) where
   live_stays : (ch : Option (Key × Bool)) → Move true v w ch → UnmarkedInChain true v → UnmarkedInChain true w
   live_stays ch (quiet q) h b mb e =
@@ -114,7 +114,7 @@ pub marked_after : (marks : Bool) (v w : View) → IsOrdered v → (ch : Option 
 marked_after true v w ord ch m h = live_stays v w ord ch m h
 marked_after false v w ord ch m h = plain_stays v w ord ch m h
 
--- UnlinkedStays holds of a published node over one move, and over many.
+-- `UnlinkedStays` holds of a published node across one move and across any number of moves.
 pub later_same : (marks : Bool) (v : View) (i : ℕ) → v.published i → UnlinkedStays marks v v i
 later_same marks v i m = record { published = m; key = refl; unlinked = λ c. (refl, c); marked = λ e o. refl }
 

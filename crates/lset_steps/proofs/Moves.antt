@@ -1,25 +1,25 @@
--- The moves of a list, the changes that one step can make to its nodes, and the knowledge of the past that a thread can have. The
--- laws are proved from this theory; a reader of the laws does not need it.
+-- The moves of a list: how one step can change its nodes, and what a thread can know about the past. The laws are
+-- proved from these definitions. To read the laws, you do not need them.
 use Rattle.std.specs.Prelude.{◌≡◌, ◌≢◌, ℕ, ◌+◌, ◌*◌, ◌/◌, ◌%◌, ◌<◌, ◌≤◌, ◌⊎◌, Bool, true, false, Option, Some, None}
 use Rattle.lset_words.specs.declared.Key.{Key}
 use Rattle.lset_steps.specs.Chain.{View, InChain, InContent, IsOrdered, Seen}
 
--- The properties that each step keeps: keys do not change, no node returns to the chain, and a link changes only if its node is
--- in the chain before and after the step.
+-- What each step preserves: keys do not change, no node returns to the chain, and a link changes only if its node is in
+-- the chain both before and after the step.
 pub record KeepsNodes (v w : View) : Type 0 where
   pub keys : (i : ℕ) → v.published i → w.key i ≡ v.key i
   pub grows : (i : ℕ) → v.published i → w.published i
   pub kept : (b : ℕ) → v.published b → (w.link b ≡ v.link b) ⊎ (InChain v b × InChain w b)
   pub back : (b : ℕ) → v.published b → InChain w b → InChain v b
 
--- A quiet move: no published node changes.
+-- A quiet move changes no published node.
 pub record Quiet (v w : View) : Type 0 where
   pub keys : (i : ℕ) → v.published i → w.key i ≡ v.key i
   pub links : (i : ℕ) → v.published i → w.link i ≡ v.link i
   pub grows : (i : ℕ) → v.published i → w.published i
   pub published_from : (i : ℕ) → w.published i → v.published i
 
--- An insertion: the node `own`, with key k, is linked between pred and the next of pred.
+-- An insertion links the node `own`, with key k, between pred and the node after pred.
 pub record Inserts (v w : View) (pred own k : ℕ) : Type 0 where
   pub keys : (i : ℕ) → v.published i → w.key i ≡ v.key i
   pub links : (i : ℕ) → v.published i → i ≢ pred → w.link i ≡ v.link i
@@ -37,7 +37,7 @@ pub record Inserts (v w : View) (pred own k : ℕ) : Type 0 where
   pub own_published : w.published own
   pub published_from : (i : ℕ) → w.published i → v.published i ⊎ (i ≡ own)
 
--- A marking: node b, with key k, is marked.
+-- A marking sets the mark of node b, whose key is k.
 pub record Marks (v w : View) (b k : ℕ) : Type 0 where
   pub keys : (i : ℕ) → v.published i → w.key i ≡ v.key i
   pub links : (i : ℕ) → v.published i → i ≢ b → w.link i ≡ v.link i
@@ -49,7 +49,7 @@ pub record Marks (v w : View) (b k : ℕ) : Type 0 where
   pub grows : (i : ℕ) → v.published i → w.published i
   pub published_from : (i : ℕ) → w.published i → v.published i
 
--- An unlinking: curr, the next of pred, is unlinked.
+-- An unlinking removes curr, the node after pred, from the chain.
 pub record Unlinks (v w : View) (pred curr : ℕ) : Type 0 where
   pub keys : (i : ℕ) → v.published i → w.key i ≡ v.key i
   pub links : (i : ℕ) → v.published i → i ≢ pred → w.link i ≡ v.link i
@@ -62,7 +62,7 @@ pub record Unlinks (v w : View) (pred curr : ℕ) : Type 0 where
   pub grows : (i : ℕ) → v.published i → w.published i
   pub published_from : (i : ℕ) → w.published i → v.published i
 
--- The moves of a list that marks nodes or does not, each with its change of the content.
+-- The moves of a list, each with its change of the content. `marks` is whether the list marks nodes.
 pub data Move (marks : Bool) (v w : View) : Option (Key × Bool) → Type 0 where
   quiet : Quiet v w → Move marks v w None
   inserts : (pred own : ℕ) (k : Key) → Inserts v w pred own k.0 → Move marks v w (Some (k, true))
@@ -71,44 +71,46 @@ pub data Move (marks : Bool) (v w : View) : Option (Key × Bool) → Type 0 wher
   removes : (pred curr : ℕ) (k : Key) → marks ≡ false → Unlinks v w pred curr → v.link curr % 2 ≡ 0 → 1 < curr
       → v.key curr ≡ k.0 + 1 → Move marks v w (Some (k, false))
 
--- A marked node keeps its link.
+-- States that each marked node keeps its link.
 abbrev pub KeepsMarked : View → View → Type 0
 KeepsMarked v w = (b : ℕ) → v.published b → v.link b % 2 ≡ 1 → w.link b ≡ v.link b
 
--- The worlds at the moments 0 to n of a run.
+-- The views at the moments 0 to n of a run. Each view is ordered, and each step has the properties of `KeepsNodes` and
+-- `KeepsMarked`.
 pub record Course (vs : ℕ → View) (n : ℕ) : Type 0 where
   pub ordered : (t : ℕ) → t ≤ n → IsOrdered (vs t)
   pub goes : (t : ℕ) → t < n → KeepsNodes (vs t) (vs (t + 1))
   pub marked : (t : ℕ) → t < n → KeepsMarked (vs t) (vs (t + 1))
 
--- At some moment from `first` to `now`, node b was in the chain.
+-- Node b was in the chain at some moment from `first` to `now`.
 pub record InPast (vs : ℕ → View) (first now b : ℕ) : Type 0 where
   pub at : ℕ
   pub from : first ≤ at
   pub upto : at ≤ now
   pub in_chain : InChain (vs at) b
 
--- At some moment from `first` to `now`, k was in the content.
+-- Key k was in the content at some moment from `first` to `now`.
 pub record Had (vs : ℕ → View) (first now k : ℕ) : Type 0 where
   pub at : ℕ
   pub from : first ≤ at
   pub upto : at ≤ now
   pub has : InContent (vs at) k
 
--- At some moment from `first` to `now`, k was not in the content.
+-- Key k was not in the content at some moment from `first` to `now`.
 pub record Lacked (vs : ℕ → View) (first now k : ℕ) : Type 0 where
   pub at : ℕ
   pub from : first ≤ at
   pub upto : at ≤ now
   pub lacks : InContent (vs at) k → ⊥
 
--- The knowledge of a contains of k, begun at `first`, at the moment `now` before it loads the link of curr: curr was in the chain
--- with a key below k.
+-- What a contains of k knows before it loads the link of curr: curr was in the chain, and its key is smaller than k.
+-- The call began at `first`.
 pub record At20 (vs : ℕ → View) (first now k curr : ℕ) : Type 0 where
   pub past : InPast vs first now curr
   pub low : (vs past.at).key curr < k + 1
 
--- The knowledge before the load of curr's key: the call has loaded a link to curr from a node with a key below k.
+-- What a contains knows before it loads the key of curr: it has loaded a link to curr from a node whose key is smaller
+-- than k.
 pub record At21 (vs : ℕ → View) (first now k curr : ℕ) : Type 0 where
   pub from : ℕ
   pub word : ℕ
@@ -116,13 +118,14 @@ pub record At21 (vs : ℕ → View) (first now k curr : ℕ) : Type 0 where
   pub next : word / 2 ≡ curr
   pub low : (vs seen.at).key from < k + 1
 
--- The knowledge before the load of curr's mark: curr has the key k, and was in the chain at some moment of the call.
+-- What a contains knows before it loads the mark of curr: curr has the key k and was in the chain at some moment of the
+-- call.
 pub record At22 (vs : ℕ → View) (first now k curr : ℕ) : Type 0 where
   pub past : InPast vs first now curr
   pub found : (vs past.at).key curr ≡ k + 1
 
--- The knowledge of a ceiling of k before it loads the mark of curr: curr was in the chain, and has the key word ckey, which is
--- not below k.
+-- What a ceiling of k knows before it loads the mark of curr: curr was in the chain, and its key word is ckey, which is
+-- at least k.
 pub record At25 (vs : ℕ → View) (first now k curr ckey : ℕ) : Type 0 where
   pub past : InPast vs first now curr
   pub walk : At21 vs first now k curr

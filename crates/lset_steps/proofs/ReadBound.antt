@@ -1,5 +1,5 @@
--- Proof that a contains is bounded: the keys that it reads increase, so it visits no node twice, and the number of nodes is
--- bounded.
+-- Proof that a contains makes a bounded number of steps. The keys that it reads increase, so it visits no node twice,
+-- and the number of nodes is bounded.
 use Rattle.std.specs.Prelude.{◌≡◌, ◌≢◌, ℕ, ◌+◌, ◌*◌, ◌/◌, ◌%◌, ◌<◌, ◌≤◌, ◌⊎◌, Bool, true, false, if◌then◌else◌, ◌==◌, slice_set}
 use Rattle.std.specs.Prelude.{slice_index_or, length, refl}
 use Rattle.std.proofs.Common.{arith, inl, inr, sym, ◌∙◌, ap, subst, zero, suc, get_or-set_other, get_or-set_same}
@@ -23,7 +23,7 @@ use Rattle.lset_steps.specs.Rows.{ceiling_at}
 use Rattle.lset_steps.proofs.ReadTables.{HasReadRows, IsReadRow}
 use Rattle.lset_steps.specs.BoundedReads.{BoundedReads, ReadsNext, steps_after, steps_since}
 
--- The number of numbers below n with the property f.
+-- Returns how many numbers below n satisfy f.
 abbrev count : (ℕ → Bool) → ℕ → ℕ
 count f zero = 0
 count f (suc n) = (if f n then 1 else 0) + count f n
@@ -72,7 +72,7 @@ true_or_false : (b : Bool) → (b ≡ true) ⊎ (b ≡ false)
 true_or_false true = inl refl
 true_or_false false = inr refl
 
--- `amount` published nodes were visited, all with key words below `below`.
+-- The number of published nodes visited so far is `amount`. All their key words are smaller than `below`.
 record Tally (v : View) (size below amount : ℕ) : Type 0 where
   met : ℕ → Bool
   are : (i : ℕ) → met i ≡ true → v.published i × (v.key i < below)
@@ -103,7 +103,7 @@ tally_more {v} {size} {amount} c p l a = record {
   ]) ∙ ap (λ k. suc k) a.amount_is;
 }
 
--- If the tail was not visited, fewer nodes were visited than there are.
+-- If the tail has not been visited, the number of visited nodes is smaller than the number of nodes.
 tally_few : {v : View} {size below amount : ℕ} → v.published 1 → 1 < size → below ≤ v.key 1 → Tally v size below amount
     → amount < size
 tally_few {v} {size} {below} {amount} p l le a =
@@ -112,7 +112,7 @@ tally_few {v} {size} {below} {amount} p l le a =
     let e : count b.met size ≡ suc amount = b.amount_is in
     omega arith
 
--- A published node stays published and keeps its key.
+-- States that published nodes stay published and keep their keys.
 abbrev Later : View → View → Type 0
 Later v w = (i : ℕ) → v.published i → w.published i × (w.key i ≡ v.key i)
 
@@ -125,11 +125,12 @@ tally_on {v} {w} {size} {below} g a = record {
   amount_is = a.amount_is;
 }
 
--- The rows of a ceiling.
+-- States that the row is one of a ceiling.
 abbrev IsCeilingRow : ℕ → Type 0
 IsCeilingRow pc = (pc ≡ 23) ⊎ (pc ≡ 24) ⊎ (pc ≡ 25)
 
--- The progress of a thread after `steps` steps of its call. For a contains: how many nodes it has visited, at each of its rows.
+-- How far a thread's call has come after `steps` steps. For a contains, each row states how many nodes have been
+-- visited.
 data Walked (v : View) (size steps : ℕ) (l : Local) : Type 0 where
   resting : l.pc ≡ 0 → Walked v size steps l
   writing : (IsRead l.call → ⊥) → Walked v size steps l
@@ -163,7 +164,7 @@ module _ (T : Table) (law : Lawful T) (rows : HasReadRows T) (op : Opening) wher
   abbrev size : ℕ
   size = node_count (sizes op)
 
-  -- A step of thread t, in the view before the step.
+  -- A step of thread t. `s` is the state before it.
   module _ (s : State) (o : StateLaws T.marks (sizes op) s) (t : ℕ) (th : t < op.threads) (steps : ℕ) where
     abbrev V : View
     V = view_of (sizes op) s
@@ -260,7 +261,7 @@ module _ (T : Table) (law : Lawful T) (rows : HasReadRows T) (op : Opening) wher
               (resting refl)
         ]
 
-  -- Beginning a call: no step is made yet.
+  -- When a call begins, it has made no step.
   starts : (s : State) (o : StateLaws T.marks (sizes op) s) (call : Call) (l : Local) →
       Walked (view_of (sizes op) s) size 0 (T.begin call l)
   starts s o (Add k) l = writing (λ r. subst IsRead (law.begins (Add k) l).called r)
@@ -293,7 +294,7 @@ module _ (T : Table) (law : Lawful T) (rows : HasReadRows T) (op : Opening) wher
     opening_local : local_of (state_at T op es 0) t ≡ idle op.quota t
     opening_local = get_or-map-range_with_len (idle op.quota) 0 op.threads t t (idle 0 0) th (omega arith)
 
-    -- One event, in the view before the event.
+    -- After one more event, `Walked` still describes the thread's progress.
     walked_after : (k : ℕ) → k < last → (e : Event) → es k ≡ e → Enabled (state_at T op es k) e
         → Walked (views T op es k) size (steps_since es t k) (local_of (state_at T op es k) t)
         → Walked (views T op es k) size (steps_after e t (steps_since es t k)) (local_of (after T (state_at T op es k) e) t)
@@ -384,7 +385,7 @@ pub bounded_reads : (T : Table) → Lawful T → HasReadRows T → BoundedReads 
 bounded_reads T law rows op last k t es r l th busy reads =
     reads_next T law rows op es last r t th k l busy reads (walked_at T law rows op es last r t th k l)
 
--- A pending contains or ceiling is at one of its rows.
+-- A pending contains or ceiling is at a row of its own.
 row_of : {v : View} {size steps : ℕ} {l : Local} → l.pc ≢ 0 → IsRead l.call → Walked v size steps l → IsReadRow l.pc
 row_of busy reads (resting e) = absurd (busy e)
 row_of busy reads (writing c) = absurd (c reads)

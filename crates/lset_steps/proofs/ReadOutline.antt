@@ -1,5 +1,5 @@
--- The proof outline of a contains without locks, and the proof that each row keeps it. The reply is correct at a moment of the
--- call, which can be a step of another thread (after O'Hearn and others).
+-- The proof outline of a contains without locks, and the proof that each row preserves it. The call's reply is correct
+-- at some moment of the call. That moment can be a step of another thread (after O'Hearn and others).
 use Rattle.std.specs.Prelude.{◌≡◌, ◌≢◌, ℕ, suc, ◌-◌, ◌==◌, if◌then◌else◌, ◌/◌, ◌%◌, ◌<◌, ◌≤◌, ◌⊎◌, Bool, false, None, List, [], refl}
 use Rattle.std.proofs.Common.{arith, inl, inr, sym, ◌∙◌, ap, subst}
 use Rattle.lset_words.proofs.Numbers.{same_or_not, below_or_not, if_below, if_not_below, if_same, if_other}
@@ -59,18 +59,18 @@ reading_on {vs} {first} {now} {done} {l} (reads24 e d c a) =
 reading_on {vs} {first} {now} {done} {l} (reads25 e d c a) =
     reads25 e d c (at25_on vs first now (suc now) (key_of l.call).0 l.curr l.ckey (omega arith) a)
 
--- The law of beginning a call holds.
+-- Beginning a call satisfies the law of beginnings.
 pub begun_reading_is : (call : Call) (l : Local) → BeginLaws begun_reading call l
 begun_reading_is (Add k) l = record { called = refl; used = refl; opened = λ e. omega arith; alike = refl }
 begun_reading_is call l = record { called = refl; used = refl; opened = λ e. omega arith; alike = refl }
 
--- At the head, the outline holds before the first load.
+-- A walk starts at the head, where the outline holds before the first load.
 at_head : (vs : ℕ → View) (first now : ℕ) (v : View) (k : ℕ) → first ≤ now → vs now ≡ v → v.key 0 ≡ 0 → At20 vs first now k 0
 at_head vs first now v k from present head =
     let low : (vs now).key 0 ≡ 0 = ap (λ x. x.key 0) present ∙ head in
     record { past = record { at = now; from = from; upto = omega arith; in_chain = ([], refl) }; low = omega arith }
 
--- A call begins at row 1, or at the first row of a read.
+-- A call begins at row 1 or, if it is a contains or a ceiling, at the first of its own rows.
 pub call_begins : (At : Outline) (q t : ℕ) (vs : ℕ → View) (now : ℕ) (v : View) (call : Call) (l : Local) → vs now ≡ v →
     v.key 0 ≡ 0
     → ((l' : Local) → l'.pc ≡ 1 → At q t vs now now v false l')
@@ -83,7 +83,8 @@ call_begins At q t vs now v (Contains k) l e z walks reads =
 call_begins At q t vs now v (Ceiling k) l e z walks reads =
     reads (begun_reading (Ceiling k) l) (reads23 refl refl refl (at_head vs now now v k.0 (omega arith) e z))
 
--- The reply of a contains is correct if the set had the key, or lacked it, at a moment of the call.
+-- A contains may reply True if the set had the key at some moment of the call, and False if the set did not have it at
+-- some moment.
 fits_had : (q : ℕ) (vs : ℕ → View) (first now t : ℕ) (call : Call) → call ≡ Contains (key_of call)
     → Had vs first now (key_of call).0
     → FitsSometime q (contents_of vs) (counts_of vs) first now t call True
@@ -107,7 +108,7 @@ fits_lacked q vs first now t call c a = record {
 pub even_or_odd : (x : ℕ) → (x % 2 ≡ 0) ⊎ (x % 2 ≡ 1)
 even_or_odd x = grind arith
 
--- The rows 20 to 25, in every table that has them, for every protocol.
+-- Rows 20 to 25, in every table that has them, for every protocol.
 module _ (T : Table) (P : Protocol T.marks) (At : Outline) (sz : Sizes) (t : ℕ) (vs : ℕ → View) (first now : ℕ) (ws : List ℕ)
     (used : ℕ → ℕ) (done : Bool) (l : Local)
     (h : Here T.marks sz vs now ws used) (th : Thread At sz t vs first now ws used done l)
@@ -149,7 +150,7 @@ module _ (T : Table) (P : Protocol T.marks) (At : Outline) (sz : Sizes) (t : ℕ
       let low : target l.call < tail_word = regs.low in
       omega arith
 
-  -- Loading a link: the outline of the next row holds for the node that the link leads to.
+  -- After the load of a link, the outline of the next row holds for the node to which the link leads.
   behind : At20 vs first now (key_of l.call).0 l.curr
       → (node_link ws l.curr / 2 < node_count sz) × At21 vs first (suc now) (key_of l.call).0 (node_link ws l.curr / 2)
   behind a =
@@ -255,7 +256,8 @@ module _ (T : Table) (P : Protocol T.marks) (At : Outline) (sz : Sizes) (t : ℕ
       (keep_walk sz t 24 l.pred (s / 2) l regs.pred next.0 regs, refl, refl, λ x. omega arith)
       (reading (record l { pc = 24; curr = s / 2 }) (reads24 refl d c next.1))
 
-  -- The reply of a ceiling that stops at a key word was correct at the moment at which the node before it led to that node.
+  -- If a ceiling stops at a key word, its reply was correct at the moment at which the previous node's link led to this
+  -- node.
   found_then : (a : At21 vs first now (key_of l.call).0 l.curr) (c : ℕ) → l.call ≡ Ceiling (key_of l.call)
       → (vs a.seen.at).key l.curr ≡ c → target l.call ≤ c → (c < tail_word → (vs now).link l.curr % 2 ≡ 0)
       → FitsSometime sz.quota (contents_of vs) (counts_of vs) first now t l.call (ceiling_at c)

@@ -1,4 +1,4 @@
--- The rely condition of every list, with locks or without: the parts that a step of one thread leaves unchanged for all others.
+-- The rely condition of every list, with or without locks: what a thread's step does not change for the other threads.
 use Rattle.std.specs.Prelude.{◌≡◌, ◌≢◌, ℕ, ◌+◌, ◌*◌, ◌%◌, ◌<◌, Bool, Option, List, refl}
 use Rattle.std.proofs.Common.{arith, inl, sym}
 use Rattle.lset_words.specs.Words.{slot_node, Sizes}
@@ -12,8 +12,8 @@ use Rattle.lset_steps.proofs.Memory.{WordStep, Memory, reads, fails, takes, give
 use Rattle.lset_steps.proofs.Memory.{drops, own_of, row_once, no_own, moved, goes_on, others_counted}
 use Rattle.lset_steps.proofs.AfterWrite.{key_after_link, link_after_link, link_after_key, key_after_key, key_after_lock, link_after_lock}
 
--- A step of another thread, from v to w, leaves unchanged for thread u with quota q, whoever holds locks: keys and marked links
--- of nodes, u's count, and u's next slot.
+-- What a step of another thread, from view v to view w, does not change for thread u with quota q, whoever holds locks:
+-- the keys and the marked links of nodes, u's count, and u's next slot.
 pub record Remains (v w : View) (q u : ℕ) : Type 0 where
   pub goes : KeepsNodes v w
   pub marked : (a : ℕ) → v.published a → v.link a % 2 ≡ 1 → w.link a ≡ v.link a
@@ -31,7 +31,7 @@ remains_same v q u = record {
   own_link = λ r. refl;
 }
 
--- Thread t makes a step; u is another thread.
+-- A step of thread t, seen by another thread u.
 module _ (marks : Bool) (sz : Sizes) (ws : List ℕ) (used : ℕ → ℕ) (m : Memory marks sz ws used) (t : ℕ) (h : t < sz.threads)
     (u : ℕ) (k : u < sz.threads) (d : u ≢ t) where
   at_chain : (p : ℕ) → InChain (view sz ws used) p → Published sz used p

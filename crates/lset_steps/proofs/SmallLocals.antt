@@ -1,4 +1,4 @@
--- Proof: the numbers in a thread's state are small in every run of a lawful machine.
+-- Proof: in every run of a lawful machine, the numbers in a thread's state are small.
 use Rattle.std.specs.Prelude.{◌≡◌, ℕ, ◌+◌, ◌*◌, ◌<◌, ◌≤◌}
 use Rattle.std.proofs.Common.{arith, subst}
 use Rattle.lset_words.specs.declared.TheConstants.{MOST_THREADS, MOST_QUOTA, MOST_NODES}

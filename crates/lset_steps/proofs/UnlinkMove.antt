@@ -1,4 +1,4 @@
--- The effect of unlinking the node after a node of the chain: on the order, the chain and the content.
+-- How unlinking the node after a node of the chain affects the order of keys, the chain and the content.
 use Rattle.std.proofs.Common.{◌≡◌, ◌≢◌, ℕ, ◌+◌, ◌*◌, ◌/◌, ◌%◌, ◌<◌, ◌≤◌, ◌⊎◌, inl, inr, List, [], ◌∷◌, sym, refl, ap, subst, ◌∙◌, arith}
 use Rattle.lset_words.proofs.Numbers.{same_or_not}
 use Rattle.lset_steps.specs.Chain.{View, Segment, InChain, InContent, IsOrdered}
@@ -6,7 +6,7 @@ use Rattle.lset_steps.proofs.Moves.{Unlinks, KeepsNodes}
 use Rattle.lset_steps.proofs.Segments.{segment_increases, sides, one_key}
 use Rattle.lset_steps.proofs.QuietMove.{in_chain_published, chain_before, chain_on, segment_after, apart, apart'}
 
--- The basic facts of an unlinking; s is the node after curr.
+-- Basic facts about an unlinking. s is the node after curr.
 pub record Facts (v w : View) (pred curr s : ℕ) : Type 0 where
   pub curr_is : v.link pred / 2 ≡ curr
   pub s_is : v.link curr / 2 ≡ s
@@ -75,7 +75,7 @@ pub unlink_pred : (v w : View) → IsOrdered v → (pred curr : ℕ) → Unlinks
 unlink_pred v w ord pred curr q =
     chain_before v w ord pred pred (λ a m l. ap (λ x. x / 2) (q.links a m (apart v a pred l))) (omega arith) q.in_chain
 
--- curr was in the chain.
+-- Before the unlinking, curr was in the chain.
 pub unlink_curr : (v w : View) → IsOrdered v → (pred curr : ℕ) → Unlinks v w pred curr → InChain v curr
 unlink_curr v w ord pred curr q = chain_on v pred curr curr [] q.in_chain q.no_tail q.is_next refl
 
@@ -149,7 +149,7 @@ unlink_mark v w pred curr q b m = elim (same_or_not b pred) [
   | inr d ↦ ap (λ x. x % 2) (q.links b m d)
 ]
 
--- ---- the content
+-- ---- How an unlinking changes the content
 
 pub unlink_only : (v w : View) → IsOrdered v → (pred curr : ℕ) → Unlinks v w pred curr → (j : ℕ) → InContent w j → InContent v j
 unlink_only v w ord pred curr q j c =
@@ -157,7 +157,7 @@ unlink_only v w ord pred curr q j c =
     let m : v.published c.0 = in_chain_published v ord c.0 i in
     (c.0, i, c.2, sym (q.keys c.0 m) ∙ c.3, sym (unlink_mark v w pred curr q c.0 m) ∙ c.4)
 
--- Another key, or the key of a marked curr, is still in the content if it was before.
+-- Another key stays in the content, and so does the key of a node that was marked.
 pub unlink_others : (v w : View) → IsOrdered v → (pred curr : ℕ) → Unlinks v w pred curr → (j : ℕ)
     → (v.link curr % 2 ≡ 1) ⊎ (v.key curr ≢ j + 1) → InContent v j → InContent w j
 unlink_others v w ord pred curr q j h c = elim (unlink_keeps v w ord pred curr q c.0 c.1) [

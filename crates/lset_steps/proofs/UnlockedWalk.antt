@@ -1,4 +1,4 @@
--- The knowledge of a walk without locks about the two nodes that it has reached: they are published, and the key of the call is
+-- What a walk without locks knows about the two nodes that it has reached: they are published, and the call's key is
 -- between their keys. They need not be in the chain.
 use Rattle.std.specs.Prelude.{◌≡◌, ◌≢◌, ℕ, ◌+◌, ◌*◌, ◌/◌, ◌<◌, ◌≤◌, Bool, true, None, List, slice_set}
 use Rattle.std.proofs.Common.{arith, ◌∙◌, ap}
@@ -9,13 +9,13 @@ use Rattle.lset_steps.proofs.Moves.{KeepsNodes}
 use Rattle.lset_steps.proofs.Memory.{Memory, inner, inside, next_published, goes_on}
 use Rattle.lset_steps.proofs.Held.{Behind, locks_free}
 
--- pred has a key below the call's, and both nodes are published.
+-- pred's key is smaller than the call's, and both nodes are published.
 pub record Spot (v : View) (key pred curr : ℕ) : Type 0 where
   pub pred_published : v.published pred
   pub below : v.key pred < key
   pub curr_published : v.published curr
 
--- curr has the key word that was read, which is not below the call's.
+-- curr has the key word that was read, which is at least the call's.
 pub record Found (v : View) (key pred curr ckey : ℕ) : Type 0 where
   pub spot : Spot v key pred curr
   pub is : v.key curr ≡ ckey
@@ -29,7 +29,7 @@ found_apart {v} {key} {pred} {curr} {ckey} f e =
     let above : key ≤ ckey = f.above in
     omega arith
 
--- Both are kept by every step.
+-- Every step preserves `Spot` and `Found`.
 module _ {v w : View} (g : KeepsNodes v w) where
   pub same_key_kept : (a : ℕ) {x : ℕ} → v.published a → v.key a ≡ x → w.key a ≡ x
   same_key_kept a p e = g.keys a p ∙ e
@@ -49,12 +49,12 @@ module _ {v w : View} (g : KeepsNodes v w) where
   }
 
 module _ {marks : Bool} {sz : Sizes} {ws : List ℕ} {used : ℕ → ℕ} (m : Memory marks sz ws used) where
-  -- Loading the link of a node with a key below the call's finds such a pair of nodes.
+  -- If a node's key is smaller than the call's, the node and the one to which its link leads satisfy `Spot`.
   pub spot_behind : {key : ℕ} (a : ℕ) → (view sz ws used).published a → node_key ws a < key
       → Spot (view sz ws used) key a (node_link ws a / 2)
   spot_behind a p below = record { pred_published = p; below = below; curr_published = next_published marks sz ws used m a p }
 
-  -- Loading the link of the head finds such a pair of nodes.
+  -- The head and the node to which its link leads satisfy `Spot`.
   pub spot_behind_head : {key : ℕ} → 0 < key → Spot (view sz ws used) key 0 (node_link ws 0 / 2)
   spot_behind_head low = let head : node_key ws 0 ≡ 0 = m.head_key in spot_behind 0 m.ordered.head_published (omega arith)
 
@@ -66,14 +66,15 @@ module _ {marks : Bool} {sz : Sizes} {ws : List ℕ} {used : ℕ → ℕ} (m : M
       let top : node_key ws a ≤ node_key ws 1 = m.ordered.top a p in let tail : node_key ws 1 ≡ tail_word = m.tail_key in
       omega arith
 
-  -- An attempt of the thread to take a lock keeps the nodes.
+  -- The thread's attempt to take a lock does not change the nodes.
   pub keeps_locked : {t : ℕ} → t < sz.threads → (a : ℕ) → a < node_count sz → node_lock ws a ≡ 0
       → KeepsNodes (view sz ws used) (view sz (slice_set ws (lock_index a) (t + 1)) used)
   keeps_locked {t} tn a inn free =
       goes_on marks sz ws used m t tn (Exchange (lock_index a) 0 (t + 1)) (slice_set ws (lock_index a) (t + 1)) used None
       (locks_free a inn free).0
 
--- In a list that marks nodes: loading the link of pred while its lock is held. If the link is not marked, pred is in the chain.
+-- For lists that mark nodes: a load of pred's link while its lock is held. If the link is not marked, pred is in the
+-- chain.
 pub behind_of_load : {sz : Sizes} {ws : List ℕ} {used : ℕ → ℕ} (m : Memory true sz ws used) {t key pred curr : ℕ} → key < tail_word
     → Spot (view sz ws used) key pred curr → node_lock ws pred ≡ t + 1 → node_link ws pred ≡ 2 * curr
     → Behind (view sz ws used) t key pred curr

@@ -1,4 +1,5 @@
--- The invariant of a walk along the chain: `World::walk`, and the walk of `Closed::keys` in the crate `lset_live`.
+-- The invariant of a walk along the chain: the one in `World::walk`, and the one in `Closed::keys` of the crate
+-- `lset_live`.
 use Rattle.std.proofs.Common.{◌≡◌, ◌≢◌, ℕ, ◌-◌, ◌/◌, ◌%◌, ◌<◌, ◌≤◌, Bool, true, false, inl, inr, List, [], ◌∷◌, ◌++◌, sym, refl}
 use Rattle.std.proofs.Common.{ap, subst, arith, rules, ◌∙◌, append-nil}
 use Rattle.std.specs.Prelude.{nat_lt, ◌==◌, IsTrue, ◌↔◌, Option, Some, None, option_to_list, filter_map, if◌then◌else◌}
@@ -14,7 +15,7 @@ use Rattle.lset_steps.proofs.ContentLists.{content_increases}
 use Rattle.lset_steps.proofs.Segments.{segment-append}
 use Rattle.lset_steps.proofs.QuietMove.{not_one}
 
--- The walk has reached curr and has collected these items.
+-- The invariant: the walk has reached curr and has collected these items.
 pub record HasPicked {A : Type 0} (answers : ChainKey → Option A → Type 0) (v : View) (items : List A) (curr : ℕ) : Type 0 where
   pub nodes : List ℕ
   pub seg : Segment v 0 nodes curr
@@ -42,7 +43,7 @@ module _ {A : Type 0} (answers : ChainKey → Option A → Type 0) (v : View) (o
         picked = λ pick same. refl;
       }
 
-  -- The walk moves on by one node.
+  -- The walk advances by one node.
   pub goes : (items more : List A) (curr next : ℕ) → curr ≢ 1 → next ≡ v.link curr / 2
       → ((pick : ChainKey → Option A) → AnswersAs answers pick → filter_map pick (chain_keys v (curr ∷ [])) ≡ more)
       → HasPicked answers v items curr → HasPicked answers v (items ++ more) next
@@ -59,7 +60,7 @@ module _ {A : Type 0} (answers : ChainKey → Option A → Type 0) (v : View) (o
             ∙ sym (ap (λ ks. filter_map pick ks) (chain_keys-append v w.nodes (curr ∷ [])));
       })
 
-  -- The walk passes a node with a key and collects the answer for it.
+  -- The walk passes a node with a key and collects the answer for this key.
   pub picked_more : (items : List A) (curr next : ℕ) (met : ChainKey) (answer : Option A) → v.key 0 ≡ 0 → curr ≢ 1
       → next ≡ v.link curr / 2 → met ≡ record { key = v.key curr - 1; marked = v.link curr % 2 == 1 } → answers met answer
       → HasPicked answers v items curr → HasPicked answers v (items ++ option_to_list answer) next
@@ -75,7 +76,7 @@ module _ {A : Type 0} (answers : ChainKey → Option A → Type 0) (v : View) (o
       listed None = refl
       listed (Some x) = refl
 
-  -- The measure decreases.
+  -- The measure of the loop decreases.
   pub falls : (items : List A) (curr next : ℕ) → curr ≢ 1 → next ≡ v.link curr / 2 → HasPicked answers v items curr
       → v.key 1 - v.key next < v.key 1 - v.key curr
   falls items curr next n e w =
@@ -84,7 +85,7 @@ module _ {A : Type 0} (answers : ChainKey → Option A → Type 0) (v : View) (o
       let f : v.key next ≡ v.key (v.link curr / 2) = ap v.key e in
       omega arith
 
-  -- The key of such a node is a u32.
+  -- The key of a node before the tail fits in a u32.
   pub fits : (items : List A) (curr : ℕ) → v.key 1 ≡ 4294967297 → curr ≢ 1 → HasPicked answers v items curr
       → v.key curr - 1 < 4294967296
   fits items curr tail n w =
@@ -92,7 +93,7 @@ module _ {A : Type 0} (answers : ChainKey → Option A → Type 0) (v : View) (o
       let t : v.key (v.link curr / 2) ≤ v.key 1 = ord.top (v.link curr / 2) (ord.next_published curr w.published n) in
       omega arith
 
-  -- At the tail the walk has visited the whole chain.
+  -- At the tail, the walk has visited the whole chain.
   pub all_picked : (items : List A) (curr : ℕ) → curr ≡ 1 → HasPicked answers v items curr → IsPickedFromChain answers v items
   all_picked items curr e w =
       let chain : IsChain v w.nodes = subst (λ z. Segment v 0 w.nodes z) e w.seg in
@@ -103,7 +104,7 @@ module _ {A : Type 0} (answers : ChainKey → Option A → Type 0) (v : View) (o
         picked = w.picked;
       }
 
--- The test of a mark has the result of the word's last bit.
+-- The test of a mark agrees with the last bit of the word.
 pub mark_of_word : (word : ℕ) (mark : Bool) → (IsTrue mark ↔ (word % 2 ≡ 1)) → mark ≡ (word % 2 == 1)
 mark_of_word word true same = let e : word % 2 ≡ 1 = same.0 refl in search rules
 mark_of_word word false same = let e : word % 2 ≢ 1 = λ p. not_true (same.1 p) in search rules
@@ -111,7 +112,7 @@ mark_of_word word false same = let e : word % 2 ≢ 1 = λ p. not_true (same.1 p
     not_true : IsTrue false → ⊥
     not_true t = absurd (cc)
 
--- ---- the content: the walk leaves the marked keys out
+-- ---- A walk that collects the content skips marked keys
 abbrev pub unmarked_key : ChainKey → Option ℕ
 unmarked_key met = if met.marked then None else Some met.key
 
@@ -138,7 +139,7 @@ content_picked answers v items same w =
     ∙ unmarked_picked (chain_keys v w.nodes) ∙ sym (unmarked v w.nodes) in
     ((w.nodes, w.is_chain, keys), subst IsStrictlyIncreasing (sym keys) w.increasing)
 
--- ---- the whole chain: the walk picks each key
+-- ---- A walk that collects the whole chain takes each key
 picked_whole : (keys : List ChainKey) → filter_map (λ met. Some met) keys ≡ keys
 picked_whole [] = refl
 picked_whole (k ∷ ks) = ap (λ xs. k ∷ xs) (picked_whole ks)
@@ -156,7 +157,7 @@ module _ (answers : ChainKey → Option ChainKey → Type 0) (v : View) (items :
       let keys : unmarked_keys items ≡ keys_in v w.nodes = ap (λ ks. unmarked_keys ks) keys_are ∙ sym (unmarked v w.nodes) in
       ((w.nodes, w.is_chain, keys), subst IsStrictlyIncreasing (sym keys) w.increasing)
 
--- A walk that keeps the unmarked keys, as `Closed::keys` does.
+-- States that the walk collects the unmarked keys, as `Closed::keys` does.
 abbrev pub WalkedTo : View → List ℕ → ℕ → Type 0
 WalkedTo v items curr = HasPicked (λ met answer. answer ≡ unmarked_key met) v items curr
 

@@ -1,4 +1,4 @@
--- The chain of a list and its content, computed from the words and the threads' counts (Herlihy and Shavit).
+-- The chain of a list and its content, computed from the words and from the threads' counts (Herlihy and Shavit).
 use Rattle.std.specs.Prelude.{◌≡◌, ◌≢◌, ℕ, ◌+◌, ◌/◌, ◌%◌, ◌<◌, ◌≤◌, ◌⊎◌, Bool, true, false, List, [], ◌∷◌, Option, slice_index}
 use Rattle.lset_words.specs.Words.{key_index, link_index, lock_index, slot_node, opening_node, Sizes}
 use Rattle.lset_words.specs.declared.Key.{Key}
@@ -15,8 +15,8 @@ node_link ws a = slice_index ws (link_index a)
 abbrev pub node_lock : List ℕ → ℕ → ℕ
 node_lock ws a = slice_index ws (lock_index a)
 
--- The view of a world: keys, link words and lock words of the nodes, the list's lock, each thread's count of successful adds, and
--- which nodes are published.
+-- The view of a world: its nodes' keys, link words and lock words, the list's lock, each thread's count of successful
+-- adds, and which nodes are published.
 pub record View : Type 1 where
   pub key : ℕ → ℕ
   pub link : ℕ → ℕ
@@ -25,7 +25,8 @@ pub record View : Type 1 where
   pub used : ℕ → ℕ
   pub published : ℕ → Type 0
 
--- The published nodes: head, tail, slot j of each thread whose count is above j, and the nodes of the opening keys.
+-- States that a node is published: it is the head, the tail, slot j of a thread whose count is above j, or the node of
+-- an opening key.
 abbrev pub Published : Sizes → (ℕ → ℕ) → ℕ → Type 0
 Published sz used i = (i < 2) ⊎ ((t : ℕ) × (j : ℕ) × (t < sz.threads) × (j < used t) × (i ≡ slot_node sz.quota t j))
     ⊎ ((j : ℕ) × (j < sz.opening) × (i ≡ opening_node sz j))
@@ -40,24 +41,24 @@ view sz ws used = record {
   published = Published sz used;
 }
 
--- ns are the nodes reached by links from i on, before j.
+-- States that following links from i visits the nodes ns, then reaches j.
 abbrev pub Segment : View → ℕ → List ℕ → ℕ → Type 0
 Segment v i [] j = i ≡ j
 Segment v i (a ∷ ns) j = (a ≡ i) × (i ≢ 1) × Segment v (v.link i / 2) ns j
 
--- Node b is reachable from the head.
+-- States that node b is reachable from the head.
 abbrev pub InChain : View → ℕ → Type 0
 InChain v b = (ns : List ℕ) × Segment v 0 ns b
 
--- The chain consists of ns and the tail.
+-- States that the chain consists of the nodes ns and the tail.
 abbrev pub IsChain : View → List ℕ → Type 0
 IsChain v ns = Segment v 0 ns 1
 
--- k is the key of an unmarked node of the chain other than head and tail.
+-- States that k is the key of an unmarked node of the chain other than the head and the tail.
 abbrev pub InContent : View → ℕ → Type 0
 InContent v k = (b : ℕ) × InChain v b × (1 < b) × (v.key b ≡ k + 1) × (v.link b % 2 ≡ 0)
 
--- The link of each published node but the tail leads to a published node with a greater key.
+-- The link of each published node except the tail leads to a published node with a greater key.
 pub record IsOrdered (v : View) : Type 0 where
   pub head_published : v.published 0
   pub tail_published : v.published 1
@@ -65,12 +66,13 @@ pub record IsOrdered (v : View) : Type 0 where
   pub next_published : (i : ℕ) → v.published i → i ≢ 1 → v.published (v.link i / 2)
   pub increases : (i : ℕ) → v.published i → i ≢ 1 → v.key i < v.key (v.link i / 2)
 
--- In a list that marks nodes, each unmarked published node is in the chain. In any other list no published node is marked.
+-- In a list that marks nodes, states that each unmarked published node is in the chain. In any other list, states that
+-- no published node is marked.
 abbrev pub UnmarkedInChain : Bool → View → Type 0
 UnmarkedInChain true v = (b : ℕ) → v.published b → v.link b % 2 ≡ 0 → InChain v b
 UnmarkedInChain false v = (b : ℕ) → v.published b → v.link b % 2 ≡ 0
 
--- [Content] of a world, and its change by an event; and below, the contents at the moments of a run.
+-- [Content] of a world: states how an event changes it. `contents_of` has the contents at the moments of a run.
 abbrev pub Changed : Option (Key × Bool) → View → View → Type 0
 Changed change v w = Changes change (InContent v) (InContent w)
 
@@ -83,8 +85,9 @@ counts_of vs moment thread = (vs moment).used thread
 abbrev pub FitsIn : ℕ → View → ℕ → Call → Reply → Type 0
 FitsIn quota v thread call reply = Fits quota (InContent v) (v.used thread) call reply
 
--- [Unlinked stays]: node i is published in v, and w is a later world. The key of i is the same. If i was unlinked, its link is
--- the same and i is not in the chain. In a list that marks nodes, a marked node has the same link.
+-- [Unlinked stays]: w is a later view than v, and node i is published in v. The node's key is the same in w. If the
+-- node was unlinked, its link is the same and the node is not in the chain. In a list that marks nodes, a marked node
+-- has the same link.
 pub record UnlinkedStays (marks : Bool) (v w : View) (i : ℕ) : Type 0 where
   pub published : w.published i
   pub key : w.key i ≡ v.key i

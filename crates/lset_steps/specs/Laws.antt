@@ -1,4 +1,4 @@
--- The law that every list proves of its machine, for every run.
+-- The law of a machine. Each list proves that it holds in every run.
 use Rattle.std.specs.Prelude.{◌≡◌, ◌≢◌, ℕ, suc, ◌+◌, ◌<◌, ◌≤◌, ◌⊎◌, ◌%◌, Bool, false, List, Option, Some, None, slice_index, length}
 use Rattle.lset_words.specs.Words.{lock_index, word_count, node_count, tail_word, target, Sizes, Opening, sizes}
 use Rattle.lset_words.specs.declared.Key.{Key}
@@ -14,7 +14,8 @@ use Rattle.lset_steps.specs.declared.Event.TheVariants.{Go}
 use Rattle.lset_steps.specs.Steps.{Table, State, state_at, Run, local_of, seen_next, log_of, idle}
 use Rattle.lset_steps.specs.Chain.{View, view, IsOrdered, InChain, UnmarkedInChain, Changed, UnlinkedStays, Seen, contents_of, counts_of}
 
--- The view of a state; and below, of each moment of a run.
+-- Returns a thread's count of successful adds. `view_of` returns the view of a state, and `views` the view at each
+-- moment of a run.
 abbrev pub used_in : State → ℕ → ℕ
 used_in s t = (local_of s t).used
 
@@ -32,7 +33,7 @@ word_named (Exchange w old new) = w
 abbrev pub IsLockWord : ℕ → Type 0
 IsLockWord x = (x ≡ 0) ⊎ ((i : ℕ) × (x ≡ lock_index i))
 
--- The state of thread t: its own number and quota, and registers in range.
+-- The state of thread t has its own number and quota, and its registers are in range.
 pub record Registers (sz : Sizes) (t : ℕ) (l : Local) : Type 0 where
   pub thread : l.thread ≡ t
   pub quota : l.quota ≡ sz.quota
@@ -45,7 +46,7 @@ pub record Registers (sz : Sizes) (t : ℕ) (l : Local) : Type 0 where
   pub pkey : l.pkey ≤ tail_word
   pub ckey : l.ckey ≤ tail_word
 
--- The properties of every state of a run.
+-- The properties of every state in a run.
 pub record StateLaws (marks : Bool) (sz : Sizes) (s : State) : Type 0 where
   pub words : length s.words ≡ word_count sz
   pub locals : length s.locals ≡ sz.threads
@@ -57,35 +58,38 @@ pub record StateLaws (marks : Bool) (sz : Sizes) (s : State) : Type 0 where
   pub marked : UnmarkedInChain marks (view_of sz s)
   pub unmarked : marks ≡ false → (i : ℕ) → i < node_count sz → (view_of sz s).link i % 2 ≡ 0
 
--- A lock word is accessed only by an attempt to take the lock, or by the store of 0 of the thread that holds it.
+-- States that a lock word is written only in two ways: by an attempt to take the lock, or by the thread that holds it,
+-- which stores 0.
 abbrev pub LockUse : List ℕ → ℕ → Action → Type 0
 LockUse ws t (Load w) = Unit {0}
 LockUse ws t (Store w v) = IsLockWord w → (v ≡ 0) × (slice_index ws w ≡ t + 1)
 LockUse ws t (Exchange w old new) = IsLockWord w → (old ≡ 0) × (new ≡ t + 1)
 
--- The reply is correct: True after a change, and otherwise a reply that the set returns at some moment of the call.
+-- States that the reply is correct: True after a change, otherwise a reply that the set returns at some moment of the
+-- call.
 abbrev pub Due : Bool → ℕ → (ℕ → View) → ℕ → ℕ → ℕ → Call → Reply → Type 0
 Due done q vs first now t call r = RightReply done q (contents_of vs) (counts_of vs) first now t call (Some r)
 
--- A call ends exactly if it replies.
+-- States that a call ends if and only if it replies, and that the reply is correct.
 abbrev pub Answered : Bool → ℕ → (ℕ → View) → ℕ → ℕ → ℕ → Call → ℕ → Option Reply → Type 0
 Answered done q vs first now t call pc None = pc ≢ 0
 Answered done q vs first now t call pc (Some r) = (pc ≡ 0) × Due done q vs first now t call r
 
--- The laws of a step of thread t in state l, made after the first k events. `change` is its change of the content.
+-- The laws of a step that thread t makes in state `l` after the first k events. `change` is the step's change of the
+-- content.
 pub record StepLaws (T : Table) (op : Opening) (es : ℕ → Event) (k t : ℕ) (s : State) (l : Local)
     (change : Option (Key × Bool)) : Type 0 where
-  -- Its word is a word of the table.
+  -- The step accesses a word of the table.
   pub in_table : word_named (T.next l) < word_count (sizes op)
-  -- It accesses a lock word only as a lock.
+  -- The step writes a lock word only to take or to release the lock.
   pub lock_use : LockUse s.words t (T.next l)
   pub same_call : (T.feed l (seen_next T s t)).local.call ≡ l.call
-  -- The content changes by `change`, and by nothing else.
+  -- The content changes as `change` says, and in no other way.
   pub content : Changed change (views T op es k) (views T op es (suc k))
-  -- The change is one that its call can make.
+  -- The thread's call may make this change.
   pub by_call : MayChange op.quota l.used l.call (has_changed (log_of T op es) t k) change
   pub counts : (T.feed l (seen_next T s t)).local.used ≡ count_after change l.used
-  -- If it replies, the call ends with a correct reply.
+  -- If the step has a reply, the call ends, and the reply is correct.
   pub answered : Answered (has_changed (log_of T op es) t (suc k)) op.quota (views T op es)
       (begun_at (log_of T op es) t (suc k)) (suc k) t l.call
       (T.feed l (seen_next T s t)).local.pc (T.feed l (seen_next T s t)).answer
@@ -95,27 +99,27 @@ StepAt T op es k t =
     StepLaws T op es k t (state_at T op es k) (local_of (state_at T op es k) t)
     (T.effect (local_of (state_at T op es k) t) (seen_next T (state_at T op es k) t))
 
--- The laws of beginning a call, for a thread in state l.
+-- The laws for a call that begins, made by a thread in state `l`.
 pub record BeginLaws (begin : Call → Local → Local) (call : Call) (l : Local) : Type 0 where
   pub called : (begin call l).call ≡ call
   pub used : (begin call l).used ≡ l.used
   pub opened : (begin call l).pc ≢ 0
-  -- Only its number, its quota and its count of successful adds are kept.
+  -- The new state depends only on the thread's number, quota and count of successful adds.
   pub alike : begin call l ≡ begin call (record (idle l.quota l.thread) { used = l.used })
 
--- The law of a machine.
+-- The laws of a machine: properties of every begin, every state and every step, in each of its runs.
 pub record Lawful (T : Table) : Type 0 where
   pub begins : (call : Call) (l : Local) → BeginLaws T.begin call l
-  -- Every state of every run has the properties of states.
+  -- Every state of every run has the properties of `StateLaws`.
   pub states : (op : Opening) (last k : ℕ) (es : ℕ → Event) → Run T op es last → k ≤ last →
       StateLaws T.marks (sizes op) (state_at T op es k)
-  -- Every step has the properties of steps.
+  -- Every step has the properties of `StepLaws`.
   pub steps : (op : Opening) (last k t : ℕ) (es : ℕ → Event) → Run T op es last → k < last → es k ≡ Go t → StepAt T op es k t
-  -- A published node keeps its key, and an unlinked one its link, up to every later moment.
+  -- At every later moment, a published node has the same key, and an unlinked node the same link.
   pub unlinked_stays : (op : Opening) (last j k i : ℕ) (es : ℕ → Event) → Run T op es last → j ≤ k → k ≤ last
       → (views T op es j).published i
       → UnlinkedStays T.marks (views T op es j) (views T op es k) i
-  -- A link read later from a node that was in the chain is one that the node had in the chain.
+  -- If a node was in the chain, each link read from it later is one that it had while it was in the chain.
   pub seen_before : (op : Opening) (last j k b : ℕ) (es : ℕ → Event) → Run T op es last → j ≤ k → k ≤ last
       → InChain (views T op es j) b
       → Seen (views T op es) j k b ((views T op es k).link b)
@@ -126,7 +130,8 @@ pub record UnderWay (T : Table) (op : Opening) (es : ℕ → Event) (k t : ℕ) 
   pub thread : t < op.threads
   pub open_call : (local_of (state_at T op es k) t).pc ≢ 0
 
--- A thread with a pending call has the state l at some moment of some run; and below, sees this value at its next step.
+-- States that a thread with a pending call is in state `l` at some moment of some run. `Sees` adds that its next step
+-- sees this value.
 abbrev pub Occurs : Table → Local → Type 0
 Occurs T l = (op : Opening) × (es : ℕ → Event) × (k : ℕ) × (t : ℕ) × UnderWay T op es k t
     × (local_of (state_at T op es k) t ≡ l)

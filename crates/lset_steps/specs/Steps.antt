@@ -16,7 +16,7 @@ use Rattle.lset_steps.specs.declared.Told.{Told}
 use Rattle.lset_steps.specs.declared.Event.{Event}
 use Rattle.lset_steps.specs.declared.Event.TheVariants.{Begin, Go}
 
--- A machine: its four functions, and whether it marks a node before it unlinks it.
+-- A machine: its four functions, and whether it marks nodes before it unlinks them.
 pub record Table : Type 0 where
   pub marks : Bool
   pub begin : Call → Local → Local
@@ -24,7 +24,7 @@ pub record Table : Type 0 where
   pub feed : Local → ℕ → Fed
   pub effect : Local → ℕ → Option (Key × Bool)
 
--- The shared words and the private state of each thread.
+-- A state: the shared words, and the private state of each thread.
 pub record State : Type 0 where
   pub words : List ℕ
   pub locals : List Local
@@ -45,8 +45,8 @@ idle q t = record {
   ckey = 0;
 }
 
--- The opening world: the head links to the nodes of the opening keys in turn, and the last of them to the tail. opening_next is
--- the node of opening key i, or the tail if there are no more.
+-- The opening world: the head links to the nodes of the opening keys in turn, and the last of them to the tail. Returns
+-- the node of opening key i, or the tail if i is past the last key.
 abbrev pub opening_next : Sizes → ℕ → ℕ
 opening_next sz i = if nat_lt i sz.opening then opening_node sz i else 1
 
@@ -78,20 +78,20 @@ opening op = record {
   locals = map (idle op.quota) (range_with_len 0 op.threads);
 }
 
--- The opening with these sizes and keys.
+-- Returns the opening with these sizes and keys.
 abbrev pub opening_of : Sizes → List ℕ → Opening
 opening_of sz keys = record { threads = sz.threads; quota = sz.quota; keys = keys }
 
 abbrev pub local_of : State → ℕ → Local
 local_of s t = slice_index_or s.locals t (idle 0 0)
 
--- The value that an action sees.
+-- Returns the value that an action sees.
 abbrev pub seen_by : List ℕ → Action → ℕ
 seen_by ws (Load w) = slice_index ws w
 seen_by ws (Store w v) = v
 seen_by ws (Exchange w old new) = slice_index ws w
 
--- The words after an action.
+-- Returns the words after an action.
 abbrev pub left_by : List ℕ → Action → List ℕ
 left_by ws (Load w) = ws
 left_by ws (Store w v) = slice_set ws w v
@@ -118,21 +118,21 @@ abbrev pub Enabled : State → Event → Type 0
 Enabled s (Begin t call) = (t < length s.locals) × ((local_of s t).pc ≡ 0) × (target call < tail_word)
 Enabled s (Go t) = (t < length s.locals) × ((local_of s t).pc ≢ 0)
 
--- The state of a run after its first k events. The events are a function of moments.
+-- Returns the state of a run after its first k events. The events are given as a function of moments.
 abbrev pub state_at : Table → Opening → (ℕ → Event) → ℕ → State
 state_at T op es zero = opening op
 state_at T op es (suc k) = after T (state_at T op es k) (es k)
 
--- Each event before `last` is enabled in the state before it.
+-- Each event before moment `last` is enabled in the state before it.
 pub record Run (T : Table) (op : Opening) (es : ℕ → Event) (last : ℕ) : Type 0 where
   pub opens : Opens op
   pub enabled : (k : ℕ) → k < last → Enabled (state_at T op es k) (es k)
 
--- The events of a list, as a function of moments.
+-- Converts a list of events to a function of moments.
 abbrev pub event_at : List Event → ℕ → Event
 event_at es k = slice_index_or es k (Go 0)
 
--- The entry of an event in the log of a run: the event with its reply and change.
+-- Returns the log entry of an event: the event with its reply and change.
 abbrev pub entry_of : Table → State → Event → Entry
 entry_of T s (Begin t call) = began t call
 entry_of T s (Go t) = stepped t (told T s (Go t)).change (told T s (Go t)).answer

@@ -1,4 +1,4 @@
--- The values of worlds, and the results of their steps.
+-- The model values of worlds, and the results of their steps.
 use Rattle.std.specs.Prelude.{◌≡◌, ◌≢◌, ℕ, ◌-◌, ◌%◌, ◌<◌, ◌≤◌, Bool, not, List, [], ◌∷◌, map, filter, filter_map, length, Option}
 use Rattle.std.specs.Prelude.{Result, Ok, Err, if◌then◌else◌, ◌==◌, nat_lt, ◌&&◌}
 use Rattle.std.specs.List.Sorted.{IsStrictlyIncreasing}
@@ -16,7 +16,7 @@ pub record WorldState : Type 0 where
   pub sizes : Sizes
   pub state : State
 
--- The state is the last state of a run, from an opening with the world's sizes.
+-- The world's state is the last state of a run whose opening has the world's sizes.
 pub record IsRun (T : Table) (w : WorldState) : Type 0 where
   pub opening : Opening
   pub of_sizes : sizes opening ≡ w.sizes
@@ -30,7 +30,7 @@ abbrev pub thread_of : Event → ℕ
 thread_of (Begin t call) = t
 thread_of (Go t) = t
 
--- The error of an event that is not enabled: the first that applies of NoThread, Busy and Idle.
+-- States that this is the error of an event that is not enabled: the first that applies of NoThread, Busy and Idle.
 abbrev pub Refused : WorldState → Event → StepFault → Type 0
 Refused w e NoThread = w.sizes.threads ≤ thread_of e
 Refused w (Begin t call) Busy = (t < w.sizes.threads) × ((local_of w.state t).pc ≢ 0)
@@ -38,31 +38,32 @@ Refused w (Go t) Busy = ⊥
 Refused w (Begin t call) Idle = ⊥
 Refused w (Go t) Idle = (t < w.sizes.threads) × ((local_of w.state t).pc ≡ 0)
 
--- The result of a step, and the world after it: an enabled event is made; a refused event changes nothing.
+-- States the result of a step and the world after it. An enabled event is executed. A refused event changes nothing.
 abbrev pub StepResult : Table → WorldState → Event → Result Told StepFault → WorldState → Type 0
 StepResult T w e (Ok answer) w' = Enabled w.state e × (w' ≡ record w { state = after T w.state e }) × (answer ≡ told T w.state e)
 StepResult T w e (Err cause) w' = Refused w e cause × (w' ≡ w)
 
--- The keys of the unmarked nodes among these nodes, without head and tail.
+-- Returns the keys of the unmarked nodes in the list, except head and tail.
 abbrev pub keys_in : View → List ℕ → List ℕ
 keys_in v [] = []
 keys_in v (b ∷ bs) = if nat_lt 1 b && v.link b % 2 == 0 then (v.key b - 1) ∷ keys_in v bs else keys_in v bs
 
--- [Content], in increasing order: the keys of the unmarked nodes of the chain between head and tail.
+-- [Content] as a list: states that these are the keys of the unmarked nodes of the chain between head and tail, in
+-- increasing order.
 abbrev pub IsContent : View → List ℕ → Type 0
 IsContent v keys = ((ns : List ℕ) × IsChain v ns × (keys ≡ keys_in v ns)) × IsStrictlyIncreasing keys
 
--- The keys of these nodes, without head and tail, each with whether its node is marked.
+-- Returns the keys of the nodes in the list, except head and tail, each with its node's mark.
 abbrev pub chain_keys : View → List ℕ → List ChainKey
 chain_keys v [] = []
 chain_keys v (b ∷ bs) =
     if nat_lt 1 b then record { key = v.key b - 1; marked = v.link b % 2 == 1 } ∷ chain_keys v bs else chain_keys v bs
 
--- The keys of the chain from the head to the tail, each with its mark.
+-- States that these are the keys of the chain from the head to the tail, each with its node's mark.
 abbrev pub AreChainKeys : View → List ChainKey → Type 0
 AreChainKeys v keys = (ns : List ℕ) × IsChain v ns × (keys ≡ chain_keys v ns)
 
--- The key's node is not marked; and below, the unmarked keys.
+-- Returns whether the key's node is unmarked. `unmarked_keys` returns the keys of such nodes.
 abbrev pub is_unmarked : ChainKey → Bool
 is_unmarked k = not k.marked
 
@@ -72,11 +73,11 @@ key_alone k = k.key
 abbrev pub unmarked_keys : List ChainKey → List ℕ
 unmarked_keys keys = map key_alone (filter is_unmarked keys)
 
--- Each answer is that of `pick`.
+-- States that each answer is the result of `pick`.
 abbrev pub AnswersAs : {A : Type 0} → (ChainKey → Option A → Type 0) → (ChainKey → Option A) → Type 0
 AnswersAs {A} answers pick = (met : ChainKey) (answer : Option A) → answers met answer → answer ≡ pick met
 
--- The items are the answers' choice among the keys of the chain, from the head to the tail.
+-- The items are those that the answers select from the keys of the chain, in order from head to tail.
 pub record IsPickedFromChain {A : Type 0} (answers : ChainKey → Option A → Type 0) (v : View) (items : List A) : Type 0 where
   pub nodes : List ℕ
   pub is_chain : IsChain v nodes

@@ -1,4 +1,5 @@
-//! The laws of every run of every machine, for any number of events. Each law is the contract of a function whose body is empty.
+//! Laws of every run of every machine, for any number of events. Each law is the contract of a function with an empty
+//! body.
 
 ghost use Rattle.lset_steps.specs.BoundedReads.{BoundedReads, WalkWasInChain};
 ghost use Rattle.lset_steps.specs.Promises.{
@@ -20,26 +21,26 @@ ghost use Rattle.lset_steps.specs.Promises.{
 
 use crate::{Machine, OpenReads};
 
-/// Lemma: in every world of every run the registers are in the layout's range, and the next action of a pending call names a word
-/// of the table.
+/// Lemma: in every world of every run, the registers are in the layout's range, and the next action of a pending call
+/// accesses a word of the table.
 pub fn in_range<M: Machine>()
     ensures { InRange M.table }
 {}
 
-/// Lemma: in every world of every run the chain reaches the tail, and its keys are in strictly increasing order. (Herlihy and
-/// Shavit's representation invariant.)
+/// Lemma: in every world of every run, the chain reaches the tail, and its keys are in strictly increasing order.
+/// (Herlihy and Shavit's representation invariant.)
 pub fn sorted_chain<M: Machine>()
     ensures { SortedChain M.table }
 {}
 
-/// Lemma: a lock word is `t + 1` from the step that takes the lock for thread `t` to the store of 0 that releases it. At all
-/// other moments it is 0.
+/// Lemma: a lock word is `t + 1` from the step at which thread `t` takes the lock until the store of 0 that releases
+/// it. At all other moments it is 0.
 pub fn lock_words<M: Machine>()
     ensures { LockWords M.table }
 {}
 
-/// Lemma: any thread can attempt to take a lock, and only the thread that holds it releases it. No other action changes a lock
-/// word.
+/// Lemma: any thread can attempt to take a lock, but only the thread that holds it can release it. No other action
+/// changes a lock word.
 pub fn lock_uses<M: Machine>()
     ensures { LockUses M.table }
 {}
@@ -50,8 +51,8 @@ pub fn unlinked_nodes_stay<M: Machine>()
     ensures { UnlinkedNodesStay M.table }
 {}
 
-/// Lemma: the link of a node never changes after the node is unlinked. In a list that marks nodes, the link never changes after
-/// the node is marked. (Harris; O'Hearn and others.)
+/// Lemma: once a node is unlinked, its link never changes again. In a list that marks nodes, this is so from the moment
+/// at which the node is marked. (Harris; O'Hearn and others.)
 pub fn frozen_nodes<M: Machine>()
     ensures { FrozenNodes M.table }
 {}
@@ -68,14 +69,14 @@ pub fn unmarked_nodes_in_chain<M: Machine>()
     ensures { UnmarkedNodesInChain M.table }
 {}
 
-/// Lemma: in a list that does not mark nodes no link is marked, not even the link of an unused slot.
+/// Lemma: in a list that does not mark nodes, no link is marked, not even that of an unused slot.
 pub fn no_link_is_marked<M: Machine>()
     ensures { NoLinkIsMarked M.table }
 {}
 
-/// Lemma: the content changes only at a step whose effect names the key, and only by this key. An `Add` of the key adds it if the
-/// thread is below its quota; a `Remove` of the key removes it. A call changes the content at most once. (Herlihy and Shavit's
-/// linearization points of calls that change the set.)
+/// Lemma: the content changes only at a step whose effect names a key, and only by that key. An `Add` of the key adds
+/// it if the thread is below its quota; a `Remove` of the key removes it. A call changes the content at most once.
+/// (Herlihy and Shavit's linearization points of calls that change the set.)
 pub fn named_change<M: Machine>()
     ensures { NamedChange M.table }
 {}
@@ -91,20 +92,20 @@ pub fn true_means_change<M: Machine>()
     ensures { TrueMeansChange M.table }
 {}
 
-/// Lemma: every run has an account. It states how each event changes the set and which replies are correct, and mentions neither
-/// nodes nor locks. (A form of Herlihy and Wing's linearizability.)
+/// Lemma: every run has an account. The account states how each event changes the set and which replies are correct,
+/// and mentions neither nodes nor locks. (A form of Herlihy and Wing's linearizability.)
 pub fn has_account<M: Machine>()
     ensures { HasAccount M.table }
 {}
 
-/// Lemma: the content at each moment of a run is one list of keys in strictly increasing order. (Herlihy and Shavit's abstraction
-/// map.)
+/// Lemma: at each moment of a run, the content is one list of keys in strictly increasing order. (Herlihy and Shavit's
+/// abstraction map.)
 pub fn listed_content<M: Machine>()
     ensures { ListedContent M.table }
 {}
 
-/// Lemma: in a list with open reads, each step of a `contains` is a load, and there are at most `bound` steps, whatever the other
-/// threads do. (Herlihy and Shavit's wait-free `contains`.)
+/// Lemma: in a list with open reads, each step of a `contains` is a load, and a `contains` makes at most `bound` steps,
+/// whatever the other threads do. (Herlihy and Shavit's wait-free `contains`.)
 pub fn bounded_reads<M: OpenReads>()
     ensures { BoundedReads M.table }
 {}

@@ -15,9 +15,9 @@ mod world;
 use lset_words::{Call, Key, Kind, Layout, Reply};
 pub use world::{ChainKey, StepFault, World, opening_words};
 
-/// The private state of a thread: its number, its quota and the slots it has used; its call with the reply and the program
-/// counter, which is 0 if no call is pending; and its registers. Each value of the program counter is one row of the list's
-/// table.
+/// The private state of a thread: its number, its quota and the number of slots used; its call, the reply, and the
+/// program counter, which is 0 if no call is pending; and its registers. Each value of the program counter is one row
+/// of the list's table.
 #[derive(Clone, Copy)]
 pub struct Local {
     pub thread: u32,
@@ -42,7 +42,7 @@ impl Local {
         Local::at_rest(t, layout.quota())
     }
 
-    /// Returns the state of a thread that has used no slot and begun no call.
+    /// Returns the state of a thread that has used no slot and has begun no call.
     pub(crate) fn at_rest(thread: u32, quota: u32) -> Local
         ensures { result ≡ idle quota thread }
     {
@@ -63,8 +63,8 @@ impl Local {
     }
 }
 
-/// One atomic access of one 64-bit word: the word's index, then the values. An exchange writes its second value if the word
-/// contains the first.
+/// One atomic access to one 64-bit word: the word's index, then the values. An exchange writes its second value if the
+/// word contains the first.
 #[derive(Clone, Copy)]
 pub enum Action {
     Load(u64),
@@ -86,8 +86,8 @@ pub enum Event {
     Go(u32),
 }
 
-/// The outcome of an event: the reply, if it ended a call; and the key that it added (`true`) or removed (`false`), if it changed
-/// the set.
+/// The outcome of an event: the reply, if the event ended a call, and the key that it added (`true`) or removed
+/// (`false`), if it changed the set.
 #[derive(Clone, Copy, Debug, PartialEq, Eq)]
 pub struct Told {
     pub answer: Option<Reply>,
@@ -131,7 +131,7 @@ pub trait Machine {
 /// A list whose `contains` takes no lock and writes nothing. Such a `contains` does not block (Herlihy and Shavit's wait-free
 /// `contains`).
 pub trait OpenReads: Machine {
-    /// Returns the maximum number of steps of a `contains`, whatever the other threads do. Each step is a load.
+    /// Returns the maximum number of steps that a `contains` makes, whatever the other threads do. Each step is a load.
     fn bound(layout: &Layout) -> u64
         ensures { result ≡ most_reads layout.now }
     {

@@ -16,8 +16,8 @@ pub fn own_slot(local: &Local) -> u64
     slot_node(local.quota, local.thread, local.used)
 }
 
-/// Returns the attempt to take the lock of `node`, which must be below `2^62`: an exchange of 0, a free lock, for the thread's
-/// number plus 1. (Herlihy and Shavit's node locks.)
+/// Returns the attempt to take the lock of `node`, which must be below `2^62`: an exchange of 0, which means free, for
+/// the thread's number plus 1. (Herlihy and Shavit's node locks.)
 #[inline(always)]
 pub fn try_lock(node: u64, local: &Local) -> Action
     requires { node < 2 ^ 62 }
@@ -42,7 +42,7 @@ pub fn begun(pc: u8, call: Call, local: &Local) -> Local
 /// The key word of the tail, `2^32 + 1`.
 pub const TAIL_WORD: u64 = 4_294_967_297;
 
-/// Returns the reply of a `ceiling` that stops at this key word: its key, or `Nothing` at the tail.
+/// Returns the reply of a `ceiling` that stops at this key word: the key, or `Nothing` at the tail.
 #[inline(always)]
 pub fn ceiling_at(word: u64) -> Reply
     ensures { result ≡ ceiling_at word }
@@ -54,7 +54,8 @@ pub fn ceiling_at(word: u64) -> Reply
     }
 }
 
-/// The rows at which a call continues after its decision: to add, to remove, or to leave with a reply.
+/// The rows at which a call continues after its decision: the row that adds, the row that removes, or the row that
+/// leaves with a reply.
 #[derive(Clone, Copy)]
 pub struct Targets {
     pub adds: u8,
@@ -62,9 +63,10 @@ pub struct Targets {
     pub leaves: u8,
 }
 
-/// Decides a call at the first key word that is not below its own. `add` leaves with `False` if the key is present, and with
-/// `Full` if the quota is used up. `remove` and `contains` leave with `False` if the key is absent. `ceiling` leaves with the
-/// word's key, or `Nothing` at the tail. Any other call continues at its row of `Targets`.
+/// Decides a call at the first key word that is not smaller than its own. `add` leaves with `False` if the key is
+/// present, and with `Full` if the quota is used up. `remove` and `contains` leave with `False` if the key is absent.
+/// `ceiling` leaves with the word's key, or with `Nothing` at the tail. Any other call continues at its row of
+/// `Targets`.
 #[inline(always)]
 pub fn decide(rows: Targets, key: u64, local: Local) -> Local
     ensures { result ≡ decided_on rows key local }

@@ -17,16 +17,16 @@ use std::alloc::{AllocError, Global};
 use std::marker::{Model, PhantomData};
 use thiserror::Error;
 
-/// The error of `World::step`: the first of these that applies. The world is unchanged.
+/// The error of `World::step`. If several apply, the first in this order is returned. The world is unchanged.
 #[derive(Clone, Copy, Debug, PartialEq, Eq, Error)]
 pub enum StepFault {
     /// The thread does not exist.
     #[error("no such thread")]
     NoThread,
-    /// The thread already has a pending call and cannot begin another.
+    /// The thread already has a pending call, so it cannot begin another.
     #[error("a call of the thread is open")]
     Busy,
-    /// The thread has no pending call and cannot make a step.
+    /// The thread has no pending call, so it cannot make a step.
     #[error("no call of the thread is open")]
     Idle,
 }
@@ -38,8 +38,8 @@ pub struct ChainKey {
     pub marked: bool,
 }
 
-/// The words of a list and the state of each thread, after the events of a run of the machine `M`. A world executes a run event
-/// by event, in one thread.
+/// The words of a list and each thread's state, after the events of a run of the machine `M`. A world executes a run
+/// one event at a time, in one thread.
 #[derive(Drop)]
 pub struct World<M: Machine> {
     alloc: Global,
@@ -65,7 +65,7 @@ impl<M: Machine> Model for World<M> {
     }) };
 }
 
-/// Returns the node of the first opening key; without opening keys, the number of nodes.
+/// Returns the node of the first opening key, or the number of nodes if there are no opening keys.
 fn first_opening_node(layout: &Layout) -> u64
     ensures node { result ≡ opening_node layout.now 0 }
     ensures few { result + layout.now.opening ≤ MOST_NODES }
@@ -74,7 +74,7 @@ fn first_opening_node(layout: &Layout) -> u64
     2 + u64::from(layout.threads()) * u64::from(layout.quota())
 }
 
-/// Returns the node of opening key `i`, or the tail if there are no more.
+/// Returns the node of opening key `i`, or the tail if `i` is past the last key.
 fn opening_next(layout: &Layout, i: u64) -> u64
     requires { i ≤ layout.now.opening }
     ensures node { result ≡ opening_next layout.now i }
@@ -140,9 +140,9 @@ fn opening_word_at(layout: &Layout, keys: &[u32], i: u64) -> u64
     }
 }
 
-/// Returns the words of a list before any event: a chain from the head over the nodes of the opening keys to the tail, free
-/// locks, and unused slots of zeros. `keys` must have as many keys as `layout` has opening keys. Allocates one vector of
-/// `layout.words()` words, at most 6,291,465; `AllocError` if the allocation fails.
+/// Returns the words of a list before any event: a chain from the head through the nodes of the opening keys to the
+/// tail, free locks, and unused slots filled with zeros. `keys` must have as many keys as `layout` has opening keys.
+/// Allocates one vector of `layout.words()` words, at most 6,291,465. Returns `AllocError` if that fails.
 pub fn opening_words(alloc: Global, layout: &Layout, keys: &[u32]) -> Result<Vec<u64>, AllocError>
     requires { length keys.now ≡ layout.now.opening }
     ensures words { IfOk result (λ v. v.items ≡ (opening (opening_of layout.now keys.now)).words) }
@@ -154,7 +154,7 @@ pub fn opening_words(alloc: Global, layout: &Layout, keys: &[u32]) -> Result<Vec
     for i in 0..9 {
         words.push(opening_word_at(layout, keys, i))?;
     }
-    // (the slots are almost all of the words: one fill writes them)
+    // Almost all of the words belong to slots, so one fill writes them.
     words.resize(behind_slots as usize, 0)?;
     for i in behind_slots..words_in_all {
         words.push(opening_word_at(layout, keys, i))?;
@@ -172,7 +172,7 @@ fn idle_locals(alloc: Global, layout: &Layout) -> Result<Vec<Local>, AllocError>
     Ok(locals)
 }
 
-/// Makes one access, and returns the value that it saw.
+/// Performs one access, and returns the value that it saw.
 #[inline(always)]
 fn access(words: &mut Vec<u64>, action: Action) -> u64
     requires { word_named action < length words.old.items }
@@ -207,8 +207,8 @@ fn sight(words: &[u64], action: Action) -> u64
 }
 
 impl<M: Machine> World<M> {
-    /// Returns the world of a list that opens empty, before any event: every thread is idle. The layout must have no opening
-    /// keys. Allocates the table and the states of the threads; `AllocError` if an allocation fails.
+    /// Returns the world of a list that opens empty, before any event: every thread is idle. The layout must have no
+    /// opening keys. Allocates the table and the threads' states. Returns `AllocError` if an allocation fails.
     pub fn new(alloc: Global, layout: Layout) -> Result<World<M>, AllocError>
         requires { layout.opening ≡ 0 }
         ensures { IfOk result (λ w. w ≡ record {
@@ -219,9 +219,10 @@ impl<M: Machine> World<M> {
         World::opened(alloc, layout, &[])
     }
 
-    /// Returns the world of a list that opens with `keys`, before any event: every thread is idle. `keys` must be in strictly
-    /// increasing order, and as many as the layout's opening keys. They are in the set from moment 0, and any thread can remove
-    /// them. Allocates the table and the states of the threads; `AllocError` if an allocation fails.
+    /// Returns the world of a list that opens with `keys`, before any event: every thread is idle. `keys` must be in
+    /// strictly increasing order, and as many as the layout's opening keys. They are in the set from moment 0, and any
+    /// thread can remove them. Allocates the table and the threads' states. Returns `AllocError` if an allocation
+    /// fails.
     pub fn opened(alloc: Global, layout: Layout, keys: &[u32]) -> Result<World<M>, AllocError>
         requires many { length keys.now ≡ layout.opening }
         requires rising { IsStrictlyIncreasing keys.now }
@@ -256,7 +257,7 @@ impl<M: Machine> World<M> {
         self.locals[t as usize].pc != 0
     }
 
-    /// Returns the state of thread `t`; `None` if the thread does not exist.
+    /// Returns the state of thread `t`, or `None` if the thread does not exist.
     pub fn holds(&self, t: u32) -> Option<Local>
         ensures { MatchOption result (self.now.sizes.threads ≤ t) (λ l.
             (t < self.now.sizes.threads) × (l ≡ local_of self.now.state t)) }
@@ -268,8 +269,8 @@ impl<M: Machine> World<M> {
         }
     }
 
-    /// Returns the next access of thread `t` and the value that it will see. `None` if the thread does not exist or has no
-    /// pending call.
+    /// Returns the next access of thread `t` and the value that it will see, or `None` if the thread does not exist or
+    /// has no pending call.
     pub fn next(&self, t: u32) -> Option<(Action, u64)>
         ensures { MatchOption result (Enabled self.now.state (Event.Go t) → ⊥) (λ s. Enabled self.now.state (Event.Go t)
             × (s.0 ≡ M.table.next (local_of self.now.state t)) × (s.1 ≡ seen_next M.table self.now.state t)) }
@@ -280,17 +281,17 @@ impl<M: Machine> World<M> {
         Some(self.next_access(t))
     }
 
-    /// Returns the keys of the set in strictly increasing order: the keys of the unmarked nodes of the chain between head and
-    /// tail. Allocates one vector; `AllocError` if that fails, and the world is unchanged.
+    /// Returns the keys of the set in strictly increasing order: the keys of the unmarked nodes of the chain between
+    /// head and tail. Allocates one vector. If that fails, returns `AllocError` and changes nothing.
     pub fn content(&self) -> Result<Vec<u32>, AllocError>
         ensures { IfOk result (λ v. IsContent (view_of self.now.sizes self.now.state) v.items) }
     {
         self.walk(|met| if met.marked { None } else { Some(met.key) })
     }
 
-    /// Returns the keys of the nodes of the chain between head and tail, in the chain's order, each with whether its node is
-    /// marked. Allocates one vector; `AllocError` if that fails, and the world is unchanged. (Herlihy and Shavit's lists; the
-    /// marks are Harris's.)
+    /// Returns the keys of the nodes between head and tail, in the chain's order, each with its node's mark. Allocates
+    /// one vector. If that fails, returns `AllocError` and changes nothing. (Herlihy and Shavit's lists; the marks are
+    /// Harris's.)
     pub fn chain(&self) -> Result<Vec<ChainKey>, AllocError>
         ensures keys { IfOk result (λ v. AreChainKeys (view_of self.now.sizes self.now.state) v.items) }
         ensures content { IfOk result (λ v.
@@ -299,7 +300,7 @@ impl<M: Machine> World<M> {
         self.walk(|met| Some(met))
     }
 
-    /// Walks along the chain from head to tail, and collects the results of `pick` for the keys between them.
+    /// Walks along the chain from head to tail, and collects the results of `pick` for the keys in between.
     fn walk<T: Copy, F: Fn(ChainKey) -> Option<T>>(&self, pick: F) -> Result<Vec<T>, AllocError>
         requires { F.IsAlwaysCallable pick }
         ensures { IfOk result (λ v.
@@ -415,7 +416,7 @@ impl<M: Machine> World<M> {
         self.go_holding(t, Local { pc: PC, ..held })
     }
 
-    /// Makes the next step of a thread whose call is at a row without an arm in `go`.
+    /// Makes the next step of a thread whose call is at a row that has no arm in `go`.
     fn go_elsewhere(&mut self, t: u32) -> Told
         requires { Enabled self.old.state (Event.Go t) }
         ensures new { self.new ≡ record self.old { state = after M.table self.old.state (Event.Go t) } }
@@ -425,8 +426,8 @@ impl<M: Machine> World<M> {
         self.go_holding(t, held)
     }
 
-    /// Makes the next step of a thread, by the code of its row. The arms cover each row of the five tables. A table with further
-    /// rows works without an arm for them here, but their steps are slower.
+    /// Makes the next step of a thread by its row's own code. There is an arm for each row of the five tables. Rows of
+    /// other tables work without an arm here, but their steps are slower.
     #[inline(always)]
     fn go(&mut self, t: u32) -> Told
         requires { Enabled self.old.state (Event.Go t) }
@@ -465,8 +466,8 @@ impl<M: Machine> World<M> {
     ///
     /// Returns the first error that applies if the event is not enabled. The world is then unchanged.
     /// - `NoThread`: the thread does not exist;
-    /// - `Busy`: the thread already has a pending call and cannot begin another;
-    /// - `Idle`: the thread has no pending call and cannot make a step.
+    /// - `Busy`: the thread already has a pending call, so it cannot begin another;
+    /// - `Idle`: the thread has no pending call, so it cannot make a step.
     #[inline(always)]
     pub fn step(&mut self, event: Event) -> Result<Told, StepFault>
         ensures { StepResult M.table self.old event result self.new }

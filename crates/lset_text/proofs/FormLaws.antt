@@ -1,4 +1,5 @@
--- Proof of the law of forms: values are read from the line that spells them, and from no other line. The proof covers every form.
+-- Proof of the law of forms: a line is read as some values if and only if it spells these values. The proof covers
+-- every form.
 use Rattle.std.proofs.Common.{◌≡◌, ℕ, ◌<◌, true, false, List, [], ◌∷◌, Option, Some, None, refl, ap, ◌∙◌, arith, codes, length}
 use Rattle.std.proofs.lemmas.Bool.{and_parts, and_left}
 use Rattle.std.specs.List.{AllByRecursion}
@@ -17,7 +18,7 @@ use Rattle.lset_text.proofs.WordLaws.{same_bytes, kind_ok, kind_again, kind_lack
 use Rattle.lset_text.proofs.WordLaws.{reply_again, reply_lacks}
 use Rattle.lset_text.proofs.ReadingLaws.{test_some}
 
--- ---- one field
+-- ---- Lemmas about a single field
 
 piece_ok : (v : Version) (p : Piece) (x : List ℕ) (t : Tells p) → IsPiece p → told v p x ≡ Some t → (x ≡ spelled p t) × Fits v p t
 piece_ok v (word w) x t is e = (same_bytes x w (test_some (bytes_eq x w) (Some tt) t e).0, tt)
@@ -50,12 +51,12 @@ piece_lacks v byte kind k low is fits = kind_lacks byte k low
 piece_lacks v byte call w low is fits = call_word_lacks byte w low
 piece_lacks v byte reply r low is fits = reply_lacks byte v r fits low
 
--- ---- a form
+-- ---- Lemmas about a whole form
 
 some_is : {A : Type 0} (a b : A) → Some a ≡ Some b → a ≡ b
 some_is a b e = cc
 
--- If `both` of two options is a pair, the first option has its first component and the second option its second.
+-- If `both o p` is a pair, `o` holds its first component and `p` its second.
 both_told : {A B : Type 0} (o : Option A) (p : Option B) (t : A × B) → both o p ≡ Some t → (o ≡ Some t.0) × (p ≡ Some t.1)
 both_told {A} {B} None p t e = absurd cc
 both_told {A} {B} (Some a) None t e = absurd cc
@@ -95,14 +96,14 @@ pub are_pieces : (f : Form) → IsForm f → ArePieces f
 are_pieces [] is = tt
 are_pieces (p ∷ f) is = is
 
--- A line with more fields than the form does not have the form.
+-- A line with more fields than a form does not match the form.
 pub too_many : (v : Version) (f : Form) (xs : List (List ℕ)) → length f < length xs → have_form v f xs ≡ false
 too_many v [] [] lt = absurd (omega arith)
 too_many v [] (x ∷ xs) lt = refl
 too_many v (p ∷ f) [] lt = absurd (omega arith)
 too_many v (p ∷ f) (x ∷ xs) lt = and_left (have_form v f xs) (has_form v p x) (too_many v f xs (omega (arith, lt)))
 
--- ---- a line
+-- ---- Lemmas about a whole line
 
 pub cut_form : (v : Version) (f : Form) (t : Told f) → IsForm f → AllFit v f t → cut_at 32 (line_with f t) ≡ spell f t
 cut_form v [] t is fit = absurd is
@@ -110,7 +111,7 @@ cut_form v (p ∷ f) t is fit =
     cut_line (spelled p t.0) (spell f t.1) (piece_lacks v 32 p t.0 (omega arith) is.0 fit.0)
     (form_lacks v 32 f t.1 (omega arith) is.1 fit.1)
 
--- Values that are read from a line are spelled by that line, and the version has a spelling for each of them.
+-- If values are read from a line, the line spells them, and the version can spell each of them.
 pub line_ok : (v : Version) (f : Form) (line : List ℕ) (t : Told f) → IsForm f → told_in v f (cut_at 32 line) ≡ Some t
     → (line ≡ line_with f t) × AllFit v f t
 line_ok v f line t is e =
@@ -118,7 +119,7 @@ line_ok v f line t is e =
     let found = form_ok v f (cut_at 32 line) t (are_pieces f is) read.0 read.1 in
     (line_from_cut line (spell f t) found.0, found.1)
 
--- The values of a line are read from the line that spells them.
+-- Reading the line that spells some values returns these values.
 pub line_again : (v : Version) (f : Form) (t : Told f) → IsForm f → AllFit v f t → told_in v f (cut_at 32 (line_with f t)) ≡ Some t
 line_again v f t is fit =
     let again = form_again v f t (are_pieces f is) fit in

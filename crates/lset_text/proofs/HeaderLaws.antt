@@ -1,4 +1,4 @@
--- Proof that a header is read from its four lines and from no other text.
+-- Proof that a header is read from its own four lines and from no other text.
 use Rattle.std.proofs.Common.{◌≡◌, Result, ℕ, ◌<◌, ◌≤◌, ◌^◌, true, List, [], ◌∷◌, ◌++◌, length, Option, Some, None, Ok, Err, refl}
 use Rattle.std.proofs.Common.{ap, subst, ◌∙◌, arith, codes}
 use Rattle.std.specs.Prelude.{option_map}
@@ -24,12 +24,12 @@ use Rattle.lset_text.proofs.ReadingLaws.{bind_ok, or_fail_ok, test_some, ok_is}
 use Rattle.lset_text.proofs.WordLaws.{same_bytes}
 use Rattle.lset_text.proofs.FormLaws.{line_ok, line_again, form_line_lacks}
 
--- ---- one line
+-- ---- Lemmas about a single header line
 
 title_ok : (title line told : List ℕ) → title_in title line ≡ Some told → line ≡ title
 title_ok title line told is = same_bytes line title (test_some (bytes_eq line title) (Some title) told is).0
 
--- If the second of two values of a line is `a`, the line's values are the fixed word and `a`.
+-- If a line is the fixed word and a value, and the value is `a`, then its values are the word and `a`.
 second : {A : Type 0} (o : Option (Unit {0} × (A × Unit {0}))) (a : A) → option_map (λ t. t.1.0) o ≡ Some a → o ≡ Some (tt, (a, tt))
 second {A} None a is = absurd cc
 second {A} (Some t) a is = ap (λ (x : A). Some (tt, (x, tt))) (some_is t.1.0 a is)
@@ -57,14 +57,14 @@ number_after_again w low high n letters wide low_ok high_ok =
     ap (option_map (λ t. t.1.0))
     (line_again Two (number_form w low high) (tt, (n, tt)) (letters, (wide, tt)) (tt, ((low_ok, high_ok), tt)))
 
--- ---- the next header line
+-- ---- Lemmas about splitting off the next header line
 
 pub line_due_goes : (line : ℕ) (cause : Cause) (x : List ℕ) (parts : List (List ℕ)) → 0 < length parts
     → line_due line cause (x ∷ parts) ≡ Ok (x, parts)
 line_due_goes line cause x [] h = absurd (omega arith)
 line_due_goes line cause x (y ∷ more) h = refl
 
--- A line and the parts after it.
+-- A header line, and the parts of the text that come after it.
 abbrev Due : Type 0
 Due = List ℕ × List (List ℕ)
 
@@ -77,7 +77,7 @@ line_due_ok line cause [] due is = absurd cc
 line_due_ok line cause (rest ∷ []) due is = absurd cc
 line_due_ok line cause (a ∷ b ∷ more) due is = subst (IsDue (a ∷ b ∷ more)) (ok_is (a, b ∷ more) due is) (refl, omega arith)
 
--- The first part is a line from which `read` reads the value, and at least one part follows.
+-- States that `read` reads the value from the first part, and that at least one part follows.
 abbrev IsToldBy : {A : Type 0} → (List ℕ → Option A) → List (List ℕ) → A × List (List ℕ) → Type 0
 IsToldBy read parts told = (x : List ℕ) × (parts ≡ x ∷ told.1) × (read x ≡ Some told.0) × (0 < length told.1)
 
@@ -96,12 +96,12 @@ told_again : {A : Type 0} (line : ℕ) (cause : Cause) (read : List ℕ → Opti
 unfolding told_by_line
 told_again line cause read x y more told is = rw is refl
 
--- ---- the header
+-- ---- Lemmas about the whole header
 
 abbrev Found : Type 0
 Found = Header × List (List ℕ)
 
--- The remaining checks after the quota line, after the threads line, after the kind line, and after the title.
+-- The checks that remain after the quota line, after the threads line, after the kind line, and after the title.
 abbrev after_quota : Kind → ℕ → ℕ × List (List ℕ) → Result Found LineFault
 after_quota kind threads quota = Ok (record { kind = kind; threads = threads; quota = quota.0 }, quota.1)
 
@@ -114,11 +114,11 @@ after_kind kind = threads_told kind.1 >>= after_threads kind.0
 abbrev after_title : List ℕ × List (List ℕ) → Result Found LineFault
 after_title first = kind_told first.1 >>= after_kind
 
--- The parts begin with the lines of the header that was found, and at least one part follows.
+-- States that the parts begin with the header's lines, and that at least one part follows.
 abbrev BeginsWith : List ℕ → List (List ℕ) → Found → Type 0
 BeginsWith title parts found = (parts ≡ header_lines title found.0 ++ found.1) × IsHeader found.0 × (0 < length found.1)
 
--- ---- no check of a header fails because an allocation failed
+-- ---- Proof that reading a header never fails with `Memory`
 
 abbrev NeverMemory : {A : Type 0} → Result A LineFault → Type 0
 NeverMemory r = (e : LineFault) → r ≡ Err e → e.cause ≡ wrong.Memory → ⊥
@@ -196,7 +196,7 @@ header_lacks title h lacks within =
     let line4 = number_line_lacks (codes "quota") h.quota refl (omega (arith, within.small)) in
     (lacks, (line2, (line3, (line4, tt))))
 
--- ---- texts that begin with a header
+-- ---- Lemmas about texts that begin with a header
 
 pub header_in_text : (title text : List ℕ) (h : Header) (rest : List ℕ)
     → header_of title (cut_at 10 text) ≡ Ok (h, cut_at 10 rest) → IsHeader h × (text ≡ text_of (header_lines title h) ++ rest)

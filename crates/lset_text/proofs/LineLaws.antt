@@ -1,4 +1,4 @@
--- Laws of a loop that reads the lines of a text one by one, for every grammar.
+-- Laws of a loop that reads a text line by line. They hold for every grammar.
 use Rattle.std.proofs.Common.{◌≡◌, ℕ, ◌+◌, ◌<◌, ◌≤◌, ◌⊎◌, inl, inr, Bool, true, false, cond, eqb, List, [], ◌∷◌, ◌++◌, length}
 use Rattle.std.proofs.Common.{get_or, Result, Ok, Err, refl, sym, ap, subst, ◌∙◌, append_assoc, length-append, arith}
 use Rattle.std.specs.List.{AllByRecursion}
@@ -15,7 +15,7 @@ use Rattle.lset_text.specs.Lines.{Grammar, lines_from, Leads, IsFaultlessTo, IsG
 use Rattle.lset_text.proofs.PartLaws.{some_part}
 use Rattle.lset_text.proofs.ReadingLaws.{bind_ok, map_fault_ok}
 
--- ---- one whole line
+-- ---- Lemmas about a single complete line
 
 lines_go : {S : Type 0} (g : Grammar S) (line : ℕ) (s t : S) (x : List ℕ) (parts : List (List ℕ)) → 0 < length parts
     → g.step s x ≡ Ok t → lines_from g line s (x ∷ parts) ≡ lines_from g (line + 1) t parts
@@ -29,7 +29,7 @@ unfolding lines_from
 lines_stop g d line s x [] some is = absurd (omega arith)
 lines_stop g d line s x (y ∷ more) some is = rw is refl
 
--- ---- an error is at the first line or below it
+-- ---- Proof that an error is never above the first line that is read
 
 pub bind_err : {A B E : Type 0} (r : Result A E) (f : A → Result B E) (d : E) → (r >>= f) ≡ Err d
     → (r ≡ Err d) ⊎ ((x : A) × (r ≡ Ok x) × (f x ≡ Err d))
@@ -60,13 +60,13 @@ faultless_from {S} g above line s parts below =
     faultless (Ok x) all = tt
     faultless (Err e) all = all e refl
 
--- ---- one round of the loop
+-- ---- Lemmas about one round of the loop
 
 pub starts : {S : Type 0} (g : Grammar S) (first : ℕ) (text : List ℕ) (s : S)
     → Stands g first text (lines_from g first s (cut_at 10 text)) first s text
 starts g first text s = record { so_far = refl; above = []; parts = refl; number = omega arith; left = omega arith }
 
--- A line that is accepted: the loop is at the next line, in the next state.
+-- If the line is accepted, the loop continues with the next line, in the next state.
 pub goes_on : {S : Type 0} (g : Grammar S) (first : ℕ) (text : List ℕ) (read : Result S LineFault) (line : ℕ) (s t : S)
     (rest x after : List ℕ) → cut_at 10 rest ≡ x ∷ cut_at 10 after → length x + length after + 1 ≡ length rest → g.step s x ≡ Ok t
     → Stands g first text read line s rest → Stands g first text read (line + 1) t after
@@ -80,14 +80,14 @@ goes_on g first text read line s t rest x after parts shorter is stands = record
   left = omega (arith, stands.left, shorter);
 }
 
--- A line that is refused: reading the whole text fails with the error of that line.
+-- If the line is refused, reading the whole text fails with that line's error.
 pub stops : {S : Type 0} (g : Grammar S) (first : ℕ) (text : List ℕ) (read : Result S LineFault) (line : ℕ) (s : S) (d : Cause)
     (rest x after : List ℕ) → cut_at 10 rest ≡ x ∷ cut_at 10 after → g.step s x ≡ Err d
     → Stands g first text read line s rest → read ≡ Err (fault line d)
 stops g first text read line s d rest x after parts is stands =
     sym stands.so_far ∙ ap (lines_from g line s) parts ∙ lines_stop g d line s x (cut_at 10 after) (some_part 10 after) is
 
--- A line that has bytes and no newline: reading the whole text fails with `NotEnded`.
+-- If the line has bytes but no newline, reading the whole text fails with `NotEnded`.
 pub not_ended : {S : Type 0} (g : Grammar S) (first : ℕ) (text : List ℕ) (read : Result S LineFault) (line : ℕ) (s : S)
     (rest : List ℕ) → cut_at 10 rest ≡ rest ∷ [] → (length rest ≡ 0 → ⊥)
     → Stands g first text read line s rest → read ≡ Err (unended line)
@@ -95,14 +95,14 @@ unfolding lines_from
 not_ended g first text read line s rest parts some stands =
     sym stands.so_far ∙ rw (parts, ne_eqb (length rest) 0 some) refl
 
--- No byte is left: the result is that of the grammar's check at the end.
+-- If no bytes are left, the result is decided by the grammar's check at the end of a text.
 pub is_done : {S : Type 0} (g : Grammar S) (first : ℕ) (text : List ℕ) (read : Result S LineFault) (line : ℕ) (s : S)
     (rest : List ℕ) → length rest ≡ 0 → Stands g first text read line s rest → read ≡ map_fault (fault line) (g.ends s)
 unfolding lines_from
 is_done g first text read line s rest none stands =
     let empty : rest ≡ [] = nil_from_length rest none in sym stands.so_far ∙ rw empty refl
 
--- An accepted line has no error, and neither has any line above it.
+-- If a line is accepted, neither this line nor any line above it has an error.
 pub is_good : {S : Type 0} (g : Grammar S) (first : ℕ) (text : List ℕ) (read : Result S LineFault) (line : ℕ) (s t : S) (rest x after : List ℕ)
     → cut_at 10 rest ≡ x ∷ cut_at 10 after → g.step s x ≡ Ok t
     → Stands g first text read line s rest → IsGoodLine first (cut_at 10 text) read line
@@ -117,7 +117,7 @@ is_good {S} g first text read line s t rest x after parts is stands =
       rw (← more) (faultless_from g line (line + 1) t (cut_at 10 after) (omega arith)),
     )
 
--- A line that is not accepted, because it has an error or an allocation failed.
+-- Laws for a line that is not accepted: it has an error, or an allocation failed.
 module _ {S : Type 0} (g : Grammar S) (first : ℕ) (text : List ℕ) (read : Result S LineFault) (line : ℕ) (s : S)
     (rest x after : List ℕ) (parts : cut_at 10 rest ≡ x ∷ cut_at 10 after) (stands : Stands g first text read line s rest)
     (cause : Cause) where
@@ -132,7 +132,7 @@ module _ {S : Type 0} (g : Grammar S) (first : ℕ) (text : List ℕ) (read : Re
   ran_out never (inl is) same = absurd (never (is ∙ ap (λ (c : Cause). Err c) same))
   ran_out never (inr none) same = is_good g first text read line s none.1 rest x after parts none.2 stands
 
--- The current line is a part of the text: the one after those already read.
+-- The current line is the part of the text that follows the lines already read.
 pub line_at : {S : Type 0} (g : Grammar S) (first : ℕ) (text : List ℕ) (read : Result S LineFault) (line : ℕ) (s : S)
     (rest x after : List ℕ) → cut_at 10 rest ≡ x ∷ cut_at 10 after → (stands : Stands g first text read line s rest)
     → get_or (cut_at 10 text) (length stands.above) [] ≡ x
@@ -140,15 +140,15 @@ line_at g first text read line s rest x after parts stands =
     ap (λ (ps : List (List ℕ)). get_or ps (length stands.above) []) (cc (stands.parts, parts))
     ∙ get_or-append_seam stands.above x (cut_at 10 after) []
 
--- ---- reading and writing
+-- ---- Proof that reading and writing are inverse
 
 ended : {S : Type 0} (g : Grammar S) (line : ℕ) (other : Cause) (b : Bool) (s t : S)
     → map_fault (fault line) (cond b (g.ends s) (Err other)) ≡ Ok t → (b ≡ true) × (g.ends s ≡ Ok t)
 ended g line other true s t e = (refl, map_fault_ok (fault line) (g.ends s) t e)
 ended g line other false s t e = absurd cc
 
--- If each accepted line extends the text of the state by that line and keeps `P`, the bytes that are read are the text of the
--- last state, and `P` holds of that state.
+-- Suppose that each accepted line appends itself to the text of the state, and preserves `P`. Then the bytes that were
+-- read are the text of the last state, and `P` holds of that state.
 pub lines_hold : {S : Type 0} (g : Grammar S) (P : S → Type 0) (text : S → List (List ℕ))
     → ((s t : S) (x : List ℕ) → P s → g.step s x ≡ Ok t → P t × (text t ≡ text s ++ x ∷ []))
     → ((s t : S) → g.ends s ≡ Ok t → s ≡ t)
@@ -177,7 +177,7 @@ some_more : (ls : List (List ℕ)) → 0 < length (ls ++ [] ∷ [])
 some_more [] = omega arith
 some_more (l ∷ ls) = omega arith
 
--- If lines lead from one state to another and a text can end there, reading these lines returns that last state.
+-- If lines lead from one state to another, and a text can end in the second state, then reading these lines returns it.
 pub lines_again : {S : Type 0} (g : Grammar S) (line : ℕ) (s t : S) (xs : List (List ℕ)) → Leads g s xs t
     → g.ends t ≡ Ok t → lines_from g line s (xs ++ [] ∷ []) ≡ Ok t
 unfolding lines_from
@@ -198,7 +198,8 @@ leads_all g P Q one s t [] holds leads = tt
 leads_all g P Q one s t (x ∷ xs) holds leads =
     let moved = one s leads.0 x holds leads.1 in (moved.1, leads_all g P Q one leads.0 t xs moved.0 leads.2)
 
--- If the line of each item leads from the state of the items before it to the state with it, the lines of the whole list do.
+-- If each item's line leads from the state before the item to the state after it, the lines of the whole list lead from
+-- the first state to the last.
 pub items_lead : {S X : Type 0} (g : Grammar S) (state : List X → S) (lines : ℕ → List X → List (List ℕ))
     (line : ℕ → X → List ℕ) → ((n : ℕ) → lines n [] ≡ [])
     → ((n : ℕ) (x : X) (xs : List X) → lines n (x ∷ xs) ≡ line n x ∷ lines (n + 1) xs) → (before xs : List X)

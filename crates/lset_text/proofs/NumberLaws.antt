@@ -1,4 +1,4 @@
--- Laws of decimals and the numbers that they spell.
+-- Laws of decimal numerals and the numbers that they spell.
 use Rattle.std.proofs.Common.{◌≡◌, ℕ, zero, suc, ◌+◌, ◌-◌, ◌*◌, ◌^◌, ◌<◌, ◌≤◌, Bool, true, false, cond, eqb, leb, ◌&&◌, ◌||◌, not}
 use Rattle.std.proofs.Common.{List, length, get_or, take, Some, None, refl, sym, ap, ◌∙◌, arith, inl, inr}
 use Rattle.std.specs.Fmt.{decimal}
@@ -18,7 +18,7 @@ use Rattle.lset_text.specs.Numbers.{is_number, is_between, number_in, max_number
 own : IsNumeralModel (λ ds. all_ascii_digits ds ≡ true) (digits_value 10)
 own = numerals_by_value _ tells_all_ascii_digits
 
--- ---- the invariant of a loop over the digits of a field
+-- ---- Lemmas about a loop over the digits of a field
 
 value_of_digit : (c : ℕ) → 48 ≤ c → c ≤ 57 → digit_value c ≡ c - 48
 value_of_digit c low high = grind arith
@@ -69,7 +69,7 @@ is_spelled low high p v is some digits first low_ok high_ok =
     let both = and_from _ _ number (and_from _ _ low_test high_test) in
     rw both (ap (λ (n : ℕ). Some n) is)
 
--- ---- reading and writing
+-- ---- Proof that reading and writing are inverse
 
 some_then : (b : Bool) (n v : ℕ) → cond b (Some n) None ≡ Some v → (b ≡ true) × (n ≡ v)
 some_then true n v e = (refl, cc)
@@ -100,14 +100,14 @@ number_again low high v wide low_ok high_ok =
     first zero small many is = many (ap (λ (ds : List ℕ). length ds) (decimal_digit 0 (omega arith)))
     first (suc n) small many is = let above = first_decimal (suc n) (omega arith) small in omega (arith, above, is)
 
--- A decimal contains no byte below the digits.
+-- A decimal numeral contains no byte smaller than the digits.
 pub decimal_lacks : (byte n : ℕ) → byte < 48 → n < 2 ^ 64 → Lacks byte (decimal n)
 decimal_lacks byte n low small =
     All-from_get_or (λ b. eqb b byte ≡ false) (decimal n) 0 (λ i lt.
     let range = digit_at (decimal n) i (own.to (decimal n) (digits_decimal own n small)) lt in
     ne_eqb (get_or (decimal n) i 0) byte (λ e. absurd (omega (arith, range.0, e))))
 
--- ---- numbers as fields of a line
+-- ---- Lemmas about numbers as fields of a line
 
 pub any_fits : (n : ℕ) → n < 2 ^ 32 → (0 ≤ n) × (n ≤ max_number)
 any_fits n low = (omega arith, omega (arith, low))

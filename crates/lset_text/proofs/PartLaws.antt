@@ -1,4 +1,4 @@
--- Laws of cutting texts into lines and lines into fields, and of joining them again.
+-- Laws about cutting a text into lines and a line into fields, and about joining the parts again.
 use Rattle.std.proofs.Common.{◌≡◌, ℕ, ◌+◌, ◌-◌, ◌<◌, ◌≤◌, Bool, true, false, cond, eqb, ltb, not, ◌&&◌, List, [], ◌∷◌, ◌++◌}
 use Rattle.std.proofs.Common.{length, take, drop, Some, None, refl, sym, ap, ◌∙◌, append_assoc, arith, length-append}
 use Rattle.std.specs.Prelude.{position}
@@ -12,20 +12,20 @@ use Rattle.std.proofs.lemmas.List.Splits.{join_with_byte-slice_split}
 use Rattle.std.proofs.lemmas.List.Sums.{position_or_len_is, fails_before_first}
 use Rattle.lset_text.specs.Parts.{cut_at, line_of, text_of, all_from, Lacks}
 
--- ---- one cut
+-- ---- Lemmas about cutting a text once
 
 cond_none : {X : Type 0} (b : Bool) (x : X) → None ≡ cond b (Some x) None → b ≡ false
 cond_none true x e = absurd cc
 cond_none false x e = refl
 
--- A text without the byte is one part.
+-- A text that does not contain the byte is a single part.
 pub uncut : (byte : ℕ) (text : List ℕ) → None ≡ position (λ b. eqb b byte) text → cut_at byte text ≡ text ∷ []
 uncut byte text e =
     let first = position_or_len (λ b. eqb b byte) text in
     let past = ltb-false _ _ (cond_none (ltb first (length text)) first e) in
     slice_split_none (λ b. eqb b byte) text (λ k d lt. fails_before_first (λ b. eqb b byte) text k d (omega arith))
 
--- The first part of a text ends before the first such byte.
+-- The first part of a text ends just before the first occurrence of the byte.
 pub cut_first : (byte : ℕ) (text : List ℕ) (i : ℕ) → Some i ≡ position (λ b. eqb b byte) text
     → cut_at byte text ≡ take i text ∷ cut_at byte (take (length text - (i + 1)) (drop (i + 1) text))
 cut_first byte text i e =
@@ -34,13 +34,13 @@ cut_first byte text i e =
     let at : position_or_len p text ≡ i = position_or_len_is p text i 0 (omega (arith, found.0)) found.2 (λ lt. found.1) in
     rw (slice_split_first p text 0 (omega (arith, at, found.0)), at, take_rest text (i + 1)) refl
 
--- A text has at least one part.
+-- Cutting a text returns at least one part.
 pub some_part : (byte : ℕ) (text : List ℕ) → 0 < length (cut_at byte text)
 some_part byte text = omega (arith, length-slice_split (λ b. eqb b byte) text)
 
--- ---- bytes that a text lacks
+-- ---- Lemmas about bytes that do not occur in a text
 
--- A test that computes if the text is written out.
+-- Tests whether a byte is missing from a text. The test can be computed for a literal text.
 abbrev pub is_free : ℕ → List ℕ → Bool
 is_free byte [] = true
 is_free byte (b ∷ bs) = not (eqb b byte) && is_free byte bs
@@ -62,7 +62,7 @@ Lacks-below low byte (b ∷ bs) lt h =
 pub Lacks-append : (byte : ℕ) (xs ys : List ℕ) → Lacks byte xs → Lacks byte ys → Lacks byte (xs ++ ys)
 Lacks-append byte xs ys h k = All-append (λ b. eqb b byte ≡ false) xs ys h k
 
--- Joined parts lack a byte that each of them lacks, unless the byte between them is this byte.
+-- If no part contains a byte, and the byte that joins the parts is another one, the joined text does not contain it.
 pub Lacks-joined : (byte between : ℕ) (pieces : List (List ℕ)) → (between ≡ byte → ⊥) → AllByRecursion (Lacks byte) pieces
     → Lacks byte (join_with_byte between pieces)
 Lacks-joined byte between [] ne h = All-nil (λ b. eqb b byte ≡ false)
@@ -72,11 +72,11 @@ Lacks-joined byte between (x ∷ y ∷ ys) ne h =
     let rest = All-cons (λ b. eqb b byte ≡ false) between (join_with_byte between (y ∷ ys)) (ne_eqb between byte ne) others in
     All-append (λ b. eqb b byte ≡ false) x (between ∷ join_with_byte between (y ∷ ys)) h.0 rest
 
--- The line of fields without newlines contains no newline.
+-- If no field contains a newline, neither does the line of these fields.
 pub line_lacks : (pieces : List (List ℕ)) → AllByRecursion (Lacks 10) pieces → Lacks 10 (line_of pieces)
 line_lacks pieces h = Lacks-joined 10 32 pieces (λ bad. absurd (omega (arith, bad))) h
 
--- ---- fields
+-- ---- Lemmas about cutting a line into fields
 
 pub cut_joined : (byte : ℕ) (x : List ℕ) (xs : List (List ℕ)) → Lacks byte x → AllByRecursion (Lacks byte) xs
     → cut_at byte (join_with_byte byte (x ∷ xs)) ≡ x ∷ xs
@@ -86,7 +86,7 @@ cut_joined byte x (y ∷ ys) lacks more =
     let first = slice_split_at (λ b. eqb b byte) x byte (join_with_byte byte (y ∷ ys)) lacks (eq-eqb byte byte refl) in
     first ∙ ap (λ (ps : List (List ℕ)). x ∷ ps) others
 
--- Cutting the line of some fields returns these fields.
+-- Cutting a line at its spaces returns its fields.
 pub cut_line : (x : List ℕ) (xs : List (List ℕ)) → Lacks 32 x → AllByRecursion (Lacks 32) xs
     → cut_at 32 (line_of (x ∷ xs)) ≡ x ∷ xs
 cut_line x xs lacks more = cut_joined 32 x xs lacks more
@@ -94,13 +94,13 @@ cut_line x xs lacks more = cut_joined 32 x xs lacks more
 pub joined_cut : (byte : ℕ) (text : List ℕ) (parts : List (List ℕ)) → cut_at byte text ≡ parts → text ≡ join_with_byte byte parts
 joined_cut byte text parts e = sym (join_with_byte-slice_split byte text) ∙ ap (join_with_byte byte) e
 
--- A line is the line of its own fields.
+-- Joining the fields that a line was cut into returns the line.
 pub line_from_cut : (line : List ℕ) (pieces : List (List ℕ)) → cut_at 32 line ≡ pieces → line ≡ line_of pieces
 line_from_cut line pieces e = joined_cut 32 line pieces e
 
--- ---- lines
+-- ---- Lemmas about cutting a text into lines
 
--- The parts of some lines followed by a rest are these lines and the parts of the rest.
+-- Cutting a text that begins with some lines returns these lines, then the parts of the remaining text.
 pub cut_text : (lines : List (List ℕ)) (rest : List ℕ) → AllByRecursion (Lacks 10) lines
     → cut_at 10 (text_of lines ++ rest) ≡ lines ++ cut_at 10 rest
 cut_text [] rest h = refl
@@ -122,12 +122,12 @@ join_text (x ∷ xs) rest =
     let regrouped : text_of (x ∷ xs) ++ rest ≡ x ++ 10 ∷ (text_of xs ++ rest) = simp append_assoc in
     join_more x (xs ++ cut_at 10 rest) some ∙ others ∙ sym regrouped
 
--- A text whose first parts are some lines begins with the text of these lines.
+-- If the first parts of a text are some lines, the text begins with the text of these lines.
 pub text_from_cut : (text : List ℕ) (lines : List (List ℕ)) (rest : List ℕ) → cut_at 10 text ≡ lines ++ cut_at 10 rest
     → text ≡ text_of lines ++ rest
 text_from_cut text lines rest e = joined_cut 10 text (lines ++ cut_at 10 rest) e ∙ join_text lines rest
 
--- A text whose last part is empty is the text of the parts before it.
+-- If the last part of a text is empty, the text consists of the lines before this part.
 pub text_from_lines : (text : List ℕ) (lines : List (List ℕ)) → cut_at 10 text ≡ lines ++ [] ∷ [] → text ≡ text_of lines
 text_from_lines text lines e = text_from_cut text lines [] e ∙ append-nil (text_of lines)
 

@@ -1,4 +1,4 @@
--- Laws of sections: lines of one kind in a row, one for each item of a list. They hold for every text.
+-- Laws of sections. A section has one line for each item of a list. The laws hold for every text.
 use Rattle.std.proofs.Common.{◌≡◌, ℕ, ◌<◌, ◌≤◌, ◌^◌, List, [], ◌∷◌, ◌++◌, map, length, true, Ok, refl, sym, ap, subst, arith}
 use Rattle.std.proofs.Common.{append_assoc, length-append}
 use Rattle.std.specs.List.{AllByRecursion}
@@ -14,7 +14,7 @@ use Rattle.lset_text.specs.Openings.{opening_line, opening_lines, is_above, HasO
 use Rattle.lset_text.proofs.OpeningLaws.{above_before}
 use Rattle.lset_text.proofs.LineLaws.{items_lead}
 
--- ---- an item of a list
+-- ---- Lemmas about an item of a list
 
 at_seam : {X : Type 0} (P : X → Type 0) (front more : List X) (x : X) → AllByRecursion P (front ++ x ∷ more) → P x
 at_seam P [] more x all = all.0
@@ -26,7 +26,7 @@ middle P front more xs x is all = at_seam P front more x (subst (AllByRecursion 
 pub shorter : {X : Type 0} (front more xs : List X) (x : X) → front ++ x ∷ more ≡ xs → length front < length xs
 shorter front more xs x is = let long = ap length is in omega (arith, long, length-append front (x ∷ more))
 
--- ---- a further line of a section, if the sections after it are still empty, is the last line of the text
+-- ---- If the later sections are still empty, a line added to a section is the last line of the text
 
 pub push_last : {X : Type 0} (f : List (List ℕ)) (line : X → List ℕ) (xs : List X) (x : X)
     → f ++ map line (xs ++ x ∷ []) ≡ f ++ map line xs ++ line x ∷ []
@@ -36,9 +36,9 @@ pub push_before : {X : Type 0} (f a : List (List ℕ)) (line : X → List ℕ) (
     → f ++ map line (xs ++ x ∷ []) ++ a ≡ f ++ map line xs ++ a ++ line x ∷ []
 push_before f a line xs x none = rw (none, map_push line xs x) (simp (append-nil, append_assoc))
 
--- ---- the section that the reader is in
+-- ---- Which section the reader is in
 
--- The section that the reader is in: `s` before the first item, `t` after it.
+-- Returns the section that the reader is in: `s` before the section's first item, `t` afterwards.
 abbrev pub later : {X T : Type 0} → List X → T → T → T
 later [] s t = s
 later (x ∷ xs) s t = t
@@ -47,7 +47,7 @@ pub later_pushed : {X T : Type 0} (xs : List X) (x : X) (s t : T) → t ≡ late
 later_pushed [] x s t = refl
 later_pushed (y ∷ ys) x s t = refl
 
--- ---- a section with a limit of items: if the line of each item leads to the next state, the lines of the section lead to the last
+-- ---- If each item's line leads to the next state, the lines of a section lead to the last state, provided its limit is not exceeded
 
 pub section_leads : {S X : Type 0} (g : Grammar S) (state : List X → S) (line : X → List ℕ) (P : X → Type 0) (most : ℕ)
     (xs : List X) → length xs ≤ most → AllByRecursion P xs
@@ -57,7 +57,8 @@ section_leads g state line P most xs few are each =
     items_lead g state (λ n. map line) (λ n. line) (λ n. refl) (λ n x ys. refl) [] xs
     (λ front more x is. each front more x is (omega (arith, shorter front more xs x is, few)) (middle P front more xs x is are))
 
--- The opening keys lead from the empty state to the state with all of them. A file of version 1 has none.
+-- The lines of the opening keys lead from the state without keys to the state with all of them. A file of version 1 has
+-- none.
 pub openings_lead : {S : Type 0} (g : Grammar S) (state : List ℕ → S) (v : Version) (o : Opening) → Opens o
     → HasOpening v o.keys
     → ((front : List ℕ) (k : ℕ) → v ≡ Two → length front < MOST_OPENING → k < 2 ^ 32 → is_above front k ≡ true

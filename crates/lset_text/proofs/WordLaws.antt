@@ -37,7 +37,7 @@ some_is a b e = cc
 no_word : {A : Type 0} (k : A) → None ≡ Some k → ⊥
 no_word k e = cc
 
--- For every list of values: a value is read only from its own text, and is one of the list.
+-- For every list of values: a value that is read is in the list, and is read only from its own text.
 pub value_ok : {A : Type 0} (text : A → List ℕ) (P : A → Type 0) (values : List A) (piece : List ℕ) (x : A)
     → AllByRecursion P values → value_of text values piece ≡ Some x → (piece ≡ text x) × P x
 value_ok text P [] piece x all is = absurd cc
@@ -47,7 +47,7 @@ value_ok {A} text P (y ∷ ys) piece x all is = elim (cases_Bool (bytes_eq piece
   | inr other ↦ value_ok text P ys piece x all.1 (sym (rw other refl) ∙ is)
 ]
 
--- ---- kinds
+-- ---- Lemmas about the names of kinds of lists
 
 pub kind_ok : (piece : List ℕ) (k : Kind) → kind_of piece ≡ Some k → piece ≡ kind_text k
 unfolding kind_of
@@ -66,7 +66,7 @@ pub kind_lacks : (byte : ℕ) (k : Kind) → byte < 45 → Lacks byte (kind_text
 kind_lacks byte kind.Coarse low = Lacks-below 45 byte (codes "coarse") low refl
 kind_lacks byte k low = Lacks-below 45 byte (kind_text k) low refl
 
--- ---- calls
+-- ---- Lemmas about the names of calls
 
 words_fit : (v : Version) → AllByRecursion (HasWord v) (words_in v)
 words_fit One = (tt, (tt, (tt, tt)))
@@ -84,7 +84,7 @@ call_in_again One w h = refl
 call_in_again Two word.Add h = refl
 call_in_again Two w h = refl
 
--- A call is its name together with its key.
+-- Taking a call apart into its name and its key, and putting them together, returns the call.
 pub with_key-word_of : (c : Call) → with_key (word_of c) (key_of c) ≡ c
 with_key-word_of (call.Add k) = refl
 with_key-word_of c = refl
@@ -97,7 +97,7 @@ pub key_of-with_key : (w : CallWord) (k : Key) → key_of (with_key w k) ≡ k
 key_of-with_key word.Add k = refl
 key_of-with_key w k = refl
 
--- ---- replies
+-- ---- Lemmas about the spelling of replies
 
 plain_fit : (v : Version) → AllByRecursion (HasReply v) (plain_in v)
 plain_fit One = (tt, (tt, (tt, tt)))
@@ -111,7 +111,7 @@ at_again : (k : Key) → k.0 < 2 ^ 32 → reply_in Two (reply_text (reply.At k))
 unfolding reply_of
 at_again k low = rw (number_again 0 max_number k.0 (omega arith) (omega arith) (omega arith)) refl
 
--- A reply of the version, spelled by the field, which has the form of a reply.
+-- States that the field spells the reply, that the version has this reply, and that the field has the form of a reply.
 abbrev pub ReadFrom : Version → Reply → List ℕ → Bool → Type 0
 ReadFrom v r piece form = HasReply v r × (piece ≡ reply_text r) × (form ≡ true)
 
@@ -130,7 +130,7 @@ at_ok piece r is = by_number (number_in 0 max_number (drop 3 piece)) refl (test_
           it,
         )
 
--- A reply is one without a number, or else one with a number.
+-- Case distinction: a reply contains a number, or it does not.
 either : (piece : List ℕ) (r : Reply) (o : Option Reply) → reply_of (plain_in Two) piece ≡ o
     → option_or o (at_number piece) ≡ Some r → ReadFrom Two r piece (is_some o || begins_at piece)
 either piece r None e is = at_ok piece r is

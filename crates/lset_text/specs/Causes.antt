@@ -1,4 +1,4 @@
--- The error of a line: its cause, the cause's name, and the number of the line.
+-- The error of a line: the line's number, the cause, and the cause's name.
 use Rattle.std.specs.Prelude.{ℕ, List, codes}
 use Rattle.lset_text.specs.declared.causes.Cause.{Cause}
 use Rattle.lset_text.specs.declared.causes.Cause.TheVariants as cause
@@ -7,7 +7,7 @@ use Rattle.lset_text.specs.declared.causes.LineFault.{LineFault}
 abbrev pub fault : ℕ → Cause → LineFault
 fault line cause = record { line = line; cause = cause }
 
--- The error of a line that has bytes and no newline.
+-- Returns the error of a line that has bytes but no newline.
 abbrev pub unended : ℕ → LineFault
 unended line = fault line cause.NotEnded
 

@@ -1,4 +1,4 @@
--- Forms of lines: which values the fields of a line have, how the values are spelled, and how they are read.
+-- Forms of lines: the values that a line's fields can have, how fields spell them, and how they are read.
 use Rattle.std.specs.Prelude.{◌≡◌, ℕ, ◌<◌, ◌≤◌, ◌^◌, ◌&&◌, Bool, true, false, List, [], ◌∷◌, Option, Some, None, is_some, if◌then◌else◌}
 use Rattle.std.specs.Fmt.{decimal}
 use Rattle.std.specs.Str.{bytes_eq}
@@ -11,7 +11,7 @@ use Rattle.lset_text.specs.Numbers.{number_in, max_number}
 use Rattle.lset_text.specs.Spellings.{kind_text, kind_of, call_word_text, call_word_in, reply_text, reply_in, is_reply_in}
 use Rattle.lset_text.specs.Spellings.{HasWord, HasReply}
 
--- A field of a form: a fixed word, a number of a range, or the name of a kind of list, of a call or of a reply.
+-- A field of a form: a fixed word, a number in a range, or the name of a kind of list, a call or a reply.
 pub data Piece : Type 0 where
   word : List ℕ → Piece
   number : ℕ → ℕ → Piece
@@ -27,7 +27,7 @@ any = number 0 max_number
 abbrev pub moment : Piece
 moment = number 1 max_number
 
--- The type of a field's value.
+-- Returns the type of a field's value.
 abbrev pub Tells : Piece → Type 0
 Tells (word w) = Unit {0}
 Tells (number low high) = ℕ
@@ -35,7 +35,7 @@ Tells kind = Kind
 Tells call = CallWord
 Tells reply = Reply
 
--- How a field spells a value.
+-- Returns the text that spells a value in this field.
 abbrev pub spelled : (p : Piece) → Tells p → List ℕ
 spelled (word w) t = w
 spelled (number low high) n = decimal n
@@ -43,7 +43,7 @@ spelled kind k = kind_text k
 spelled call w = call_word_text w
 spelled reply r = reply_text r
 
--- The version has a spelling for this value.
+-- States that the version can spell this value in this field.
 abbrev pub Fits : Version → (p : Piece) → Tells p → Type 0
 Fits v (word w) t = Unit {0}
 Fits v (number low high) n = (low ≤ n) × (n ≤ high)
@@ -51,7 +51,8 @@ Fits v kind k = Unit {0}
 Fits v call w = HasWord v w
 Fits v reply r = HasReply v r
 
--- Whether `x` has the form of the field: a fixed word must match, a name must be known, and a number can be anything.
+-- Returns whether the text `x` has the form of the field. A fixed word must match exactly, a name must be a known one.
+-- For a number, any text will do.
 abbrev pub has_form : Version → Piece → List ℕ → Bool
 has_form v (word w) x = bytes_eq x w
 has_form v (number low high) x = true
@@ -59,7 +60,7 @@ has_form v kind x = is_some (kind_of x)
 has_form v call x = is_some (call_word_in v x)
 has_form v reply x = is_reply_in v x
 
--- The value that `x` spells; `None` if it spells none.
+-- Returns the value that `x` spells in this field, or `None`.
 abbrev pub told : Version → (p : Piece) → List ℕ → Option (Tells p)
 told v (word w) x = if bytes_eq x w then Some tt else None
 told v (number low high) x = number_in low high x
@@ -71,7 +72,7 @@ told v reply x = reply_in v x
 abbrev pub Form : Type 0
 Form = List Piece
 
--- The values of all fields of a form.
+-- Returns the type of a form's values, one for each field.
 abbrev pub Told : Form → Type 0
 Told [] = Unit {0}
 Told (p ∷ f) = Tells p × Told f
@@ -80,7 +81,7 @@ abbrev pub spell : (f : Form) → Told f → List (List ℕ)
 spell [] t = []
 spell (p ∷ f) t = spelled p t.0 ∷ spell f t.1
 
--- The line that spells these values.
+-- Returns the line that spells these values.
 abbrev pub line_with : (f : Form) → Told f → List ℕ
 line_with f t = line_of (spell f t)
 
@@ -88,7 +89,7 @@ abbrev pub AllFit : Version → (f : Form) → Told f → Type 0
 AllFit v [] t = Unit {0}
 AllFit v (p ∷ f) t = Fits v p t.0 × AllFit v f t.1
 
--- Whether there are as many fields as the form has, and each has the form of its field.
+-- Returns whether the line matches the form: it has the same number of fields, and each field has its form.
 abbrev pub have_form : Version → Form → List (List ℕ) → Bool
 have_form v [] [] = true
 have_form v [] (x ∷ xs) = false
@@ -105,11 +106,12 @@ all_told v [] xs = Some tt
 all_told v (p ∷ f) [] = None
 all_told v (p ∷ f) (x ∷ xs) = both (told v p x) (all_told v f xs)
 
--- The values of a line with this form; `None` for any other line.
+-- Returns the values of a line of this form, or `None` if the line does not match.
 abbrev pub told_in : Version → (f : Form) → List (List ℕ) → Option (Told f)
 told_in v f xs = if have_form v f xs then all_told v f xs else None
 
--- A field that can be read back: the bytes of a fixed word are above the space, and the largest number is below 2^64.
+-- States that the field can be read back: all bytes of a fixed word are above the space, and the largest number is
+-- below 2^64.
 abbrev pub IsPiece : Piece → Type 0
 IsPiece (word w) = all_from 45 w ≡ true
 IsPiece (number low high) = high < 2 ^ 64
@@ -123,7 +125,7 @@ abbrev pub IsForm : Form → Type 0
 IsForm [] = ⊥
 IsForm (p ∷ f) = IsPiece p × ArePieces f
 
--- The law of forms: values are read from the line that spells them, and from no other line.
+-- The law of forms: a line is read as some values if and only if it spells these values.
 abbrev pub FormsReadBack : Type 0
 FormsReadBack = (v : Version) (f : Form) (line : List ℕ) (t : Told f) → IsForm f
     → (AllFit v f t → told_in v f (cut_at 32 (line_with f t)) ≡ Some t)

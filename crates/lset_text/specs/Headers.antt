@@ -19,12 +19,12 @@ use Rattle.lset_text.specs.Forms as piece
 use Rattle.lset_text.specs.Spellings.{kind_text}
 use Rattle.lset_text.specs.Results.{◌>>=◌, or_fail}
 
--- ---- the text of a header
+-- ---- How a header is written
 
 abbrev pub kind_line : Kind → List ℕ
 kind_line k = line_of (codes "list" ∷ kind_text k ∷ [])
 
--- A line of a word and a number.
+-- Returns a line that consists of a word and a number.
 abbrev pub number_line : List ℕ → ℕ → List ℕ
 number_line word n = line_of (word ∷ decimal n ∷ [])
 
@@ -32,17 +32,17 @@ abbrev pub header_lines : List ℕ → Header → List (List ℕ)
 header_lines title h =
     title ∷ kind_line h.kind ∷ number_line (codes "threads") h.threads ∷ number_line (codes "quota") h.quota ∷ []
 
--- The header has 1 to 64 threads, and a quota from 0 to 16,384.
+-- States that the header has 1 to 64 threads and a quota from 0 to 16,384.
 abbrev pub IsHeader : Header → Type 0
 IsHeader h = IsWithin (record { threads = h.threads; quota = h.quota; opening = 0 })
 
--- ---- the version of a text; `title` is the title of version 2
+-- ---- How the version of a text is found; `title` is the title of version 2
 
 abbrev pub version_in : List ℕ → List (List ℕ) → Version
 version_in title [] = One
 version_in title (first ∷ more) = if bytes_eq first title then Two else One
 
--- ---- reading a header
+-- ---- How a header is read
 
 abbrev pub title_in : List ℕ → List ℕ → Option (List ℕ)
 title_in title line = if bytes_eq line title then Some title else None
@@ -50,24 +50,25 @@ title_in title line = if bytes_eq line title then Some title else None
 abbrev pub kind_form : Form
 kind_form = piece.word (codes "list") ∷ piece.kind ∷ []
 
--- The kind that a line names.
+-- Returns the kind of list that a line names.
 abbrev pub kind_in : List ℕ → Option Kind
 kind_in line = option_map (λ t. t.1.0) (told_in Two kind_form (cut_at 32 line))
 
 abbrev pub number_form : List ℕ → ℕ → ℕ → Form
 number_form word low high = piece.word word ∷ piece.number low high ∷ []
 
--- The number from `low` to `high` that follows the given word in a line.
+-- Returns the number that follows the given word in a line, if it is from `low` to `high`.
 abbrev pub number_after : List ℕ → ℕ → ℕ → List ℕ → Option ℕ
 number_after word low high line = option_map (λ t. t.1.0) (told_in Two (number_form word low high) (cut_at 32 line))
 
--- The next header line and the parts after it. If no byte is left, the error is `cause`, the one of the missing line.
+-- Splits off the next header line, and returns it with the parts after it. If no bytes are left, the line is missing
+-- and the error is `cause`.
 abbrev pub line_due : ℕ → Cause → List (List ℕ) → Result (List ℕ × List (List ℕ)) LineFault
 line_due line cause [] = Err (fault line cause)
 line_due line cause (rest ∷ []) = Err (fault line (if length rest == 0 then cause else wrong.NotEnded))
 line_due line cause (x ∷ y ∷ more) = Ok (x, y ∷ more)
 
--- The value that is read from the next header line, and the parts after it.
+-- Reads a value from the next header line, and returns it with the parts after that line.
 unfoldable pub told_by_line : {A : Type 0} → ℕ → Cause → (List ℕ → Option A) → List (List ℕ)
     → Result (A × List (List ℕ)) LineFault
 told_by_line line cause read parts = do
@@ -87,7 +88,7 @@ threads_told = told_by_line 3 wrong.Threads (number_after (codes "threads") 1 MO
 abbrev pub quota_told : List (List ℕ) → Result (ℕ × List (List ℕ)) LineFault
 quota_told = told_by_line 4 wrong.Quota (number_after (codes "quota") 0 MOST_QUOTA)
 
--- The header that a text begins with, and the parts after it.
+-- Reads the header at the beginning of a text, and returns it with the parts after it.
 unfoldable pub header_of : List ℕ → List (List ℕ) → Result (Header × List (List ℕ)) LineFault
 header_of title parts = do
   first ← title_told title parts
@@ -96,7 +97,7 @@ header_of title parts = do
   quota ← quota_told threads.1
   Ok (record { kind = kind.0; threads = threads.0; quota = quota.0 }, quota.1)
 
--- A header is read from its text, whatever comes after it.
+-- States that a header is read back from its text, whatever follows the text.
 abbrev pub HeadersReadBack : Type 0
 HeadersReadBack = (title : List ℕ) (h : Header) (rest : List ℕ) → Lacks 10 title → IsHeader h
     → header_of title (cut_at 10 (text_of (header_lines title h) ++ rest)) ≡ Ok (h, cut_at 10 rest)

@@ -1,4 +1,4 @@
--- The kinds of lines in a file. Each kind has a form, and makes a value from the fields of a line.
+-- The kinds of lines in a file. Each kind has a form, and a function that makes a value from the fields.
 use Rattle.std.specs.Prelude.{ℕ, List, [], ◌∷◌, Result, Ok, Err, if◌then◌else◌}
 use Rattle.lset_text.specs.declared.words.Version.{Version}
 use Rattle.lset_text.specs.declared.causes.Cause.{Cause}
@@ -10,7 +10,7 @@ use Rattle.lset_text.specs.Results.{or_fail}
 abbrev pub LineKind : Type 0 → Type 0
 LineKind X = (f : Form) × (Told f → X)
 
--- A kind with its value mapped by `f`.
+-- Maps the values that a kind makes by `f`.
 abbrev pub kind_as : {X Y : Type 0} → (X → Y) → LineKind X → LineKind Y
 kind_as f k = (k.0, λ t. f (k.1 t))
 
@@ -18,8 +18,8 @@ abbrev pub made : {X Y : Type 0} → (X → Y) → Result X Cause → Result Y C
 made f (Ok x) = Ok (f x)
 made f (Err e) = Err e
 
--- The value of a line. The first kind whose form the line has makes it. A line that has the form of no kind is refused with cause
--- `none`; a line whose number is missing or out of range is refused with `Number`.
+-- Reads the value of a line. The first kind whose form the line matches makes the value. A line that matches no form is
+-- refused with the cause `none`. A line that matches but has a number out of range is refused with `Number`.
 abbrev pub first_of : {X : Type 0} → Version → Cause → List (LineKind X) → List (List ℕ) → Result X Cause
 first_of v none [] pieces = Err none
 first_of v none (k ∷ ks) pieces =

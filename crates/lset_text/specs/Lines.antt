@@ -1,4 +1,4 @@
--- Reading the lines of a text one by one into a state. An error has the number of the refused line.
+-- Reads the lines of a text one by one into a state. An error has the number of the refused line.
 use Rattle.std.specs.Prelude.{◌≡◌, ℕ, ◌+◌, ◌<◌, ◌≤◌, ◌==◌, List, [], ◌∷◌, ◌++◌, length, Result, Ok, Err, if◌then◌else◌}
 use Rattle.lset_text.specs.declared.causes.Cause.{Cause}
 use Rattle.lset_text.specs.declared.causes.Cause.TheVariants.{NotEnded}
@@ -7,13 +7,13 @@ use Rattle.lset_text.specs.Causes.{fault}
 use Rattle.lset_text.specs.Parts.{cut_at}
 use Rattle.lset_text.specs.Results.{◌>>=◌, map_fault}
 
--- The grammar of the lines of a text. `step` returns the state after a further line, or the cause why the line is refused. `ends`
--- decides whether the text can end in a state.
+-- The grammar of a text's lines. `step` returns the state after one more line, or the cause if the line is refused.
+-- `ends` decides whether the text can end in a state.
 pub record Grammar (S : Type 0) : Type 0 where
   pub step : S → List ℕ → Result S Cause
   pub ends : S → Result S Cause
 
--- Reads the lines from number `line` on. The last part comes after the last newline: it must be empty.
+-- Reads the lines from number `line` on. The last part is what follows the last newline, and must be empty.
 unfoldable pub lines_from : {S : Type 0} → Grammar S → ℕ → S → List (List ℕ) → Result S LineFault
 lines_from g line s [] = map_fault (fault line) (g.ends s)
 lines_from g line s (rest ∷ []) = map_fault (fault line) (if length rest == 0 then g.ends s else Err NotEnded)
@@ -21,27 +21,27 @@ lines_from g line s (x ∷ y ∷ more) = do
   next ← map_fault (fault line) (g.step s x)
   lines_from g (line + 1) next (y ∷ more)
 
--- The lines `xs` lead from one state to another.
+-- States that reading the lines `xs` changes state `s` to state `t`.
 abbrev pub Leads : {S : Type 0} → Grammar S → S → List (List ℕ) → S → Type 0
 Leads g s [] t = s ≡ t
 Leads {S = S} g s (x ∷ xs) t = (next : S) × (g.step s x ≡ Ok next) × Leads g next xs t
 
--- No error is at this line or above it.
+-- States that neither this line nor any line above it has an error.
 abbrev pub IsFaultlessTo : {X : Type 0} → ℕ → Result X LineFault → Type 0
 IsFaultlessTo line (Ok x) = Unit {0}
 IsFaultlessTo line (Err e) = line < e.line
 
--- `line` is the number of a whole line of these parts, and no error is at this line or above it. The first line has the number
--- `first`, and the last part comes after the last newline.
+-- States that `line` is the number of a complete line, and that neither this line nor any line above it has an error.
+-- Lines are counted from `first`. The last part is what follows the last newline.
 abbrev pub IsGoodLine : {X : Type 0} → ℕ → List (List ℕ) → Result X LineFault → ℕ → Type 0
 IsGoodLine first parts read line = (first ≤ line) × (line + 1 < first + length parts) × IsFaultlessTo line read
 
--- The invariant of a loop over the lines of a text: reading the rest from this line and state has the result of reading the whole
--- text.
+-- The invariant of a loop over the lines of a text: reading the rest from this line and state has the same result as
+-- reading the whole text.
 pub record Stands {S : Type 0} (g : Grammar S) (first : ℕ) (text : List ℕ) (read : Result S LineFault) (line : ℕ) (s : S)
     (rest : List ℕ) : Type 0 where
   pub so_far : lines_from g line s (cut_at 10 rest) ≡ read
-  -- The lines that are already read.
+  -- The lines that have already been read.
   pub above : List (List ℕ)
   pub parts : cut_at 10 text ≡ above ++ cut_at 10 rest
   pub number : line ≡ first + length above

@@ -5,15 +5,15 @@ use Rattle.std.specs.Fmt.{decimal}
 use Rattle.std.specs.Str.{all_ascii_digits}
 use Rattle.std.specs.Str.Parse.{digits_value}
 
--- Whether a field is `0`, or consists of digits and begins with another digit than `0`.
+-- Returns whether a field is `0`, or consists of digits and does not begin with `0`.
 abbrev pub is_number : List ℕ → Bool
 is_number piece = nat_lt 0 (length piece) && (all_ascii_digits piece && (length piece == 1 || not (slice_index piece 0 == 48)))
 
--- Whether `n` is from `low` to `high`.
+-- Returns whether `n` is from `low` to `high`.
 abbrev pub is_between : ℕ → ℕ → ℕ → Bool
 is_between low high n = nat_le low n && nat_le n high
 
--- The number that a field spells, if it is from `low` to `high`.
+-- Returns the number that a field spells, if it is from `low` to `high`.
 unfoldable pub number_in : ℕ → ℕ → List ℕ → Option ℕ
 number_in low high piece =
     if is_number piece && is_between low high (digits_value 10 piece) then Some (digits_value 10 piece) else None
@@ -22,7 +22,7 @@ number_in low high piece =
 abbrev pub max_number : ℕ
 max_number = 4294967295
 
--- A number is read from its decimal, and from no other text.
+-- States that a number is read from its decimal numeral, and from no other text.
 abbrev pub NumbersReadBack : Type 0
 NumbersReadBack = (low high n : ℕ) (piece : List ℕ) → high < 2 ^ 64
     → (low ≤ n → n ≤ high → number_in low high (decimal n) ≡ Some n)

@@ -2,28 +2,29 @@
 use Rattle.std.specs.Prelude.{◌≡◌, ℕ, ◌==◌, ◌&&◌, nat_le, Bool, true, false, List, [], ◌∷◌, ◌++◌, All}
 use Rattle.std.specs.List.{slice_split, flat_map, join_with_byte}
 
--- The parts of a text between the occurrences of a byte. Cut at newlines, a text has its whole lines and then the part after the
--- last newline.
+-- Cuts a text at each occurrence of a byte. If the byte is the newline, the result is the complete lines, then the text
+-- after the last newline.
 abbrev pub cut_at : ℕ → List ℕ → List (List ℕ)
 cut_at byte text = slice_split (λ b. b == byte) text
 
--- The line of some fields, with one space between two fields.
+-- Joins fields to a line, with one space between two fields.
 abbrev pub line_of : List (List ℕ) → List ℕ
 line_of pieces = join_with_byte 32 pieces
 
--- A line with the newline that ends it.
+-- Appends a newline to a line.
 abbrev pub ended : List ℕ → List ℕ
 ended line = line ++ 10 ∷ []
 
--- The text of some lines.
+-- Joins lines to a text, with a newline after each.
 abbrev pub text_of : List (List ℕ) → List ℕ
 text_of lines = flat_map ended lines
 
--- The text does not contain the byte.
+-- States that the byte does not occur in the text.
 abbrev pub Lacks : ℕ → List ℕ → Type 0
 Lacks byte text = All (λ b. b == byte ≡ false) text
 
--- Whether no byte is below `low`. From 45 on there are letters, digits and dashes, and neither a space nor a newline.
+-- Returns whether each byte is at least `low`. For 45, the letters, digits and dashes pass, but not the space or the
+-- newline.
 abbrev pub all_from : ℕ → List ℕ → Bool
 all_from low [] = true
 all_from low (b ∷ bs) = nat_le low b && all_from low bs

@@ -1,4 +1,4 @@
--- Chains of checks: the first check that fails determines the error.
+-- Chains of checks. The first check that fails determines the error.
 use Rattle.std.specs.Prelude.{Option, Some, None, Result, Ok, Err}
 
 infixl 10 ◌>>=◌
@@ -6,12 +6,12 @@ abbrev pub ◌>>=◌ : {A B E : Type 0} → Result A E → (A → Result B E) �
 (Ok x) >>= f = f x
 (Err e) >>= f = Err e
 
--- The value, or the given error if there is none.
+-- Returns the value, or the given error if there is no value.
 abbrev pub or_fail : {A E : Type 0} → E → Option A → Result A E
 or_fail e None = Err e
 or_fail e (Some x) = Ok x
 
--- The value unchanged, or the error mapped by `f`.
+-- Applies `f` to the error. A value is returned unchanged.
 abbrev pub map_fault : {A E D : Type 0} → (E → D) → Result A E → Result A D
 map_fault f (Ok x) = Ok x
 map_fault f (Err e) = Err (f e)

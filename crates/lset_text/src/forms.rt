@@ -1,6 +1,6 @@
 ghost use Rattle.lset_text.specs.Forms.{FormsReadBack};
 
-/// Lemma, for every form of a line: values are read from the line that spells them, and from no other line.
+/// Lemma, for every form: a line is read as some values if and only if it spells these values.
 pub fn forms_read_back()
     ensures { FormsReadBack }
 {}

@@ -18,7 +18,7 @@ use crate::words::{Version, kind_word, read_kind};
 use lset_words::{Kind, MOST_QUOTA, MOST_THREADS};
 use std::alloc::AllocError;
 
-/// The header of a file: the kind of list, the number of threads, 1 to 64, and the quota of each thread, 0 to 16,384.
+/// The header of a file: the kind of list, the number of threads (1 to 64) and the quota of each thread (0 to 16,384).
 #[derive(Clone, Copy, Debug, PartialEq, Eq)]
 pub struct Header {
     pub kind: Kind,
@@ -39,7 +39,8 @@ fn kind_of_line(line: &[u8]) -> Option<Kind>
     read_kind(kind)
 }
 
-/// Returns the number in a line that consists of `word`, a space, and a number from `low` to `high`. `None` for any other line.
+/// Returns the number in a line that consists of `word`, a space, and a number from `low` to `high`. `None` if the line
+/// is different.
 pub fn number_of_line(line: &[u8], word: &[u8], low: u32, high: u32) -> Option<u32>
     ensures { result ≡ number_after word.now low high line.now }
 {
@@ -69,7 +70,8 @@ fn due(text: &[u8], line: u64, cause: Cause) -> Result<(&[u8], &[u8]), LineFault
     Err(LineFault::unended(line))
 }
 
-/// Returns the version of a file. Version 2 if its first line is `title`, the title of version 2; else version 1.
+/// Returns the version of a file: version 2 if the first line is `title`, which must be version 2's title, else version
+/// 1.
 pub fn version_of(text: &[u8], title: &[u8]) -> Version
     ensures { result ≡ version_in title.now (cut_at 10 text.now) }
 {
@@ -84,27 +86,28 @@ pub fn version_of(text: &[u8], title: &[u8]) -> Version
     }
 }
 
-/// Reads the header of a file with the given title, lines 1 to 4. Returns the header and the rest of the file.
+/// Reads the header of a file, which is lines 1 to 4 and must begin with `title`. Returns the header and the rest of
+/// the file.
 ///
 /// # Errors
 ///
-/// Returns the first error, at a line from 1 to 4. A missing header line has the cause of that line: `Header`, `Kind`, `Threads`
-/// or `Quota`. A line that has bytes and no newline has the cause `NotEnded`, whatever else is wrong with it.
+/// Returns the first error, at a line from 1 to 4. A missing header line has the cause of that line: `Header`, `Kind`,
+/// `Threads` or `Quota`. A line that has bytes but no newline has the cause `NotEnded`, whatever else is wrong with it.
 pub fn read_header<'a>(title: &[u8], text: &'a [u8]) -> Result<(Header, &'a [u8]), LineFault>
-    // The header that is returned is in the text.
+    // The text begins with the returned header.
     ensures found { IfOk result (λ p. IsHeader p.0 × (text.now ≡ text_of (header_lines title.now p.0) ++ p.1.now)) }
-    // Exactly which value or error is returned.
+    // Determines the returned value or error exactly.
     ensures exact { MatchResult result
         (λ p. header_of title.now (cut_at 10 text.now) ≡ Ok (p.0, cut_at 10 p.1.now))
         (λ e. header_of title.now (cut_at 10 text.now) ≡ Err e) }
-    // An allocation cannot fail: nothing is allocated.
+    // The error is never `Memory`, since nothing is allocated.
     ensures asks { IfErr result (λ e. e.cause ≢ Cause.Memory) }
     ensures shorter { IfOk result (λ p. length p.1.now < length text.now) }
 {
     header_due(title, text)
 }
 
-/// Lemma: a header is read from its text, whatever follows it.
+/// Lemma: a header is read back from its text, whatever follows it.
 #[tactic(auto, using(crate::proofs::HeaderLaws::header_from_text))]
 pub fn headers_read_back()
     ensures { HeadersReadBack }
@@ -141,8 +144,8 @@ fn header_due<'a>(title: &[u8], text: &'a [u8]) -> Result<(Header, &'a [u8]), Li
     Ok((header, rest))
 }
 
-/// Appends the four lines of a header to `out`. If an allocation fails, returns `AllocError`; `out` can then end with part of the
-/// lines.
+/// Appends the four lines of a header to `out`. Returns `AllocError` if an allocation fails. `out` can then end with a
+/// part of these lines.
 pub fn put_header(out: &mut String, title: &str, header: Header) -> Result<(), AllocError>
     ensures { OnOk result (string_bytes out.new ≡ string_bytes out.old ++ text_of (header_lines title.now header)) }
 {

@@ -26,8 +26,8 @@ pub fn number(piece: &[u8], low: u32, high: u32) -> Option<u32>
     Some(value as u32)
 }
 
-/// Returns the number from `low` to `high` that a field spells in decimal digits, without leading zeros. `None` for any other
-/// field. The range can exceed 32 bits. Slower than `number`: makes one more test for each digit.
+/// Returns the number from `low` to `high` that a field spells in decimal digits, without leading zeros. `None` for any
+/// other field. Unlike `number`, allows a range beyond 32 bits, but is slower: it makes one more test per digit.
 #[tactic(auto, unfolding(crate::specs::Numbers::number_in))]
 pub fn long_number(piece: &[u8], low: u64, high: u64) -> Option<u64>
     ensures value { result ≡ number_in low high piece.now }
@@ -57,7 +57,7 @@ pub fn long_number(piece: &[u8], low: u64, high: u64) -> Option<u64>
     Some(value)
 }
 
-/// Lemma: a number of a range is read from its decimal, and from no other text.
+/// Lemma: a number is read from its decimal numeral, and from no other text.
 pub fn numbers_read_back()
     ensures { NumbersReadBack }
 {}

@@ -38,7 +38,7 @@ pub enum CallWord {
 }
 
 impl CallWord {
-    /// Returns the call with this name and the given key.
+    /// Returns the call that has this name and the given key.
     pub fn with_key(self, key: Key) -> Call
         ensures { result ≡ with_key self key }
     {
@@ -51,7 +51,7 @@ impl CallWord {
     }
 }
 
-/// Returns the name of a kind of list in a file, such as `lock-free`.
+/// Returns the name that files use for a kind of list, such as `lock-free`.
 pub fn kind_word(kind: Kind) -> &'static str
     ensures { result.now ≡ kind_text kind }
 {
@@ -64,7 +64,7 @@ pub fn kind_word(kind: Kind) -> &'static str
     }
 }
 
-/// Returns whether a field is the name of the given kind.
+/// Returns whether a field is the name of this kind of list.
 fn is_word_of(piece: &[u8], kind: Kind) -> bool
     ensures { result ≡ bytes_eq piece.now (kind_text kind) }
 {
@@ -86,7 +86,7 @@ pub fn read_kind(piece: &[u8]) -> Option<Kind>
     }
 }
 
-/// Returns the name of a call in a file, such as `add`.
+/// Returns the name that files use for a call, such as `add`.
 pub fn call_word(call: Call) -> &'static str
     ensures { result.now ≡ call_text call }
 {
@@ -98,7 +98,7 @@ pub fn call_word(call: Call) -> &'static str
     }
 }
 
-/// Returns the call name that a field spells in the given version; `None` for any other field.
+/// Returns the call name that a field spells in this version. `None` for any other field.
 #[tactic(auto, unfolding(crate::specs::Spellings::call_word_of))]
 pub fn read_call(version: Version, piece: &[u8]) -> Option<CallWord>
     ensures { result ≡ call_word_in version piece.now }
@@ -112,7 +112,7 @@ pub fn read_call(version: Version, piece: &[u8]) -> Option<CallWord>
     }
 }
 
-/// A reply as files spell it: `true`, `at-5`.
+/// A reply that prints as files spell it: `true`, `at-5`.
 #[derive(Clone, Copy)]
 pub struct ReplyWord(pub Reply);
 
@@ -133,14 +133,14 @@ impl fmt::Display for ReplyWord {
     }
 }
 
-/// Wraps a reply for printing, as files spell it.
+/// Wraps a reply so that it prints as files spell it.
 pub fn reply_word(reply: Reply) -> ReplyWord
     ensures { result ≡ record { 0 = reply } }
 {
     ReplyWord(reply)
 }
 
-/// Returns the reply that a field spells in the given version, if it is one without a number. `None` for any other field.
+/// Returns the reply without a number that a field spells in this version. `None` for any other field.
 #[tactic(auto, unfolding(crate::specs::Spellings::reply_of))]
 fn read_plain_reply(version: Version, piece: &[u8]) -> Option<Reply>
     ensures { result ≡ reply_of (plain_in version) piece.now }
@@ -154,7 +154,7 @@ fn read_plain_reply(version: Version, piece: &[u8]) -> Option<Reply>
     }
 }
 
-/// Returns the reply that a field `at-K` spells, for a key K; `None` for any other field.
+/// Returns the reply `At(K)` if the field is `at-K` for a key K. `None` for any other field.
 fn read_at(piece: &[u8]) -> Option<Reply>
     ensures { result ≡ at_number piece.now }
 {
@@ -162,7 +162,7 @@ fn read_at(piece: &[u8]) -> Option<Reply>
     Some(Reply::At(Key(number(key, 0, u32::MAX)?)))
 }
 
-/// Returns the reply that a field spells in the given version; `None` for any other field.
+/// Returns the reply that a field spells in this version. `None` for any other field.
 pub fn read_reply(version: Version, piece: &[u8]) -> Option<Reply>
     ensures { result ≡ reply_in version piece.now }
 {
@@ -173,7 +173,7 @@ pub fn read_reply(version: Version, piece: &[u8]) -> Option<Reply>
     }
 }
 
-/// Returns whether a field has the form of a reply: it is a reply of the given version or, in version 2, begins with `at-`.
+/// Returns whether a field has the form of a reply: it is a reply of this version or, in version 2, begins with `at-`.
 pub fn is_reply(version: Version, piece: &[u8]) -> bool
     ensures { result ≡ is_reply_in version piece.now }
 {
@@ -184,7 +184,7 @@ pub fn is_reply(version: Version, piece: &[u8]) -> bool
     }
 }
 
-/// Lemma: kinds, calls and replies are read from their names, and from no other text.
+/// Lemma: kinds of lists, calls and replies are read from their names, and from no other text.
 pub fn words_read_back()
     ensures kinds { KindsReadBack }
     ensures calls { CallsReadBack }

@@ -12,14 +12,14 @@ few_nodes threads quota opening few small opens =
 pub nodes_within : (s : Sizes) → IsWithin s → node_count s ≤ MOST_NODES
 nodes_within s w = few_nodes s.threads s.quota s.opening w.few w.small w.opens
 
--- A number has one quotient and one remainder.
+-- The quotient and the remainder of a number are unique.
 pub row_once : (quota t u i j : ℕ) → i < quota → j < quota → t * quota + i ≡ u * quota + j → (t ≡ u) × (i ≡ j)
 row_once quota t u i j a b e =
     let row : t ≡ u = grind arith in
     let same : t * quota ≡ u * quota = ap (λ x. x * quota) row in
     (row, omega arith)
 
--- An opening without keys is within its limits if its sizes are.
+-- An opening without keys is within its limits if its sizes are within theirs.
 pub opens_empty : (threads quota : ℕ) → IsWithin (sizes (empty threads quota)) → Opens (empty threads quota)
 opens_empty threads quota within = record {
   within = within;

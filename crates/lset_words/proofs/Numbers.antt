@@ -1,4 +1,4 @@
--- Lemmas about two numbers and the tests that compare them.
+-- Lemmas about comparisons of two numbers.
 use Rattle.std.specs.Prelude.{◌≡◌, ◌≢◌, ℕ, ◌<◌, ◌≤◌, ◌⊎◌, true, false, if◌then◌else◌, ◌==◌, nat_lt}
 use Rattle.std.proofs.Common.{arith}
 use Rattle.std.proofs.lemmas.Bool.Decides.{nat_tests}
@@ -9,14 +9,14 @@ same_or_not a b = grind arith
 pub below_or_not : (a b : ℕ) → (a < b) ⊎ (b ≤ a)
 below_or_not a b = grind arith
 
--- The order of two numbers determines the value of a test.
+-- ---- From the order of two numbers to the result of a test
 pub equal_test : (a b : ℕ) → a ≡ b → (a == b) ≡ true
 equal_test a b e = grind (arith, nat_tests)
 
 pub unequal_test : (a b : ℕ) → a ≢ b → (a == b) ≡ false
 unequal_test a b e = grind (arith, nat_tests)
 
--- The value of a test determines the order of two numbers.
+-- ---- From the result of a test to the order of two numbers
 pub same_number : (a b : ℕ) → (a == b) ≡ true → a ≡ b
 same_number a b e = grind (arith, nat_tests)
 
@@ -29,7 +29,7 @@ lower_number a b e = grind (arith, nat_tests)
 pub not_lower_number : (a b : ℕ) → nat_lt a b ≡ false → b ≤ a
 not_lower_number a b e = grind (arith, nat_tests)
 
--- The value of a conditional whose test is decided
+-- ---- Conditionals whose test is decided
 pub if_same : {A : Type 0} (a b : ℕ) → a ≡ b → (x y : A) → (if a == b then x else y) ≡ x
 if_same a b e x y = grind (arith, nat_tests)
 

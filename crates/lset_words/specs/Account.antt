@@ -1,5 +1,5 @@
--- The account of a run, without any machine: the contents of the set at each moment, the replies that fit them, and the
--- effect of each event.
+-- The account of a run: the contents of the set at each moment, the replies that are correct for them, and the effect
+-- of each event. An account mentions no machine.
 use Rattle.std.specs.Prelude.{◌≡◌, ◌≢◌, ℕ, suc, ◌+◌, ◌<◌, ◌≤◌, Bool, true, false, Option, Some, None, Contains as InList}
 use Rattle.std.specs.List.Sorted.{IsStrictlyIncreasing}
 use Rattle.lset_words.specs.Words.{Opening}
@@ -10,15 +10,15 @@ use Rattle.lset_words.specs.declared.Reply.TheVariants.{True, False, Full, At, N
 use Rattle.lset_words.specs.Log.{Log, Entry, Change, last_call, begun_at, is_open, has_changed}
 use Rattle.lset_words.specs.Log.Entry.{began, stepped}
 
--- A set of keys, as a predicate
+-- A set of keys, given as the predicate of its members.
 abbrev pub Content : Type 1
 Content = ℕ → Type 0
 
 abbrev pub Same : Content → Content → Type 0
 Same before after = (j : ℕ) → (before j → after j) × (after j → before j)
 
--- [Named change]: the content after a change differs from the content before in that key alone. A key is added only if it was
--- absent, and removed only if it was present.
+-- [Named change]: relates the content before a change to the content after it. They differ in the changed key alone. A
+-- key is added only if it was absent, and removed only if it was present.
 abbrev pub Changes : Option Change → Content → Content → Type 0
 Changes None before after = Same before after
 Changes (Some (k, true)) before after =
@@ -26,25 +26,26 @@ Changes (Some (k, true)) before after =
 Changes (Some (k, false)) before after =
     before k.0 × (after k.0 → ⊥) × ((j : ℕ) → j ≢ k.0 → (before j → after j) × (after j → before j))
 
--- A thread's count of successful adds, after a change by the thread
+-- Returns a thread's count of successful adds after a change by that thread.
 abbrev pub count_after : Option Change → ℕ → ℕ
 count_after None count = count
 count_after (Some (k, true)) count = count + 1
 count_after (Some (k, false)) count = count
 
--- [Named change]: a key is added by an Add of that key, by a thread below its quota, and removed by a Remove of that key. A
--- call makes at most one change.
+-- [Named change]: states which change a call may make. Only an `Add` of a key adds the key, and only if its thread is
+-- below its quota. Only a `Remove` of a key removes the key. A call makes at most one change.
 abbrev pub MayChange : ℕ → ℕ → Call → Bool → Option Change → Type 0
 MayChange quota count call changed None = Unit {0}
 MayChange quota count call changed (Some (k, true)) = (call ≡ Add k) × (changed ≡ false) × (count < quota)
 MayChange quota count call changed (Some (k, false)) = (call ≡ Remove k) × (changed ≡ false)
 
--- The smallest key of a content at or above k; None if there is no such key
+-- States that the result is the smallest key of the content at or above `k`, or `None` if the content has no such key.
 abbrev pub IsCeiling : Content → ℕ → Option ℕ → Type 0
 IsCeiling content k None = (j : ℕ) → k ≤ j → content j → ⊥
 IsCeiling content k (Some x) = (k ≤ x) × content x × ((j : ℕ) → k ≤ j → j < x → content j → ⊥)
 
--- [Fits]: with this content, and this count of the thread, the sequential set returns this reply and does not change
+-- [Fits]: states that the sequential set returns this reply and does not change, if it has this content and this count
+-- for the thread.
 abbrev pub Fits : ℕ → Content → ℕ → Call → Reply → Type 0
 Fits quota content count (Add k) True = ⊥
 Fits quota content count (Add k) False = content k.0
@@ -67,14 +68,14 @@ Fits quota content count (Ceiling k) Full = ⊥
 Fits quota content count (Ceiling k) (At x) = IsCeiling content k.0 (Some x.0)
 Fits quota content count (Ceiling k) Nothing = IsCeiling content k.0 None
 
--- The content at each moment, and each thread's count at each moment
+-- The content at each moment. `Counts` is each thread's count at each moment.
 abbrev pub Contents : Type 1
 Contents = ℕ → Content
 
 abbrev pub Counts : Type 0
 Counts = ℕ → ℕ → ℕ
 
--- The reply fits a moment from `first` to `last`, for a call of this thread
+-- States that the reply of this thread's call is correct at some moment from `first` to `last`.
 pub record FitsSometime (quota : ℕ) (contents : Contents) (counts : Counts) (first last thread : ℕ) (call : Call)
     (reply : Reply) : Type 0 where
   pub moment : ℕ
@@ -82,46 +83,49 @@ pub record FitsSometime (quota : ℕ) (contents : Contents) (counts : Counts) (f
   pub upto : moment ≤ last
   pub fits : Fits quota (contents moment) (counts moment thread) call reply
 
--- The reply of a call that has made a change is True. Any other reply fits a moment of the call.
+-- States when a reply is correct. A call that has made a change replies `True`. Any other reply must be correct at some
+-- moment of its call.
 abbrev pub RightReply : Bool → ℕ → Contents → Counts → ℕ → ℕ → ℕ → Call → Option Reply → Type 0
 RightReply changed quota contents counts first last thread call None = Unit {0}
 RightReply true quota contents counts first last thread call (Some reply) = reply ≡ True
 RightReply false quota contents counts first last thread call (Some reply) =
     FitsSometime quota contents counts first last thread call reply
 
--- Thread t begins a call between the moments k and k + 1: it has no pending call, and nothing else changes.
+-- Thread `t` begins a call between moments `k` and `k + 1`. Before that, it has no pending call. Content and counts do
+-- not change.
 pub record Begins (threads : ℕ) (log : Log) (contents : Contents) (counts : Counts) (k t : ℕ) : Type 0 where
   pub of_a_thread : t < threads
   pub idle : is_open log t k ≡ false
   pub content : Same (contents k) (contents (suc k))
   pub same_counts : (u : ℕ) → u < threads → counts (suc k) u ≡ counts k u
 
--- Thread t makes a step between the moments k and k + 1, with this change and this reply, if any:
+-- Thread `t` makes a step between moments `k` and `k + 1`. `change` and `reply` are `None` if the step makes no change
+-- or returns no reply.
 pub record Steps (threads quota : ℕ) (log : Log) (contents : Contents) (counts : Counts) (k t : ℕ) (change : Option Change)
     (reply : Option Reply) : Type 0 where
-  -- it has a pending call,
+  -- The thread has a pending call.
   pub of_a_thread : t < threads
   pub under_way : is_open log t k ≡ true
-  -- content and counts change by that change, and by nothing else,
+  -- Content and counts change as `change` says, and in no other way.
   pub content : Changes change (contents k) (contents (suc k))
   pub own_count : counts (suc k) t ≡ count_after change (counts k t)
   pub other_counts : (u : ℕ) → u < threads → u ≢ t → counts (suc k) u ≡ counts k u
-  -- its call may make the change,
+  -- The pending call may make this change.
   pub may : MayChange quota (counts k t) (last_call log t k) (has_changed log t k) change
-  -- and the reply is correct.
+  -- The reply, if any, is correct.
   pub right : RightReply (has_changed log t (suc k)) quota contents counts (begun_at log t k) (suc k) t (last_call log t k) reply
 
--- One entry of the log: a begin or a step
+-- States that an entry of the log is a valid begin or a valid step.
 abbrev pub Enters : ℕ → ℕ → Log → Contents → Counts → ℕ → Entry → Type 0
 Enters threads quota log contents counts k (began t call) = Begins threads log contents counts k t
 Enters threads quota log contents counts k (stepped t change reply) = Steps threads quota log contents counts k t change reply
 
--- THE ACCOUNT of a run of `last` events
+-- The account of a run of `last` events.
 pub record Account (o : Opening) (last : ℕ) (log : Log) (contents : Contents) (counts : Counts) : Type 0 where
-  -- The content at moment 0 is the opening keys, which increase strictly,
+  -- The content at moment 0 consists of the opening keys. They increase strictly.
   pub increasing : IsStrictlyIncreasing o.keys
   pub opens : (k : ℕ) → (contents 0 k → InList o.keys k) × (InList o.keys k → contents 0 k)
-  -- no thread has added a key yet,
+  -- At moment 0, no thread has added a key.
   pub none_yet : (t : ℕ) → t < o.threads → counts 0 t ≡ 0
-  -- and each entry of the log changes content and counts as the entry states.
+  -- Each entry of the log is a valid begin or a valid step.
   pub enters : (k : ℕ) → k < last → Enters o.threads o.quota log contents counts k (log k)

@@ -17,7 +17,7 @@ abbrev pub is_there : Presence → Bool
 is_there Present = true
 is_there Absent = false
 
--- The effect of a call with this reply: it changes its key, or sees it present or absent
+-- Returns the effect of a call with this reply: the call changes its key, or sees it present or absent.
 abbrev pub effect_of : Call → Reply → Effect
 effect_of (Add k) True = Changes Present
 effect_of (Add k) False = Sees Present

@@ -1,5 +1,5 @@
--- The log of a run, and the calls in it. A log names no machine. Of each event it contains only what a user of the set sees.
--- Moment k is the state after the first k events. Entry k of a log is the event between the moments k and k + 1.
+-- The log of a run, and the calls in it. A log mentions no machine. It records what a user of the set can see of each
+-- event. Moment k is the state after the first k events. Entry k of a log is the event between moments k and k + 1.
 use Rattle.std.specs.Prelude.{ℕ, zero, suc, ◌==◌, ◌||◌, ◌&&◌, Bool, true, false, if◌then◌else◌, List, [], ◌∷◌, ◌++◌, map, Option}
 use Rattle.std.specs.Prelude.{Some, None, is_none}
 use Rattle.lset_words.specs.declared.Key.{Key}
@@ -8,7 +8,7 @@ use Rattle.lset_words.specs.declared.Call.TheVariants.{Contains}
 use Rattle.lset_words.specs.declared.Reply.{Reply}
 use Rattle.lset_words.specs.declared.history.CallRecord.{CallRecord}
 
--- A change of the set: the key, and true if it is added, false if it is removed
+-- A change of the set: the key, and `true` if it is added or `false` if it is removed.
 abbrev pub Change : Type 0
 Change = Key × Bool
 
@@ -20,8 +20,8 @@ pub data Entry : Type 0 where
 abbrev pub Log : Type 0
 Log = ℕ → Entry
 
--- THE CALLS OF A LOG
--- A call: the moments just after its Begin, its changing step and its last step. The last two are None if there is no such step.
+-- A call of a run, with the moments just after it begins, makes its change, and makes its last step. A moment is `None`
+-- if there is no such step yet.
 pub record TracedCall : Type 0 where
   pub thread : ℕ
   pub call : Call
@@ -29,7 +29,7 @@ pub record TracedCall : Type 0 where
   pub changed : Option ℕ
   pub ended : Option (ℕ × Reply)
 
--- Whether a call is pending and belongs to this thread
+-- Returns whether a call is pending and belongs to this thread.
 abbrev pub is_under_way : ℕ → TracedCall → Bool
 is_under_way thread x = x.thread == thread && is_none x.ended
 
@@ -41,7 +41,7 @@ abbrev pub ended_by : ℕ → Option Reply → Option (ℕ × Reply)
 ended_by moment None = None
 ended_by moment (Some reply) = Some (moment, reply)
 
--- The call after a step of its thread; `moment` is the moment just after the step
+-- Updates a call after a step of its thread. `moment` is the moment just after the step.
 abbrev pub traced_on : ℕ → Option Change → Option Reply → TracedCall → TracedCall
 traced_on moment change reply x = record x { changed = changed_by moment change x.changed; ended = ended_by moment reply }
 
@@ -49,21 +49,21 @@ abbrev pub calls_after : ℕ → Entry → List TracedCall → List TracedCall
 calls_after moment (began t call) xs = xs ++ record { thread = t; call = call; begun = moment; changed = None; ended = None } ∷ []
 calls_after moment (stepped t change reply) xs = map (λ x. if is_under_way t x then traced_on moment change reply x else x) xs
 
--- The calls that have begun by moment k. Calls are numbered from 0 in the order of their begins.
+-- Returns the calls that have begun by moment k, in the order in which they begin.
 abbrev pub calls_at : Log → ℕ → List TracedCall
 calls_at log zero = []
 calls_at log (suc k) = calls_after (suc k) (log k) (calls_at log k)
 
--- The record of a call in a history
+-- Converts a traced call to a record of a history.
 abbrev pub record_of : TracedCall → CallRecord
 record_of x = record { thread = x.thread; call = x.call; begun = x.begun; ended = x.ended }
 
--- The history of the first k events
+-- Returns the history of the first k events.
 abbrev pub history_at : Log → ℕ → List CallRecord
 history_at log k = map record_of (calls_at log k)
 
--- THE LAST CALL OF A THREAD, pending or completed: the call, the moment just after its Begin, whether it is pending, and whether
--- it has made a change. The last argument of each function is the value before the entry.
+-- The last call of a thread, pending or completed: the call, the moment just after it begins, whether it is pending,
+-- and whether it has made a change. The last argument of each function is the value before the entry.
 abbrev pub call_after : Entry → ℕ → Call → Call
 call_after (began u call) t before = if u == t then call else before
 call_after (stepped u change reply) t before = before

@@ -6,12 +6,12 @@ use Rattle.lset_words.specs.declared.Call.TheVariants.{Add, Remove, Contains, Ce
 use Rattle.lset_words.specs.declared.Reply.{Reply}
 use Rattle.lset_words.specs.declared.Reply.TheVariants.{True, False, Full, At, Nothing}
 
--- A state of the set: its keys, in increasing order, and each thread's number of successful adds
+-- A state of the set: its keys, in increasing order, and each thread's number of successful adds.
 pub record SetState : Type 0 where
   pub keys : List ℕ
   pub counts : List ℕ
 
--- The state at the opening: the opening keys, and no successful add by any thread
+-- Returns the opening state: the opening keys, and no successful add by any thread.
 abbrev pub opening_set : Opening → SetState
 opening_set o = record { keys = o.keys; counts = replicate o.threads 0 }
 
@@ -19,7 +19,7 @@ abbrev pub has_key : ℕ → List ℕ → Bool
 has_key k [] = false
 has_key k (x ∷ xs) = x == k || has_key k xs
 
--- Increasing keys, with k inserted in its place
+-- Inserts k into increasing keys at its place.
 abbrev pub with_key : ℕ → List ℕ → List ℕ
 with_key k [] = k ∷ []
 with_key k (x ∷ xs) = if nat_lt k x then k ∷ x ∷ xs else x ∷ with_key k xs
@@ -28,7 +28,7 @@ abbrev pub without_key : ℕ → List ℕ → List ℕ
 without_key k [] = []
 without_key k (x ∷ xs) = if x == k then without_key k xs else x ∷ without_key k xs
 
--- The smallest key at or above k, of increasing keys
+-- Returns the smallest of increasing keys at or above k, as a reply.
 abbrev pub ceiling_in : ℕ → List ℕ → Reply
 ceiling_in k [] = Nothing
 ceiling_in k (x ∷ xs) = if nat_lt x k then ceiling_in k xs else At (record { 0 = x })
@@ -36,14 +36,14 @@ ceiling_in k (x ∷ xs) = if nat_lt x k then ceiling_in k xs else At (record { 0
 abbrev pub count_of : SetState → ℕ → ℕ
 count_of s thread = slice_index s.counts thread
 
--- The reply of the set to a call of a thread
+-- Returns the set's reply to a call of a thread.
 abbrev pub reply_to : ℕ → SetState → ℕ → Call → Reply
 reply_to quota s thread (Add k) = if has_key k.0 s.keys then False else if count_of s thread == quota then Full else True
 reply_to quota s thread (Remove k) = if has_key k.0 s.keys then True else False
 reply_to quota s thread (Contains k) = if has_key k.0 s.keys then True else False
 reply_to quota s thread (Ceiling k) = ceiling_in k.0 s.keys
 
--- The state after a call with this reply. Only a successful add or remove changes it.
+-- Returns the state after a call with this reply. Only a successful add or remove changes the state.
 abbrev pub after_call : SetState → ℕ → Call → Reply → SetState
 after_call s thread (Add k) True = record {
   keys = with_key k.0 s.keys;
@@ -61,18 +61,18 @@ after_call s thread (Remove k) Nothing = s
 after_call s thread (Contains k) reply = s
 after_call s thread (Ceiling k) reply = s
 
--- A call of a thread, with a reply
+-- A call with its thread and its reply.
 pub record Answered : Type 0 where
   pub thread : ℕ
   pub call : Call
   pub reply : Reply
 
--- The set returns each reply in turn, from state s on.
+-- States that the sequential set returns these replies in turn, beginning in the given state.
 abbrev pub IsLegal : ℕ → SetState → List Answered → Type 0
 IsLegal quota s [] = Unit {0}
 IsLegal quota s (x ∷ xs) = (reply_to quota s x.thread x.call ≡ x.reply) × IsLegal quota (after_call s x.thread x.call x.reply) xs
 
--- The state after a list of calls, from state s on
+-- Returns the state after a list of calls, beginning in the given state.
 abbrev pub set_left : SetState → List Answered → SetState
 set_left s [] = s
 set_left s (x ∷ xs) = set_left (after_call s x.thread x.call x.reply) xs

@@ -1,5 +1,5 @@
--- The words of a list's table: word 0 is the list's lock, words 1 and 2 are the numbers of threads and of slots per thread.
--- After them each node has three words.
+-- The words of a list's table. Word 0 is the list's lock, word 1 the number of threads, word 2 the number of slots per
+-- thread. Three words for each node follow.
 use Rattle.std.specs.Prelude.{◌≡◌, ◌≢◌, ℕ, ◌+◌, ◌*◌, ◌<◌, ◌≤◌, ◌^◌, ◌⊎◌, All, Bool, if◌then◌else◌, List, [], length}
 use Rattle.std.specs.List.Sorted.{IsStrictlyIncreasing}
 use Rattle.lset_words.specs.declared.TheConstants.{MOST_THREADS, MOST_QUOTA, MOST_OPENING}
@@ -9,20 +9,20 @@ use Rattle.lset_words.specs.declared.Call.TheVariants.{Add, Remove, Contains, Ce
 use Rattle.lset_words.specs.declared.layout_fault.LayoutFault.{LayoutFault}
 use Rattle.lset_words.specs.declared.layout_fault.LayoutFault.TheVariants as fault
 
--- The sizes of a list: the number of threads, of slots of each thread, and of opening keys
+-- The sizes of a list: the number of threads, of slots per thread, and of opening keys.
 pub record Sizes : Type 0 where
   pub threads : ℕ
   pub quota : ℕ
   pub opening : ℕ
 
--- The sizes are within their limits.
+-- The limits of each size.
 pub record IsWithin (s : Sizes) : Type 0 where
   pub some : 0 < s.threads
   pub few : s.threads ≤ MOST_THREADS
   pub small : s.quota ≤ MOST_QUOTA
   pub opens : s.opening ≤ MOST_OPENING
 
--- HOW A SET OPENS: the number of threads, the number of slots of each thread, and the opening keys
+-- How a set opens: the number of threads, the number of slots per thread, and the opening keys.
 pub record Opening : Type 0 where
   pub threads : ℕ
   pub quota : ℕ
@@ -31,27 +31,28 @@ pub record Opening : Type 0 where
 abbrev pub sizes : Opening → Sizes
 sizes o = record { threads = o.threads; quota = o.quota; opening = length o.keys }
 
--- An opening without keys
+-- Returns an opening without keys.
 abbrev pub empty : ℕ → ℕ → Opening
 empty threads quota = record { threads = threads; quota = quota; keys = [] }
 
--- The numbers are within their limits, and the keys are user keys in strictly increasing order.
+-- The conditions on an opening: its sizes are within their limits, and its keys are user keys in strictly increasing
+-- order.
 pub record Opens (o : Opening) : Type 0 where
   pub within : IsWithin (sizes o)
   pub increasing : IsStrictlyIncreasing o.keys
   pub low : All (λ (k : ℕ). k < 2 ^ 32) o.keys
 
--- The first size that is outside its limits
+-- States that the error names the first size outside its limits.
 abbrev pub RefusesSizes : Sizes → LayoutFault → Type 0
 RefusesSizes s fault.Threads = (s.threads ≡ 0) ⊎ (MOST_THREADS < s.threads)
 RefusesSizes s fault.Quota = (0 < s.threads) × (s.threads ≤ MOST_THREADS) × (MOST_QUOTA < s.quota)
 RefusesSizes s fault.Opening = (0 < s.threads) × (s.threads ≤ MOST_THREADS) × (s.quota ≤ MOST_QUOTA) × (MOST_OPENING < s.opening)
 
--- The key word of a user key. The head's key word is 0.
+-- Returns the key word of a user key. The head's key word is 0.
 abbrev pub key_word_of : Key → ℕ
 key_word_of k = k.0 + 1
 
--- The tail's key word
+-- The key word of the tail.
 abbrev pub tail_word : ℕ
 tail_word = 4294967297
 
@@ -64,11 +65,11 @@ link_index node = 4 + 3 * node
 abbrev pub lock_index : ℕ → ℕ
 lock_index node = 5 + 3 * node
 
--- Node 0 is the head, node 1 is the tail. The slots of each thread follow.
+-- Returns the node that is a slot of a thread. Node 0 is the head, node 1 the tail. The slots of each thread follow.
 abbrev pub slot_node : ℕ → ℕ → ℕ → ℕ
 slot_node quota thread slot = 2 + thread * quota + slot
 
--- The nodes of the opening keys follow the slots.
+-- Returns the node of an opening key. The nodes of opening keys follow the slots.
 abbrev pub opening_node : Sizes → ℕ → ℕ
 opening_node s i = 2 + s.threads * s.quota + i
 
@@ -78,7 +79,7 @@ node_count s = 2 + s.threads * s.quota + s.opening
 abbrev pub word_count : Sizes → ℕ
 word_count s = 3 + 3 * node_count s
 
--- A link word: the number of the next node, and the mark
+-- Returns the link word that packs the number of the next node and the mark.
 abbrev pub packed : ℕ → Bool → ℕ
 packed next mark = if mark then 2 * next + 1 else 2 * next
 
@@ -88,18 +89,18 @@ key_of (Remove k) = k
 key_of (Contains k) = k
 key_of (Ceiling k) = k
 
--- The key word that a call searches
+-- Returns the key word that a call searches for.
 abbrev pub target : Call → ℕ
 target call = key_word_of (key_of call)
 
--- Different words of nodes have different indices. None of them is among the first three words.
+-- States that different words of nodes have different indices, and that none of them is among the first three words.
 abbrev pub WordsApart : Type 0
 WordsApart = (i j : ℕ)
     → (2 < key_index i) × (2 < link_index i) × (2 < lock_index i)
     × (key_index i ≢ link_index j) × (key_index i ≢ lock_index j) × (link_index i ≢ lock_index j)
     × (i ≢ j → (key_index i ≢ key_index j) × (link_index i ≢ link_index j) × (lock_index i ≢ lock_index j))
 
--- Different slots are different nodes. None of them is the head or the tail.
+-- States that different slots are different nodes, and that no slot is the head or the tail.
 abbrev pub SlotsApart : Type 0
 SlotsApart = (quota t u i j : ℕ) → i < quota → j < quota
     → (1 < slot_node quota t i) × (slot_node quota t i ≡ slot_node quota u j → (t ≡ u) × (i ≡ j))

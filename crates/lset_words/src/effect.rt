@@ -1,11 +1,11 @@
-//! The effect of a call on its key.
+//! Effects of calls on their keys.
 
 ghost use Rattle.std.specs.Prelude.{◌≡◌};
 ghost use Rattle.lset_words.specs.Effects.{effect_of};
 
 use crate::{Call, Reply};
 
-/// Whether a key is in a set.
+/// The presence of a key in a set.
 #[derive(Clone, Copy, Debug, PartialEq, Eq)]
 pub enum Presence {
     Present,
@@ -15,16 +15,17 @@ pub enum Presence {
 /// The effect of a completed call on its key.
 #[derive(Clone, Copy, Debug, PartialEq, Eq)]
 pub enum Effect {
-    /// The call adds the key (`Present`) or removes it (`Absent`).
+    /// The call added the key (`Present`) or removed it (`Absent`).
     Changes(Presence),
-    /// The call sees that the key is present or absent, and changes nothing.
+    /// The call found the key present or absent, and changed nothing.
     Sees(Presence),
-    /// Nothing is known of the key: the call is a `ceiling`, or no set replies this to such a call.
+    /// The reply shows nothing about the key: the call is a `ceiling`, or a set never gives this call such a reply.
     Other,
 }
 
 impl Call {
-    /// Returns the effect of the call on its key, if the call returns `reply`. An `add` that returns `Full` sees its key absent.
+    /// Returns the effect that the call has on its key if it returns `reply`. An `add` that returns `Full` found its
+    /// key absent.
     pub fn effect(self, reply: Reply) -> Effect
         ensures { result ≡ effect_of self reply }
     {

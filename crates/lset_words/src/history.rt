@@ -10,14 +10,14 @@ pub struct CallRecord {
     pub ended: Option<(u32, Reply)>,
 }
 
-/// A place in an order of calls: the number of a call, from 0, and its reply in the order.
+/// A place in an order of calls: the call's number, from 0, and its reply in this order.
 #[derive(Clone, Copy, Debug, PartialEq, Eq)]
 pub struct Placed {
     pub call: u32,
     pub reply: Reply,
 }
 
-/// The linearization point of a call: the moment, counted in events from 1, and whether the call changes the set at that
+/// A call's linearization point: the moment, counted in events from 1, and whether the call changes the set at that
 /// moment.
 #[derive(Clone, Copy, Debug, PartialEq, Eq)]
 pub struct Point {

@@ -1,7 +1,7 @@
 use crate::{MOST_OPENING, MOST_QUOTA, MOST_THREADS};
 use thiserror::Error;
 
-/// An error of `layout` or `layout_opening`: the argument that is outside its limits.
+/// An error of `layout` or `layout_opening`. It names the argument that is outside its limits.
 #[derive(Clone, Copy, Debug, PartialEq, Eq, Error)]
 pub enum LayoutFault {
     /// The number of threads is 0 or above 64.

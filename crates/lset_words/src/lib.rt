@@ -1,12 +1,13 @@
 //! Keys, calls, replies, the layout of a list's words, and the records of histories.
 //!
-//! This crate's specs define the terms of the main theorem: the sequential set, the history of a run, an order of the calls
-//! that explains the history, and the content. A run is defined in `lset_steps`. The crates that prove the theorem for each
-//! list, run the lists in threads, replay schedules and check reports all use these definitions. A reader who wants to
-//! believe the theorem reads them once.
+//! This crate's specs define the terms of the main theorem: the sequential set, the history of a run, an order of the
+//! calls that explains the history, and the content. A run is defined in `lset_steps`. The crates that prove the
+//! theorem for each list, run the lists in threads, replay schedules and check reports all use these definitions. To
+//! understand what the theorem claims, read these definitions once.
 //!
-//! A function of this library allocates only if it takes `alloc: Global`, or a value that was made with one. It blocks only
-//! if it takes a runtime `rt` with `Wait`. The table of words, the limits and the call `ceiling` are not from the literature.
+//! A function of this library allocates only if it takes `alloc: Global`, or a value that was created with one. It
+//! blocks only if it takes a runtime `rt` with `Wait`. The table of words, the limits and the call `ceiling` are not
+//! from the literature.
 #![tactic(auto)]
 
 ghost use Rattle.std.specs.Prelude.{◌≡◌, ℕ, ◌+◌, ◌/◌, ◌%◌, ◌<◌, ◌^◌, IsTrue, ◌↔◌, All, Bool, IfOk, IfErr};
@@ -34,19 +35,20 @@ pub const MOST_QUOTA: u32 = 16_384;
 /// The maximum number of opening keys of a list.
 pub const MOST_OPENING: u32 = 1_048_576;
 
-/// The maximum number of nodes of a table: the head, the tail, a node for each slot of each thread and for each opening key.
+/// The maximum number of nodes in a table: the head, the tail, one node for each slot of each thread, and one for each
+/// opening key.
 pub const MOST_NODES: u64 = 2 + MOST_THREADS as u64 * MOST_QUOTA as u64 + MOST_OPENING as u64;
 
 /// The maximum number of 64-bit words of a table.
 pub const MOST_WORDS: u64 = 3 + 3 * MOST_NODES;
 
-/// The number of the node that is the head of each list's chain.
+/// The number of the head node. It is the same in every list.
 pub const HEAD: u64 = 0;
 
-/// The number of the node that is the tail of each list's chain.
+/// The number of the tail node. It is the same in every list.
 pub const TAIL: u64 = 1;
 
-/// The index of the word that is the single lock of CoarseList.
+/// The index of CoarseList's only lock word.
 pub const LOCK: u64 = 0;
 
 /// A key of a set: any `u32`.
@@ -54,7 +56,7 @@ pub const LOCK: u64 = 0;
 pub struct Key(pub u32);
 
 impl Key {
-    /// Returns the key word of a node with this key: the key plus 1. The head's key word is 0, the tail's is `2^32 + 1`.
+    /// Returns the key word of this key: the key plus 1. The head's key word is 0, the tail's is `2^32 + 1`.
     pub fn word(self) -> u64
         ensures { result ≡ key_word_of self }
     {
@@ -62,7 +64,7 @@ impl Key {
     }
 }
 
-/// The five lists of Herlihy and Shavit's chapter on linked lists: coarse-grained, fine-grained, optimistic, lazy and
+/// The five lists in Herlihy and Shavit's chapter on linked lists: coarse-grained, fine-grained, optimistic, lazy and
 /// lock-free.
 #[derive(Clone, Copy, Debug, PartialEq, Eq)]
 pub enum Kind {
@@ -85,7 +87,7 @@ pub enum Call {
 }
 
 impl Call {
-    /// Returns the key that is the call's argument.
+    /// Returns the call's argument.
     pub fn key(self) -> Key
         ensures { result ≡ key_of self }
     {
@@ -153,15 +155,15 @@ pub fn increases(keys: &[u32]) -> bool
     true
 }
 
-/// A lemma for proofs: each key is below `2^32`. The function does nothing.
+/// Lemma: each of the keys is below `2^32`. The function does nothing.
 pub fn keys_are_small(keys: &[u32])
     ensures { All (λ k. k < 2 ^ 32) keys.now }
 {
     let _keys = keys;
 }
 
-/// Returns the link word of a node: `next` is the number of the next node, below `2^63`, and `mark` is the node's mark. Mark
-/// and link share one word (Harris).
+/// Packs a link word. `next`, below `2^63`, is the number of the next node, and `mark` is the node's mark. Both share
+/// one word so that one exchange can change them together (Harris).
 pub fn pack(next: u64, mark: bool) -> u64
     requires { next < 2 ^ 63 }
     ensures { result ≡ packed next mark }
@@ -169,8 +171,7 @@ pub fn pack(next: u64, mark: bool) -> u64
     if mark { 2 * next + 1 } else { 2 * next }
 }
 
-/// Returns the number of the next node and the mark in a link word. Every `word` is a link word. `unpack(pack(next, mark))`
-/// is `(next, mark)`.
+/// Unpacks a link word into the number of the next node and the mark. Inverts `pack`, and accepts every `u64`.
 pub fn unpack(word: u64) -> (u64, bool)
     ensures next { result.0 ≡ word / 2 }
     ensures mark { IsTrue result.1 ↔ (word % 2 ≡ 1) }

@@ -1,4 +1,4 @@
-//! The trait of running sets.
+//! The trait that running sets implement.
 ghost use Rattle.std.specs.Prelude.{◌≡◌, ℕ};
 ghost use Rattle.lset_words.specs.Records.{Record, called};
 
@@ -16,14 +16,14 @@ pub trait SetCalls {
     /// The record of a seat.
     ghost record_of: { Self.Seat → Record };
 
-    /// The number of seats that a seat holds: itself, and those that were gathered into it.
+    /// The number of seats merged into a seat, itself included.
     ghost held_by: { Self.Seat → ℕ };
 
-    /// Makes `call` from the seat `seat`, which must belong to this set, and returns the reply. Appends the call with its
-    /// reply to the seat's record. Nothing else of the seat changes.
+    /// Makes `call` from `seat`, which must belong to this set, and returns the reply. Appends the call with its reply
+    /// to the seat's record. Nothing else about the seat changes.
     ///
-    /// Can block while another thread holds a lock that the call needs. The sets of this library do not allocate here, so
-    /// `session` does not either.
+    /// Can block while another thread holds a lock that the call needs. The sets of this library do not allocate here,
+    /// so `session` does not allocate either.
     fn make_call<R: Wait>(&self, rt: &R, seat: &mut Self::Seat, call: Call) -> Reply
         requires { is_of self.now seat.old }
         ensures record { record_of seat.new ≡ called (record_of seat.old) (record { call = call; reply = result }) }

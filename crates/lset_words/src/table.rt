@@ -5,7 +5,7 @@ ghost use Rattle.lset_words.specs.Words.{SlotsApart};
 use crate::{MOST_NODES, MOST_WORDS};
 use std::marker::Model;
 
-/// Returns the index of the key word of the node numbered `node`, below `2^62`.
+/// Returns the index of node `node`'s key word. `node` must be below `2^62`.
 pub fn key_index(node: u64) -> u64
     requires { node < 2 ^ 62 }
     ensures { result ≡ key_index node }
@@ -13,7 +13,7 @@ pub fn key_index(node: u64) -> u64
     3 + 3 * node
 }
 
-/// Returns the index of the link word of the node numbered `node`, below `2^62`.
+/// Returns the index of node `node`'s link word. `node` must be below `2^62`.
 pub fn link_index(node: u64) -> u64
     requires { node < 2 ^ 62 }
     ensures { result ≡ link_index node }
@@ -21,7 +21,7 @@ pub fn link_index(node: u64) -> u64
     4 + 3 * node
 }
 
-/// Returns the index of the lock word of the node numbered `node`, below `2^62`.
+/// Returns the index of node `node`'s lock word. `node` must be below `2^62`.
 pub fn lock_index(node: u64) -> u64
     requires { node < 2 ^ 62 }
     ensures { result ≡ lock_index node }
@@ -29,16 +29,16 @@ pub fn lock_index(node: u64) -> u64
     5 + 3 * node
 }
 
-/// Returns the number of the node that is slot `slot` of thread `thread`, if each thread has `quota` slots. Every number is
-/// allowed: if `slot` is not below `quota`, the result is a slot of a later thread or no node.
+/// Returns the number of the node that is slot `slot` of thread `thread`, if each thread has `quota` slots. All values
+/// are allowed: if `slot` is not below `quota`, the result is a slot of a later thread, or not a node at all.
 pub fn slot_node(quota: u32, thread: u32, slot: u32) -> u64
     ensures { result ≡ slot_node quota thread slot }
 {
     2 + u64::from(thread) * u64::from(quota) + u64::from(slot)
 }
 
-/// The layout of a list's words in its table, for 1 to 64 threads with a quota of 0 to 16,384 each, and 0 to 1,048,576
-/// opening keys. `layout` and `layout_opening` return one.
+/// The layout of a list's table of words, for 1 to 64 threads with a quota of 0 to 16,384 each, and 0 to 1,048,576
+/// opening keys. Created by `layout` and `layout_opening`.
 #[derive(Clone, Copy)]
 pub struct Layout {
     threads: u32,

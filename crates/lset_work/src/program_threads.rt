@@ -1,4 +1,4 @@
-//! The threads: starting them, running their programs, and joining them.
+//! Threads: starting them, running their programs, and joining them.
 ghost use Rattle.std.specs.Prelude.{◌≡◌, ◌<◌, ◌≤◌, ◌^◌, [], IfSome, MatchBool, MatchOption, All, map, length, true, vec_capacity};
 ghost use Rattle.lset_rule.specs.Runs.{StartsWith};
 ghost use Rattle.lset_work.specs.Programs.{HaveRun, IsMadeOn};
@@ -12,14 +12,14 @@ use std::snapshot::Snapshot;
 use std::sync::Wait;
 use std::thread::{Promise, PromisedHandle, Scope, Threads};
 
-/// The result of a thread: its seat, and the replies of its program; `None` if the gate returned false.
+/// The result of a thread: its seat, and the replies of its program, or `None` if the gate returned false.
 #[derive(Drop)]
 pub(crate) struct Done<M: Running> {
     pub seat: Seat<M>,
     pub replies: Option<Vec<Reply>>,
 }
 
-/// The promise of a thread: it makes the calls of its program on its seat, unless its gate can return false.
+/// What a thread promises: it makes the calls of its program on its seat, unless its gate can return false.
 #[derive(Drop)]
 pub(crate) struct WorkerPromise<M: Running, G: Gate> {
     pub set: Snapshot<LiveSet<M>>,
@@ -38,7 +38,8 @@ impl<M: Running, G: Gate> Promise<Done<M>> for WorkerPromise<M, G> {
 /// A started thread.
 pub(crate) type Worker<M, G> = PromisedHandle<Done<M>, WorkerPromise<M, G>>;
 
-/// Makes the calls of a program until the gate returns false, and appends their replies. Returns whether all calls were made.
+/// Makes the calls of a program until the gate returns false, and appends their replies. Returns whether all calls were
+/// made.
 fn make_calls<R: Wait, M: Running, G: Gate>(
     rt: &R,
     set: &LiveSet<M>,
@@ -93,7 +94,7 @@ fn run_program<R: Wait, M: Running, G: Gate>(
     }
 }
 
-/// The parts that all threads share: the set, the gate, and the runtime through which they wait.
+/// What all threads share: the set, the gate, and the runtime with which they wait.
 #[derive(Drop)]
 pub(crate) struct Shared<'s, R, M: Running, G: Gate> {
     pub rt: &'s R,
@@ -102,7 +103,7 @@ pub(crate) struct Shared<'s, R, M: Running, G: Gate> {
 }
 
 impl<'s, R: Wait + Sync, M: Running + Send + Sync, G: Gate + Sync> Shared<'s, R, M, G> {
-    /// Starts the thread of a program. Returns `None` if the system refuses the thread.
+    /// Starts a thread that runs a program. Returns `None` if the system refuses to start the thread.
     fn start_one<E>(
         &self,
         scope: &Scope<'s, E>,
@@ -127,7 +128,7 @@ impl<'s, R: Wait + Sync, M: Running + Send + Sync, G: Gate + Sync> Shared<'s, R,
             .ok()
     }
 
-    /// Starts a thread for each seat. Returns `None` if the system refuses a thread.
+    /// Starts a thread for each seat. Returns `None` if the system refuses to start a thread.
     pub fn start_all<E>(
         &self,
         scope: &Scope<'s, E>,
@@ -158,7 +159,7 @@ impl<'s, R: Wait + Sync, M: Running + Send + Sync, G: Gate + Sync> Shared<'s, R,
     }
 }
 
-/// The replies of the programs, and the seat into which all others were gathered.
+/// The replies of the programs, and the seat into which all other seats were gathered.
 #[derive(Drop)]
 pub(crate) struct Gathered<M: Running> {
     pub seat: Option<Seat<M>>,

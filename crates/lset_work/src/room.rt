@@ -17,8 +17,8 @@ pub(crate) struct Program {
     ghost short: { length calls.items < 2 ^ 32 },
 }
 
-/// All lists that the threads fill: the programs with space for their replies, and space for the threads' handles and for the
-/// lists of replies.
+/// All lists that the threads fill: the programs with space for their replies, space for the threads' handles, and
+/// space for the lists of replies.
 #[derive(Drop)]
 pub(crate) struct Room<M: Running, G: Gate> {
     pub programs: Vec<Program>,
@@ -44,7 +44,8 @@ fn with_room(alloc: Global, programs: Vec<Vec<Call>>) -> Option<Vec<Program>>
     Some(all)
 }
 
-/// Allocates all lists that the threads fill, and a list for at most `keys` final keys. Returns `None` if an allocation fails.
+/// Allocates all lists that the threads fill, and a list for up to `keys` final keys. Returns `None` if an allocation
+/// fails.
 pub fn reserved<M: Running, G: Gate>(
     alloc: Global,
     programs: Vec<Vec<Call>>,

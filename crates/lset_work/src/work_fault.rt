@@ -5,13 +5,14 @@ use thiserror::Error;
 /// The cause of a `WorkFault`.
 #[derive(Clone, Copy, Debug, PartialEq, Eq, Error)]
 pub enum WorkCause {
-    /// The programs are not as many as the seats, or the seats do not hold all seats of the set. No thread was started.
+    /// The number of programs differs from the number of seats, or the seats do not hold all seats of the set. No
+    /// thread was started.
     #[error("the number of programs is not the number of seats, or seats are missing")]
     Programs,
-    /// The system refused to start a thread. The threads that were started have run to their ends.
+    /// The system refused to start a thread. The threads that had been started ran to completion.
     #[error("the system refused to start a thread")]
     Spawn,
-    /// The gate returned false. The other threads have run to their ends.
+    /// The gate returned false. The other threads ran to completion.
     #[error("the gate returned false")]
     Gate,
     /// An allocation failed. No thread was started.
@@ -19,8 +20,8 @@ pub enum WorkCause {
     Memory,
 }
 
-/// The error of `work`. After `Programs` and `Memory` no thread was started, and `back` contains the set and the seats unchanged.
-/// After the other causes `back` is `None`.
+/// The error of `work`. After `Programs` and `Memory`, no thread was started, and `back` contains the set and the
+/// seats, unchanged. After the other causes, `back` is `None`.
 #[derive(Drop, Error)]
 #[error("{cause}")]
 pub struct WorkFault<M: Running> {

@@ -1,4 +1,4 @@
-//! Runs programs of calls on the seats of a running set, all at once.
+//! Runs programs of calls on the seats of a running set, all at the same time.
 ghost use Rattle.std.specs.Prelude.{◌≡◌, ◌<◌, ◌^◌, ◌↔◌, IfOk, IfErr, IsOk, MatchResult, All, map, length, true};
 ghost use Rattle.lset_live.specs.Explained.{IsOneLegalOrder};
 ghost use Rattle.lset_work.specs.Programs.{Fit, GivesBack, HaveRun, IsOfThreads, IsWorkInTime, worked};
@@ -23,7 +23,7 @@ pub struct Outcome {
     pub keys: Vec<u32>,
 }
 
-/// Runs the programs in a scope of threads, and gathers the seats.
+/// Runs the programs in a thread scope, and gathers the seats.
 fn run_in<'s, E, R: Threads + Wait + Sync, M: Running + Send + Sync, G: Gate + Sync>(
     scope: &Scope<'s, E>,
     rt: &'s R,
@@ -77,25 +77,25 @@ fn run_all<R: Threads + Wait + Sync, M: Running + Send + Sync, G: Gate + Sync>(
     )
 }
 
-/// Makes the calls of each program on its seat, all programs at once, with one thread for each seat.
+/// Makes the calls of each program on its seat. All programs run at the same time, each on its own thread.
 ///
-/// `gate` is asked before each call. At the end the seats are gathered and the set is closed. One legal order of calls (Herlihy
-/// and Wing) has each seat's earlier record followed by the calls of its program with their replies, has no other call, and
-/// leaves the final keys. A program has at most 4,294,967,295 calls. Blocks until its threads have ended. They wait for the locks
-/// of the set, and as long as the gate does.
+/// `gate` is asked before each call. At the end, the seats are gathered and the set is closed. There is one legal order
+/// of calls (Herlihy and Wing) that has each seat's earlier record followed by the calls of its program with their
+/// replies, has no other call, and leaves the final keys. A program has at most 4,294,967,295 calls. Blocks until all
+/// threads have ended. A thread can wait for locks of the set, and for as long as the gate does.
 ///
 /// # Errors
 ///
 /// Returns a `WorkFault` with the first of these causes that applies:
 ///
-/// - `Programs`: the programs are not as many as the seats, or the seats do not hold all seats of the set. No call was made, and
-///   the set and the seats are returned.
-/// - `Spawn`: the system refused to start a thread. The threads that were started have run to their ends.
-/// - `Gate`: the gate returned false. That thread stopped, and the others have run to their ends.
-/// - `Memory`: an allocation failed before the first thread started. The set and the seats are returned. All memory, also for the
-///   final keys, is allocated before the first thread starts.
+/// - `Programs`: the number of programs differs from the number of seats, or the seats do not hold all seats of the set. No call was
+///   made, and the set and the seats are returned.
+/// - `Spawn`: the system refused to start a thread. The threads that had been started ran to completion.
+/// - `Gate`: the gate returned false. That thread stopped, and the others ran to completion.
+/// - `Memory`: an allocation failed. All memory, including that for the final keys, is allocated before the first thread starts. The
+///   set and the seats are returned.
 ///
-/// No contract states when the system refuses a thread, or when a gate that can return false does.
+/// No contract states when the system refuses to start a thread, or when a gate that can return false does so.
 pub fn work<R: Threads + Wait + Sync, M: Running + Send + Sync, G: Gate + Sync>(
     rt: &R,
     alloc: Global,
@@ -110,14 +110,15 @@ pub fn work<R: Threads + Wait + Sync, M: Running + Send + Sync, G: Gate + Sync>(
     ensures replies { IfOk result (λ o. map (λ v. length v.items) o.replies.items ≡ map (λ p. length p.items) programs.items) }
     ensures outcome { IfOk result (λ o. IsOneLegalOrder set.shape (worked
         (map (λ s. s.past) seats.items) (map (λ p. p.items) programs.items) (map (λ v. v.items) o.replies.items)) o.keys.items) }
-    // In time: calls that a seat had seen before, or the giver of a receipt that it took, come first.
+    // The order keeps time: calls that a seat had seen before, or that the giver of a receipt it took had seen, come
+    // first.
     ensures in_time { IfOk result (λ o. IsWorkInTime M.table set.shape seats.items (worked
         (map (λ s. s.past) seats.items) (map (λ p. p.items) programs.items) (map (λ v. v.items) o.replies.items)) o.keys.items) }
-    // The cause is `Programs` exactly if programs and seats do not fit.
+    // The cause is `Programs` exactly if the programs and the seats do not fit.
     ensures fitting { IsOk result → Fit set seats.items (length programs.items) }
     ensures refused { IfErr result (λ f. f.cause ≡ WorkCause.Programs ↔ ¬ (Fit set seats.items (length programs.items))) }
     ensures back { IfErr result (λ f. GivesBack (set, seats) f.cause f.back) }
-    // A gate that never returns false stops no program.
+    // If the gate never returns false, it stops no program.
     ensures gate { IfErr result (λ f. f.cause ≡ WorkCause.Gate → G.may_shut gate.now ≡ true) }
 {
     if programs.len() != seats.len() || !set.is_held_by(&seats) {

@@ -1,4 +1,4 @@
--- The proof outline of the list with one lock: what is known at each row.
+-- The proof outline of the list with a single lock: what a thread knows at each row.
 use Rattle.std.specs.Prelude.{◌≡◌, ◌≢◌, ℕ, suc, ◌+◌, ◌*◌, ◌/◌, ◌%◌, ◌<◌, ◌≤◌, Bool, true, false, Option, Some, None, List, [], ◌∷◌}
 use Rattle.std.specs.Prelude.{slice_index, slice_set, refl}
 use Rattle.std.proofs.Common.{arith, inl, inr, sym, ◌∙◌, ap, subst}
@@ -27,12 +27,12 @@ use Rattle.lset_steps.proofs.Turns.Turn.{passes, changes, answers}
 use Rattle.lset_steps.specs.Rows.{decided_on, goes_to, own_slot}
 use Rattle.lset_coarse.specs.Coarse.{coarse, targets}
 
--- The protocol of CoarseList: a step changes nothing while another thread holds the lock.
+-- The protocol of CoarseList: while another thread holds the lock, a step changes nothing.
 abbrev pub LeavesHolder : Sizes → ℕ → List ℕ → (ℕ → ℕ) → Action → List ℕ → (ℕ → ℕ) → Option (Key × Bool) → Type 0
 LeavesHolder sz t ws used a ws' used' change = WordStep false sz t ws used a ws' used' change
     × ((u : ℕ) → u ≢ t → slice_index ws 0 ≡ u + 1 → (ws' ≡ ws) × (used' ≡ used))
 
--- For the thread that holds the lock, everything is unchanged.
+-- The thread that holds the lock sees no change between the two views.
 pub record Same (v w : View) : Type 0 where
   pub keys : w.key ≡ v.key
   pub links : w.link ≡ v.link
@@ -58,7 +58,7 @@ one_lock = record {
   still = λ v q u e. record { keys = refl; links = refl; list_lock = refl; used = refl };
 }
 
--- Thread `me` holds the lock; pred is in the chain with a key below the call's, and curr comes next.
+-- Thread `me` holds the lock. pred is in the chain, its key is smaller than the call's, and curr comes next.
 pub record Walking (v : View) (me key pred curr : ℕ) : Type 0 where
   pub mine : v.list_lock ≡ me
   pub at : InChain v pred
@@ -68,7 +68,7 @@ pub record Walking (v : View) (me key pred curr : ℕ) : Type 0 where
 abbrev Window : View → ℕ → Local → Type 0
 Window v t l = Walking v (t + 1) (target l.call) l.pred l.curr
 
--- The outline, one line for each row.
+-- The outline, with one line for each row.
 pub data At (q t : ℕ) (vs : ℕ → View) (first now : ℕ) (v : View) (done : Bool) (l : Local) : Type 0 where
   at0 : l.pc ≡ 0 → At q t vs first now v done l
   at1 : l.pc ≡ 1 → done ≡ false → At q t vs first now v done l
@@ -85,7 +85,7 @@ pub data At (q t : ℕ) (vs : ℕ → View) (first now : ℕ) (v : View) (done :
   at10 : l.pc ≡ 10 → v.list_lock ≡ t + 1 → (r : Reply) → l.reply ≡ Some r → Due done q vs first now t l.call r
       → At q t vs first now v done l
 
--- The outline still holds after a step of another thread.
+-- After a step of another thread, the outline still holds.
 segment_same : (v w : View) → w.link ≡ v.link → (i j : ℕ) (ns : List ℕ) → Segment v i ns j → Segment w i ns j
 segment_same v w e i j [] x = x
 segment_same v w e i j (a ∷ ns) x = (x.0, x.1, segment_same v w e (w.link i / 2) j ns (rw e x.2))
@@ -163,12 +163,12 @@ module _ (sz : Sizes) (t : ℕ) (vs : ℕ → View) (first now : ℕ) (ws : List
   curr_published : Window V t l → V.published l.curr
   curr_published w = in_chain_published V M.ordered l.curr (curr_at w)
 
-  -- The walk continues from a node of the chain with a key below the call's.
+  -- The walk continues from a node of the chain whose key is smaller than the call's.
   walks : (a : ℕ) → slice_index ws 0 ≡ t + 1 → InChain V a → node_key ws a < target l.call
       → Walking V (t + 1) (target l.call) a (node_link ws a / 2)
   walks a mine i lt = record { mine = mine; at = i; follows = even_next a i; below = lt }
 
-  -- Writing the thread's own slot keeps the outline.
+  -- Writing to the thread's own slot preserves the outline.
   window_on : (w : View) → Quiet V w → w.list_lock ≡ slice_index ws 0 → Window V t l → Window w t l
   window_on w quiet lock x =
       let pred = in_chain_published V M.ordered l.pred x.at in

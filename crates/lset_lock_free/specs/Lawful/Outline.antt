@@ -1,4 +1,4 @@
--- The proof outline of the list without locks: what is known at each row.
+-- The proof outline of the list without locks: what a thread knows at each row.
 use Rattle.std.specs.Prelude.{◌≡◌, ◌≢◌, ℕ, suc, ◌+◌, ◌-◌, ◌*◌, ◌/◌, ◌%◌, ◌<◌, ◌≤◌, ◌⊎◌, Bool, true, false, Some, None, List, []}
 use Rattle.std.specs.Prelude.{slice_set, refl, ◌==◌, nat_lt}
 use Rattle.std.proofs.Common.{arith, inl, inr, sym, ◌∙◌, ap, subst}
@@ -35,7 +35,8 @@ use Rattle.lset_steps.proofs.Turns.{Turn, due_of, Follows, no_locks}
 use Rattle.lset_steps.proofs.Turns.Turn.{passes, changes, answers, ends}
 use Rattle.lset_lock_free.specs.LockFree.{lock_free, targets, decision_of, at_key, at_link, again, next_action, fed_by, effect_of}
 
--- At some moment from `first` to `now`, a was in the chain, b was its next node, P held, and t had added `count` keys.
+-- At some moment from `first` to `now`, node a was in the chain, b was its next node, P held, and thread t had added
+-- `count` keys.
 pub record Was (vs : ℕ → View) (first now a b t count : ℕ) (P : View → Type 0) : Type 0 where
   pub at : ℕ
   pub from : first ≤ at
@@ -45,20 +46,21 @@ pub record Was (vs : ℕ → View) (first now a b t count : ℕ) (P : View → T
   pub holds : P (vs at)
   pub same_count : (vs at).used t ≡ count
 
--- At such a moment pred had a key below the call's; and below, curr had no mark.
+-- States that at some moment of the call curr was the node after pred, whose key is smaller than the call's. `Open`
+-- states that succ was the node after curr, which was not marked.
 abbrev pub Link : (ℕ → View) → ℕ → ℕ → ℕ → ℕ → ℕ → ℕ → ℕ → Type 0
 Link vs first now key pred curr t count = Was vs first now pred curr t count (λ v. v.key pred < key)
 
 abbrev pub Open : (ℕ → View) → ℕ → ℕ → ℕ → ℕ → ℕ → ℕ → Type 0
 Open vs first now curr succ t count = Was vs first now curr succ t count (λ v. v.link curr % 2 ≡ 0)
 
--- The outline, one line for each row, and one for all rows of a contains or a ceiling.
+-- The outline, with one line for each row, and one for all rows of a contains or a ceiling.
 pub data At (q t : ℕ) (vs : ℕ → View) (first now : ℕ) (v : View) (done : Bool) (l : Local) : Type 0 where
   at0 : l.pc ≡ 0 → At q t vs first now v done l
   at1 : l.pc ≡ 1 → done ≡ false → At q t vs first now v done l
   at2 : l.pc ≡ 2 → done ≡ false → Spot v (target l.call) l.pred l.curr
       → Link vs first now (target l.call) l.pred l.curr t (v.used t) → At q t vs first now v done l
-  -- Or curr has been the next node of pred since the thread's last step, which unlinked the node between them.
+  -- The case that curr has been the node after pred since the thread's last step, which unlinked the node between them.
   at2_now : l.pc ≡ 2 → done ≡ false → Spot v (target l.call) l.pred l.curr → first ≤ now → InChain v l.pred
       → v.link l.pred / 2 ≡ l.curr → At q t vs first now v done l
   at3 : l.pc ≡ 3 → done ≡ false → Spot v (target l.call) l.pred l.curr → v.published l.succ → v.link l.curr ≡ 2 * l.succ + 1
@@ -94,7 +96,7 @@ was_on {now = now} e x = record {
   same_count = x.same_count ∙ sym e;
 }
 
--- The present moment is a moment of the call.
+-- The current moment is a moment of the call.
 is_now : {vs : ℕ → View} {first now a b t : ℕ} {v : View} (P : View → Type 0) → vs now ≡ v → first ≤ now → InChain v a
     → v.link a / 2 ≡ b → P v → Was vs first now a b t (v.used t) P
 is_now {vs} {first} {now} {a} {b} {t} {v} P e from i next holds = record {
@@ -107,7 +109,7 @@ is_now {vs} {first} {now} {a} {b} {t} {v} P e from i next holds = record {
   same_count = ap (λ x. x.used t) e;
 }
 
--- The outline still holds after a step of another thread.
+-- After a step of another thread, the outline still holds.
 module _ (q t : ℕ) (vs : ℕ → View) (first now : ℕ) (v w : View) (done : Bool) (l : Local) (present : vs now ≡ v)
     (r : Remains v w q t) where
   g : KeepsNodes v w
@@ -140,7 +142,7 @@ module _ (q t : ℕ) (vs : ℕ → View) (first now : ℕ) (v w : View) (done : 
   stays (at10 e d s a m) = at10 e d (spot_kept g s) (removing_kept g s.curr_published a) (marked_on s.curr_published m)
   stays (at_read a) = at_read (reading_on a)
 
--- The contains and the ceiling have the rows that take no lock.
+-- A contains and a ceiling use the rows that take no lock.
 pub has_read_rows : HasReadRows lock_free
 has_read_rows = record {
   begins = λ call l. refl;
@@ -151,7 +153,7 @@ has_read_rows = record {
   tells = λ l seen. in_each_read_row (λ n. effect_of (record l { pc = n }) seen ≡ None) refl refl refl refl refl refl l.pc;
 }
 
--- ---- the rows
+-- ---- Proof that each row preserves the outline
 module _ (sz : Sizes) (t : ℕ) (vs : ℕ → View) (first now : ℕ) (ws : List ℕ) (used : ℕ → ℕ) (done : Bool) (l : Local)
     (h : Here true sz vs now ws used) (th : Thread At sz t vs first now ws used done l) (tn : t < sz.threads) where
   abbrev Goal : Type 0
@@ -169,7 +171,7 @@ module _ (sz : Sizes) (t : ℕ) (vs : ℕ → View) (first now : ℕ) (ws : List
   own_is : own_slot l ≡ own_of sz.quota t used
   own_is = rw (th.registers.thread, th.registers.quota, th.counts) refl
 
-  -- A published node without a mark is in the chain.
+  -- A published node that is not marked is in the chain.
   live : (a : ℕ) → V.published a → node_link ws a % 2 ≡ 0 → InChain V a
   live a p e = M.marked a p e
 
@@ -216,7 +218,7 @@ module _ (sz : Sizes) (t : ℕ) (vs : ℕ → View) (first now : ℕ) (ws : List
   abbrev Fitting : Reply → Type 0
   Fitting r = FitsSometime sz.quota (contents_of vs) (counts_of vs) first now t l.call r
 
-  -- The decision, correct at a moment of the call at which the key was known to be present or absent.
+  -- The decision is correct at a moment of the call at which the key was known to be present or absent.
   decided_at : (s at : ℕ) → first ≤ at → at ≤ now → (vs at).used t ≡ used t
       → ((s == target l.call) ≡ true → InContent (vs at) (key_of l.call).0)
       → ((s == target l.call) ≡ false → InContent (vs at) (key_of l.call).0 → ⊥)
@@ -243,7 +245,7 @@ module _ (sz : Sizes) (t : ℕ) (vs : ℕ → View) (first now : ℕ) (ws : List
         ]
       ]
 
-  -- A node has the key that it had at a moment at which it was in the chain.
+  -- A node has the same key now as at the moment at which it was in the chain.
   key_then : (a at : ℕ) → at ≤ now → InChain (vs at) a → node_key ws a ≡ (vs at).key a
   key_then a at upto i =
       let e : (vs now).key a ≡ node_key ws a = ap (λ v. v.key a) h.present in
@@ -255,7 +257,7 @@ module _ (sz : Sizes) (t : ℕ) (vs : ℕ → View) (first now : ℕ) (ws : List
   end_then a at upto p =
       sym (key_stays vs now a at now h.course upto (omega arith) p) ∙ ap (λ v. v.key a) h.present
 
-  -- The reply of a ceiling whose own key is present.
+  -- If the set has a ceiling's own key, the ceiling replies with this key.
   own_ceiling : (v : View) (s : ℕ) → s ≡ target l.call → target l.call < tail_word → InContent v (key_of l.call).0
       → FitsIn sz.quota v t (Ceiling (key_of l.call)) (ceiling_at s)
   own_ceiling v s e low c = subst (FitsIn sz.quota v t (Ceiling (key_of l.call)))
@@ -464,7 +466,7 @@ module _ (sz : Sizes) (t : ℕ) (vs : ℕ → View) (first now : ℕ) (ws : List
       reads_on lock_free (no_locks true) At sz t vs first now ws used done l h th has_read_rows (λ l' b. at_read b)
       (λ l' b. at0 b) a
 
--- The outline has the knowledge of a contains and of a ceiling.
+-- The outline includes what a contains or a ceiling knows.
 pub shows_reading : ShowsReading At
 shows_reading q t vs first now v done l row (at_read a) = a
 shows_reading q t vs first now v done l row at = grind arith

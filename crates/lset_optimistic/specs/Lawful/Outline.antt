@@ -1,4 +1,5 @@
--- The proof outline of the list that walks without locks and validates by a second walk: what is known at each row.
+-- The proof outline of the list that walks without locks and validates with a second walk: what a thread knows at each
+-- row.
 use Rattle.std.specs.Prelude.{◌≡◌, ◌≢◌, ℕ, suc, ◌+◌, ◌*◌, ◌/◌, ◌<◌, ◌≤◌, ◌⊎◌, Bool, true, false, Option, Some, None, List}
 use Rattle.std.specs.Prelude.{if◌then◌else◌, ◌==◌, slice_set, refl}
 use Rattle.std.proofs.Common.{arith, inl, inr, sym, ◌∙◌, ap, subst}
@@ -29,7 +30,7 @@ use Rattle.lset_steps.proofs.Turns.{Turn, Follows, Outcome, node_locks, locks_no
 use Rattle.lset_steps.proofs.Turns.Turn.{passes, changes, answers}
 use Rattle.lset_optimistic.specs.Optimistic.{optimistic, targets}
 
--- The result of the first walk, with the key word of pred.
+-- What the first walk has found, including pred's key word.
 pub record Reached (v : View) (key pred pkey curr ckey : ℕ) : Type 0 where
   pub found : Found v key pred curr ckey
   pub low : v.key pred ≡ pkey
@@ -44,11 +45,12 @@ reached_kept {pred = pred} g f = record {
 abbrev pub Window : View → Local → Type 0
 Window v l = Reached v (target l.call) l.pred l.pkey l.curr l.ckey
 
--- At the rows after the second walk, pred and curr are locked neighbours, and the walk has reached pred.
+-- States that pred and curr are locked neighbours and that the second walk has reached pred. This holds at the rows
+-- after that walk.
 abbrev pub Neighbours : View → ℕ → Local → Type 0
 Neighbours v t l = Between v t (target l.call) l.pred l.curr × (l.node ≡ l.pred)
 
--- The outline, one line for each row.
+-- The outline, with one line for each row.
 pub data At (q t : ℕ) (vs : ℕ → View) (first now : ℕ) (v : View) (done : Bool) (l : Local) : Type 0 where
   at0 : l.pc ≡ 0 → At q t vs first now v done l
   at1 : l.pc ≡ 1 → done ≡ false → At q t vs first now v done l
@@ -76,7 +78,7 @@ pub data At (q t : ℕ) (vs : ℕ → View) (first now : ℕ) (v : View) (done :
       → Outcome done q vs first now t l.call l.reply → At q t vs first now v done l
   at15 : l.pc ≡ 15 → v.lock l.curr ≡ t + 1 → Outcome done q vs first now t l.call l.reply → At q t vs first now v done l
 
--- The outline still holds after a step of another thread.
+-- After a step of another thread, the outline still holds.
 module _ (q t : ℕ) (vs : ℕ → View) (first now : ℕ) (v w : View) (done : Bool) (l : Local) (present : vs now ≡ v)
     (r : Rely v w q t) where
   s : Leaves v w t
@@ -109,7 +111,7 @@ module _ (q t : ℕ) (vs : ℕ → View) (first now : ℕ) (v w : View) (done : 
       (outcome_on done q vs first now t l.call l.reply o)
   stays (at15 e c o) = at15 e (s.locks l.curr c) (outcome_on done q vs first now t l.call l.reply o)
 
--- The decision, if the second walk has reached pred, and the link of pred leads to curr.
+-- The decision is correct if the second walk has reached pred and pred's link leads to curr.
 pub decision : {sz : Sizes} {t : ℕ} {ws : List ℕ} {used : ℕ → ℕ} (m : Memory false sz ws used) (l : Local) → t < sz.threads →
     Registers sz t l
     → l.used ≡ used t → Window (view sz ws used) l → node_lock ws l.curr ≡ t + 1 → Held (view sz ws used) t l.pred

@@ -18,7 +18,7 @@ loop-round-init g c = (
   c.start_on-seen.ensures.place,
 )
 
--- The progress of the call after each step of the round but the last.
+-- How far the call has come after each step of the round except the last.
 second : (g : Over) (c : After-one_step-second g) →
     Reached g.M.Machine.table c.args.call c.args.place.now c.one_step-second.result.fed c.one_step-second.new.place
 second g c =

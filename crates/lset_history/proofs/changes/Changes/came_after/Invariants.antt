@@ -4,14 +4,14 @@ use Rattle.lset_history.specs.Changes.{moments_of}
 use Rattle.lset_history.proofs.CeilingSearch.{IsFrom, CameUpTo}
 use Rattle.lset_history.proofs.changes.Changes.came_after.Given as goal
 
--- The keys below the next one have been checked.
+-- All keys below the next one have been checked.
 abbrev pub invariant-loop-next : goal.invariant-loop-next
 invariant-loop-next l = record {
   from : IsFrom l.key l.next;
   came : CameUpTo (moments_of l.self) l.key l.next l.end l.moment;
 }
 
--- The number of keys that remain
+-- Returns the number of keys that remain to be checked.
 abbrev keys_left : Option ℕ → ℕ
 keys_left None = 0
 keys_left (Some key) = 4294967297 - key
