@@ -1,5 +1,6 @@
-"""Generates the man page of the program, and its completions for bash, zsh and fish, from what `listset
---help` and `listset help COMMAND` print."""
+"""Generates the program's man page, and its completions for bash, zsh and fish, from the output of `listset --help` and
+`listset help COMMAND`.
+"""
 
 import re
 import subprocess
@@ -24,7 +25,7 @@ class Help:
         self.pages = {name: said("help", name) for name in self.about if name != "help"}
 
     def examples(self):
-        """Returns the examples at the ends of the helps."""
+        """Returns the examples at the end of each help text."""
         return [it for text in self.pages.values() for it in re.findall(r"^Example: (.*)$", text, re.M)]
 
     def broken_lists(self):
@@ -33,8 +34,9 @@ class Help:
         return re.findall(r"([\w-]+) \([\w-]+\)", about)
 
     def options(self, name):
-        """Returns the options of a command except --help: the name, the name of the value or "", and what the
-        option does."""
+        """Returns the options of a command except --help: the name, the name of the value (or ""), and what the option
+        does.
+        """
         return [it for it in OPTION.findall(self.pages[name]) if it[0] != "help"]
 
 
@@ -48,7 +50,7 @@ ENTRY = re.compile(r"^ {2,8}(\S.*?)(?: {2,}(\S.*))?$")
 
 
 def man_page(said, version, date):
-    """Returns the man page of section 1, in roff."""
+    """Returns the man page for section 1, in roff."""
     first, rest = said.whole.split("\n\n", 1)
     parts = [f'.TH LISTSET 1 "{date}" "listset {version}"', ".nh", ".ad l", ".SH NAME", f"listset \\- {first[0].lower()}{first[1:]}"]
     parts += [".SH SYNOPSIS", *filled(rest)]
@@ -65,13 +67,14 @@ def quoted(text):
 
 
 def entry(name, text):
-    """Returns an entry of a list in roff: a name and its text. Further lines can follow."""
+    """Returns an entry of a list in roff, with a name and its text. Further lines can follow."""
     return [".TP", f"\\fB{quoted(name)}\\fR", *([quoted(text)] if text else [])]
 
 
 def filled(text):
-    """Returns the lines of a help in roff: paragraphs, and lists of names with texts. A text can continue in
-    further lines, which are indented more."""
+    """Returns the lines of a help text in roff: paragraphs, and lists of names with texts. A text can continue on further
+    lines, which are indented more.
+    """
     for line in text.splitlines():
         if not line:
             yield ".PP"
@@ -107,7 +110,7 @@ complete -o default -F _listset listset
 
 def for_zsh(said):
     def told(about):
-        """What an option or a word does, as _arguments and _describe take it within apostrophes."""
+        """Escapes the description of an option or argument for _arguments and _describe, which expect it in single quotes."""
         return re.sub(r"[:\[\]'\\]", "", about[:70])
 
     def spec(name, value, about):

@@ -1,5 +1,6 @@
-"""What is said of mistakes: in a pipe one fixed line, to the byte; by `explain` the line, what is wrong and what to do. tests/hints.py has what
-a terminal shows below the fixed line."""
+"""Tests how mistakes are explained. A pipe gets exactly one fixed line; `explain` prints the wrong line, what is wrong,
+and how to correct it. tests/hints.py tests what a terminal shows below the fixed line.
+"""
 
 import os
 import re
@@ -16,7 +17,7 @@ RIGHT_REPORT = REPORT + "call 0 0 add 5 1 8 true\nplace 0 true\nkey 5\nend\n"
 ADD = "call 0 add 5 1 4 true\n"
 RIGHT_CALLS = f"{CALLS}{ADD}key 5\nend\n"
 
-# the command, the text, the fixed line, and what the explanation has
+# the command, the text, the fixed line, and parts of the explanation
 ROWS = {
     "no bytes": ("replay", "", "line 1: Header", ["no bytes", "command before a pipe"]),
     "no bytes of a recording": ("judge", "", "line 1: Header", ["no bytes"]),
@@ -130,7 +131,7 @@ def test_a_shell_reads_the_name_in_a_command(program, room, name):
 
 
 def test_no_text_stops_explain(program, few):
-    """Texts with a part cut out, repeated, or replaced: `explain` succeeds and names the line that the command names."""
+    """Cuts out, repeats or replaces parts of texts. `explain` must succeed and name the same line as the command."""
     import random
 
     dice = random.Random(7)

@@ -1,4 +1,6 @@
-"""What the script ./listset shows at a terminal: below an error a line that helps, before a command what it reads, and in a pipe nothing more."""
+"""Tests what the script ./listset shows at a terminal: below an error a line that helps, and before a command what it
+reads. In a pipe it shows nothing more.
+"""
 
 import os
 import pty
@@ -9,7 +11,7 @@ import pytest
 from explained import CALLS, RIGHT, RIGHT_CALLS, SCHEDULE, ADD
 from harness.programs import SECONDS, TOP, ran, wants, well
 
-# The arguments, the fixed line, and what the terminal shows below it
+# The arguments, the fixed line, and what the terminal shows below that line.
 AT_TERMINAL = {
     "replay no-such": ["listset: cannot read\n", "no-such: there is no such file"],
     "judge .": ["listset: cannot read\n", ".: this is a folder"],
@@ -48,7 +50,7 @@ AT_TERMINAL = {
 
 
 def at_terminal(words, cwd, typed=None, env=None):
-    """Returns what a command prints at a terminal, and its status. `typed` is its standard input."""
+    """Returns what a command prints at a terminal, and its exit status. `typed` is its standard input."""
     ours, theirs = pty.openpty()
     stdin = theirs if typed else subprocess.DEVNULL
     running = subprocess.Popen(words, cwd=cwd, stdin=stdin, stdout=theirs, stderr=theirs, env=env)
@@ -69,7 +71,9 @@ def at_terminal(words, cwd, typed=None, env=None):
 
 @pytest.fixture
 def script(program, room):
-    """Makes a folder with the script, the program under test as its proved program, schedules and recordings."""
+    """Creates a folder with the script, with the program under test in place of the proved program, and with schedules and
+    recordings.
+    """
     tree = room / "tree"
     (tree / "crates/listset/out").mkdir(parents=True)
     for folder in ("build", "examples/schedules"):

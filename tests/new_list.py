@@ -1,5 +1,6 @@
-"""Tests docs/NEW-LIST.md: each list is in each place that names the lists; build/new_list makes a copy, adds
-it to these places, and prints what is left. ./gate proves what it makes, with the lists of examples/lists."""
+"""Tests docs/NEW-LIST.md: every place that names the lists names all of them, and build/new_list makes a copy, adds it to
+these places, and prints what is left to do. ./gate proves the copy together with the lists in examples/lists.
+"""
 
 import re
 
@@ -14,12 +15,12 @@ PLACES = {**lists.CODE, **lists.TEXTS}
 
 @pytest.fixture
 def copy(room):
-    """Returns a repository with the files that new_list reads and writes."""
+    """Creates a repository with the files that new_list reads and writes."""
     return copied(["build", "crates.txt", "examples/lists", *PLACES, *(f"crates/{it.crate}" for it in lists.lists())], room / "copy")
 
 
 def code_in(crate):
-    """Returns the code of a crate's files, without comments."""
+    """Returns the code in a crate's files without comments."""
     files = [it for it in crate.rglob("*") if it.suffix in (".rt", ".antt")]
     return "\n".join(re.sub(r"(^|\s)(--|//).*", "", line) for it in files for line in it.read_text().splitlines())
 

@@ -1,5 +1,6 @@
-// node page/tests/memory.js: the heap of the module (wasm/heap.c) until memory is refused. Blocks stand apart and within the memory,
-// which ends 16 MiB below 4 GiB (page/build); what is refused leaves the heap as it was.
+// node page/tests/memory.js: tests the module's heap (wasm/heap.c) until an allocation is refused. Blocks must not
+// overlap and must lie within the memory, which ends 16 MiB below 4 GiB (page/build). A refused allocation must leave
+// the heap unchanged.
 "use strict";
 
 const fs = require("fs");
@@ -18,7 +19,7 @@ function check(what, is) {
   else failed.push(what);
 }
 
-// As many blocks of a size as there are, and then what is still to be had.
+// Allocates as many blocks of a size as possible, and then whatever is still available.
 function fill(size) {
   const { memory, page_alloc: alloc, page_free: free } = new WebAssembly.Instance(built, { env: { read: () => -1n } }).exports;
   const blocks = [];

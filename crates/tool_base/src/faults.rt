@@ -3,7 +3,7 @@ use crate::trouble::{Trouble, ValueName};
 use lset_text::cut;
 use std::alloc::{AllocError, Global};
 
-/// The text of the command `faults`: each error message of the program, with each cause in a sentence.
+/// The output of the command `faults`: every error message of the program, and a sentence about each cause.
 pub const FAULTS: &str = "\
 Error messages of listset. 'listset faults Idle' explains the cause Idle alone. 'listset explain FILE' explains the first error of a
 file. docs/TEXTS.md has examples.
@@ -119,31 +119,31 @@ Other messages
   listset: out of memory  An allocation failed; exit status 3.
 ";
 
-/// Returns the answer of the command `faults`: the text `FAULTS`. Allocates; the error is `Trouble::Memory`.
+/// Returns all of `FAULTS`, as the answer of the command `faults`. Returns `Trouble::Memory` if an allocation fails.
 pub fn list_faults(alloc: Global) -> Result<Answer, Trouble> {
     let text = Vec::from_slice(alloc, FAULTS.as_bytes())?;
     Ok(Answer { text, status: 0 })
 }
 
-/// The name of a cause, a message or a part of `FAULTS`.
+/// A name to look up in `FAULTS`: of a cause, of a message, or of a section.
 #[derive(Clone, Copy)]
 pub struct FaultName {
     name: &'static [u8],
 }
 
-/// The kinds of lines of `FAULTS` below its heading.
+/// The kinds of lines in `FAULTS` after its heading.
 #[derive(Clone, Copy, PartialEq, Eq)]
 enum FaultLine {
-    /// The title of a part, or the empty line before it.
+    /// The title of a section, or the empty line before it.
     Title,
-    /// The first line about a cause or a message. The line begins with the name.
+    /// The first line about a cause or a message. It begins with the name.
     Entry,
-    /// A further line about the cause or message above.
+    /// A continuation line of the entry above.
     More,
 }
 
 impl FaultLine {
-    /// Returns the kind of a line.
+    /// Classifies a line.
     fn of(line: &[u8]) -> FaultLine {
         match line {
             [b' ', b' ', b' ', ..] => FaultLine::More,
@@ -153,7 +153,7 @@ impl FaultLine {
     }
 }
 
-/// Returns the rest of a line of `FAULTS` from its name on.
+/// Returns the part of a `FAULTS` line that starts at its name.
 fn from_name(line: &[u8]) -> &[u8] {
     let line = line.strip_prefix(b"  ").unwrap_or(line);
     let line = line.strip_prefix(b"listset: ").unwrap_or(line);
@@ -161,7 +161,7 @@ fn from_name(line: &[u8]) -> &[u8] {
     line.strip_prefix(b"line 1: ").unwrap_or(line)
 }
 
-/// Returns the name at the front of a line of `FAULTS` if the name is `name`, in upper or lower case. Else `None`.
+/// Returns the name with which a `FAULTS` line starts if it equals `name`, ignoring case. Otherwise returns `None`.
 fn name_of_line<'a>(line: &'a [u8], name: &[u8]) -> Option<&'a [u8]> {
     let line = from_name(line);
     let (first, rest) = (line.get(..name.len())?, line.get(name.len()..)?);
@@ -173,7 +173,7 @@ fn name_of_line<'a>(line: &'a [u8], name: &[u8]) -> Option<&'a [u8]> {
     }
 }
 
-/// Returns the name in an argument of `faults`: a cause, a message, or a whole error line.
+/// Returns the name that an argument of `faults` contains: the argument is a cause, a message, or a whole error line.
 fn name_in(word: &[u8]) -> &[u8] {
     let word = word.strip_prefix(b"listset: ").unwrap_or(word);
     if word.starts_with(b"bad ") {
@@ -191,7 +191,7 @@ fn name_in(word: &[u8]) -> &[u8] {
     }
 }
 
-/// Returns `FAULTS` without its heading: the titles and their entries.
+/// Returns `FAULTS` without its heading: the sections with their titles and entries.
 fn parts() -> &'static [u8] {
     let mut rest = FAULTS.as_bytes();
     for _ in 0..FAULTS.len() {
@@ -204,8 +204,8 @@ fn parts() -> &'static [u8] {
     rest
 }
 
-/// Reads the argument of `faults`: the name of a cause, a message or a part, in upper or lower case, or a whole error line.
-/// The error is `ValueName::Cause` if no title and no entry of `FAULTS` begins with the name.
+/// Reads the argument of `faults`: the name of a cause, of a message or of a section in upper or lower case, or a whole
+/// error line. Returns `ValueName::Cause` if no title and no entry in `FAULTS` starts with that name.
 pub fn read_fault_name(word: &[u8]) -> Result<FaultName, ValueName> {
     let word = name_in(word);
     let mut rest = parts();
@@ -222,7 +222,7 @@ pub fn read_fault_name(word: &[u8]) -> Result<FaultName, ValueName> {
     Err(ValueName::Cause)
 }
 
-/// Appends a line, below the title of its part. `title` is empty if the text has this title already.
+/// Appends a line after the title of its section. `title` is empty if the title has already been appended.
 fn put_line(out: &mut Vec<u8>, title: &[u8], line: &[u8]) -> Result<(), AllocError> {
     if !title.is_empty() {
         if !out.is_empty() {
@@ -236,8 +236,8 @@ fn put_line(out: &mut Vec<u8>, title: &[u8], line: &[u8]) -> Result<(), AllocErr
     Ok(())
 }
 
-/// Appends the lines of `FAULTS` about a name: all of a part whose title has the name; of each other part the title and the
-/// entries with the name.
+/// Appends the lines of `FAULTS` about a name: an entire section if the name is its title; from every other section,
+/// its title and the entries with this name.
 fn put_named(out: &mut Vec<u8>, name: &[u8]) -> Result<(), AllocError> {
     let (mut title, mut is_whole, mut is_told) = (b"".as_slice(), false, false);
     let mut rest = parts();
@@ -264,8 +264,8 @@ fn put_named(out: &mut Vec<u8>, name: &[u8]) -> Result<(), AllocError> {
     Ok(())
 }
 
-/// Returns the answer of the command `faults` on a name: the lines of `FAULTS` about it. Allocates; the error is
-/// `Trouble::Memory`.
+/// Looks up a name in `FAULTS`, as the answer of the command `faults NAME`. Returns `Trouble::Memory` if an allocation
+/// fails.
 pub fn explain_fault(alloc: Global, fault: FaultName) -> Result<Answer, Trouble> {
     let mut text = Vec::new(alloc);
     put_named(&mut text, fault.name)?;

@@ -1,4 +1,4 @@
-"""Access: by the key Tab alone, in both schemes of colours, with a finger, and at twice the size."""
+"""Tests access with the Tab key alone, in both colour schemes, with a finger, and at twice the size."""
 
 import pytest
 from test_stage import fit

@@ -1,8 +1,8 @@
-"""Guess, then see: each question is answered, shown, changed and left."""
+"""Tests "guess, then see": each question is answered, shown, changed and left."""
 
 
 def hurried(visitor):
-    """The run is shown to its end at once by a key."""
+    """Shows the run to its end at once, with a key."""
     visitor.press("Right")
     visitor.revealed()
 
@@ -83,7 +83,7 @@ def test_old_addresses_open_the_questions(visitor):
 
 
 def test_sentences_are_whole(visitor):
-    """Of each event of each example, as the story tells it."""
+    """Checks the sentence at each event of each example."""
     visitor.open("#ask")
     told = visitor.inside("""const { LiveRun, QUESTIONS, APPENDIX, taleOf, momentAt } = listsets;
         return [...QUESTIONS, ...APPENDIX].flatMap(({ list, opening, threads = 2, quota = 4, lines, rest }) => {

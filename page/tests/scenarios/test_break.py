@@ -1,4 +1,6 @@
-"""Break: each level is won, its answer is not told, the contradiction is in sight, and what is missing is struck out."""
+"""Tests the levels with broken lists: each is won, its answer is not given away, the contradiction is visible, and the
+missing check is struck out.
+"""
 
 import pathlib
 
@@ -6,7 +8,7 @@ SCHEDULES = pathlib.Path(__file__).resolve().parents[3] / "examples/schedules/la
 
 
 def won(visitor):
-    """Level 1 by its hints: both walk, B does its whole add, A ends."""
+    """Wins level 1 with its hints: both threads traverse, B makes its whole add, and A ends."""
     visitor.open("#break=1")
     for key in "aaabbbbbbaa":
         if not visitor.is_seen(".reveal"):
@@ -72,7 +74,9 @@ def test_hints_are_in_words(visitor):
 
 
 def test_each_level_is_broken_by_the_schedule_of_the_examples(visitor):
-    """Each level opens with the run of a link; it is shown as broken, its answer can be given, and no row is left without a line."""
+    """Each level opens with the run in a link. The run is shown as broken, its answer can be given, and each row has a
+    line.
+    """
     visitor.open("#break")
     levels = visitor.inside("return Object.keys(listsets.BREAK_LEVELS)")
     for number, name in enumerate(levels, 1):

@@ -1,4 +1,4 @@
-"""Judge, Compare, files, and what is told of wrong ones."""
+"""Tests Judge, Compare and files, and what the page says about wrong files."""
 
 from test_stage import fit
 

@@ -1,4 +1,4 @@
-"""The path: a first-time visitor goes through it by presses, guesses and keys, and finds the way back."""
+"""Tests the path: a first-time visitor follows it with clicks, guesses and keys, and finds the way back."""
 
 import pytest
 

@@ -1,4 +1,6 @@
-"""For teachers: a lecture, an assignment as one link, what a class handed in; and the student who opens the link."""
+"""Tests what teachers use: a lecture, an assignment as a single link, and what a class handed in. Also tests the student
+who opens the link.
+"""
 
 import json
 
@@ -82,7 +84,7 @@ BROKEN = "break lock #list=coarse&threads=2&quota=2&opening=3.7&s=b0.add.5,b1.ad
 
 
 def marked(number):
-    """A solution that no other number has: before, A has looked for other keys."""
+    """Returns a solution that no other number has: before it, A has looked for other keys."""
     return MARKED.format("".join(f"b0.contains.{1 + int(digit)},g0.2," for digit in f"{number:05b}"))
 
 

@@ -1,4 +1,4 @@
-"""A student's work: schedules as text, undo, long runs, what is read aloud, and all of the examples."""
+"""Tests a student's work: schedules as text, undo, long runs, what a screen reader reads, and all examples."""
 
 import json
 
@@ -134,7 +134,7 @@ def test_a_numbered_run_is_the_same_for_all(visitor, another):
 
 
 def test_a_slow_network(visitor):
-    """The engine comes late: the example is there from its trace before, and the page says who ran it."""
+    """If the engine loads late, the example is already there from its stored trace, and the page says who ran it."""
     visitor.go(f"{visitor.place}/slow.html#example=snip&event=3")
     visitor.wait("return document.body.dataset.ready === 'soon'")
     assert visitor.event() == 3 and "kept beside the page" in visitor.text("#source")
