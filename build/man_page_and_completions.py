@@ -10,7 +10,7 @@ import lists
 COMMAND = re.compile(r"^  (\w+) +(.+)$", re.M)
 OPTION = re.compile(r"^ +(?:-\w, )?--([\w-]+)(?: <(\w+)>)? +(.*)$", re.M)
 LISTS = " ".join(it.word for it in lists.lists())
-OF_A_LIST = ["gen", "run", "serve"]  # their first value is a list
+OF_A_LIST = ["gen", "run", "serve"]  # the commands whose first argument is a list
 
 
 class Help:

@@ -12,7 +12,7 @@ import zipfile
 
 NO_LICENCE = "No licence is given: the owner has not chosen one. All rights are reserved."
 PROGRAMS = ("bin/", "usr/bin/")
-MEMBER = "{:<16}{:<12}{:<6}{:<6}{:<8}{:<10}`\n"  # the header of a member of an ar archive
+MEMBER = "{:<16}{:<12}{:<6}{:<6}{:<8}{:<10}`\n"  # a member's header in an ar archive
 
 
 def files_below(folder, to="", leave=()):

@@ -76,7 +76,7 @@ def end_guarded():
 def room(kind):
     """Creates a temporary folder that is deleted when this process ends."""
     folder = tempfile.mkdtemp(prefix=f"{kind}-")
-    os.chmod(folder, 0o711)  # rt, run as root, runs programs as nobody, who must be able to enter
+    os.chmod(folder, 0o711)  # if rt runs as root, it runs programs as nobody, who must be able to enter
     try:
         yield pathlib.Path(folder)
     finally:

@@ -8,10 +8,10 @@ import re
 import gate_verdict
 
 TOP = pathlib.Path(__file__).resolve().parent.parent
-SOURCE = TOP / "crates/lset_command/src/command_line.rt"  # the only place of the version
+SOURCE = TOP / "crates/lset_command/src/command_line.rt"  # the only place that has the version
 IN_SOURCE = re.compile(r'^pub const VERSION: &str = "([^"\\]+)\\n([^"\\]+)";$', re.M)
 NO_COMMIT = "0" * 40
-PROVED, NOT_PROVED, UNKNOWN = PROOFS = "checked", "missing", "unknown"  # of equal length, so that each fits the reserved place
+PROVED, NOT_PROVED, UNKNOWN = PROOFS = "checked", "missing", "unknown"  # of equal length, so that each fits in the reserved place
 PLACE = "commit {}\nproof {}\n"
 
 

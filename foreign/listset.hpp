@@ -161,7 +161,7 @@ public:
   seat() = default;
   seat(seat &&other) noexcept : raw(std::exchange(other.raw, listset_seat LISTSET_NONE)) {}
   seat &operator=(seat &&other) noexcept {
-    seat moved(std::move(other)); // Its destructor drops what this seat contained.
+    seat moved(std::move(other)); // The destructor drops what this seat contained.
     std::swap(raw, moved.raw);
     return *this;
   }
@@ -310,7 +310,7 @@ class renewed_set {
   struct alignas(128) place {
     std::mutex lock;
     listset_seat raw = LISTSET_NONE;
-    uint32_t adds = 0, removes = 0; // The calls that changed the set since it was last opened.
+    uint32_t adds = 0, removes = 0; // How many calls of each kind changed the set since it was last opened.
     std::atomic<bool> is_taken{false};
   };
   enum class stage { open, to_be_renewed, closed };
@@ -320,8 +320,8 @@ class renewed_set {
   const list kind;
   const uint32_t quota;
   const std::chrono::nanoseconds patience;
-  std::mutex renewing; // Is locked before all places are.
-  std::atomic<bool> is_wanted{false}; // A thread has waited long for the places: the others' next calls wait for it.
+  std::mutex renewing; // Locked before all places are.
+  std::atomic<bool> is_wanted{false}; // A thread has waited long for the places, so the next calls of the others wait for it.
   std::deque<place> places;
   // These change only while all places are locked.
   stage now = stage::open;
@@ -421,7 +421,7 @@ class renewed_set {
   added add_renewed(place &mine, uint32_t key) {
     all_taken all(*this, mine);
     if (now == stage::open) {
-      const added answer = add_from(mine, key); // Another thread can have renewed the set in the meantime.
+      const added answer = add_from(mine, key); // Another thread may have renewed the set in the meantime.
       if (answer != added::is_full || keys_now() > MOST_OPENING || quota == 0) return answer;
     }
     renew_taken();
@@ -457,7 +457,7 @@ public:
       const auto call = [&](place &it) { return add_from(it, key); };
       added answer = by(call);
       if (answer == added::is_full) {
-        set->taken(set->renewing).unlock(); // Another thread can be renewing the set.
+        set->taken(set->renewing).unlock(); // Another thread may be renewing the set.
         answer = by(call);
       }
       return answer == added::is_full ? set->add_renewed(*mine, key) : answer;

@@ -577,7 +577,7 @@ class RenewedSet:
         self._places = [_Place(it) for it in (first, *(first.split() for _ in range(1, seats)))]
         self._renewing, self._stage = threading.Lock(), "open"  # The stage changes only while all places are locked.
         self._splitting = threading.Lock()
-        self._is_wanted = False  # A thread has waited long for the places: the others' next calls wait for it.
+        self._is_wanted = False  # A thread has waited long for the places, so the next calls of the others wait for it.
 
     def split(self):
         """Returns a seat for a thread. Raises `Fault` if all seats are in use."""
@@ -696,7 +696,7 @@ class RenewedSet:
         """Renews the set and adds a key from `place`, whose seat has used up its quota."""
         with self._all_taken(place):
             if self._stage == "open":
-                added = place.try_add(key)  # Another thread can have renewed the set in the meantime.
+                added = place.try_add(key)  # Another thread may have renewed the set in the meantime.
                 if added is not Added.FULL or self._keys_now() > MOST_OPENING or self._quota == 0:
                     return added
             self._renew_taken()
@@ -722,7 +722,7 @@ class OwnSeat:
         """
         added = self._by(lambda it: it.try_add(key))
         if added is Added.FULL:
-            self._of._wait_for_renewal()  # Another thread can be renewing the set.
+            self._of._wait_for_renewal()  # Another thread may be renewing the set.
             added = self._by(lambda it: it.try_add(key))
         return self._of._add_renewed(self._place, key) if added is Added.FULL else added
 

@@ -19,10 +19,10 @@ from harness.programs import KINDS
 
 GREATEST = 2**32 - 1  # the largest key
 MOST_THREADS, MOST_QUOTA, OPENING = 64, 16_384, 1_048_576
-CALLS, TIMES = 16_000, 8  # the largest number of calls compared, and the factor to the smaller number
+CALLS, TIMES = 16_000, 8  # the larger number of calls in a comparison, and how many times larger it is than the smaller one
 LITTLE = 0.04, 14_000  # differences in seconds and kilobytes that are ignored
-PROCESSOR_SECONDS = 9  # for one command; an unproved program takes up to 2
-SPINNING_SECONDS = 90  # for a command whose threads spin at locks: on a busy machine the holder can be stopped for long
+PROCESSOR_SECONDS = 9  # the limit for one command; an unproved program takes up to 2
+SPINNING_SECONDS = 90  # the limit for a command whose threads spin at locks, since the holder can be preempted for long on a busy machine
 # (A small process starts the program, because the memory that the system reports for a program includes that of the
 # process that started it.)
 STARTER = """import json, os, resource, sys

@@ -21,8 +21,8 @@ import pytest
 
 from harness.programs import SECONDS, TOP
 
-REFUSED = 1000  # the number of the refused allocation: more than the calls make
-PROCESSOR_SECONDS = 5  # for one run
+REFUSED = 1000  # an allocation number that the calls never reach
+PROCESSOR_SECONDS = 5  # the limit for one run
 CALLS = TOP / "crates/memory_calls/out/unproved/memory_calls"
 
 # The commands to test. They run on files in examples/; on a random schedule (DRAWN); on schedules with many opening

@@ -126,5 +126,5 @@ int main(int count, char **names) {
     failed += told == 0;
     printf("%s: %zu refusals told\n", CALLS[at].name, told);
   }
-  return failed != 0 || tried_said(faults) < 2; // A text that is longer than the first block.
+  return failed != 0 || tried_said(faults) < 2; // The text is longer than the first block.
 }

@@ -75,7 +75,7 @@ static bool is_right_shared(list kind) {
 // Threads add more keys than the seats have quota for. Exactly as many adds as the quota allows must return true, and
 // exactly these keys remain.
 static bool is_filled(uint32_t seats, uint32_t quota) {
-  listset::shared set(list::lock_free, seats, quota); // A wrong call could keep no lock of this list.
+  listset::shared set(list::lock_free, seats, quota); // On this list, a wrong call cannot leave a lock held.
   std::vector<std::vector<uint32_t>> added_by(4);
   std::vector<std::thread> threads;
   for (uint32_t at = 0; at < 4; at++)
@@ -184,7 +184,7 @@ static void expect_assigned(list kind) {
 // another thread.
 static void expect_apart() {
   seat mine = listset::open(list::lazy, 1, 0);
-  const int many = 70000; // More than 16 bits can number.
+  const int many = 70000; // More than 16 bits can number
   int refused = 0;
   std::thread([&] {
     for (int at = 0; at < many; at++) {

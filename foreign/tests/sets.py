@@ -11,7 +11,7 @@ import listset
 from listset import Added
 
 THREADS, CALLS, KEYS, OPENING = 4, 3000, 64, [1, 7, 63]
-ENDS = [0, 2**32 - 1]  # the least key and the greatest
+ENDS = [0, 2**32 - 1]  # the smallest key and the largest
 
 
 def calls_of(seat, number, kinds):

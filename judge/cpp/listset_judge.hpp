@@ -263,8 +263,8 @@ struct slot {
 struct area {
     const shape of;
     const uint64_t seed;
-    const unsigned rows, parts, rounds;  // the calls of each thread in a part (the last one can have fewer); the parts of a set; the parts of all sets
-    slot *slots = nullptr;               // the calls of each thread in turn
+    const unsigned rows, parts, rounds;  // how many calls a thread makes in a part (the last one can have fewer), how many parts a set has, and all sets together
+    slot *slots = nullptr;               // the calls, thread by thread
     std::atomic<unsigned> tickets{0}, there{0}, done{0}, begun{0};
     std::atomic<uint64_t> written{0};  // the length of the file
     std::atomic<phase> at{GOING};
@@ -706,7 +706,7 @@ inline std::string cut(const area &run, const std::string &path, const std::stri
 
 struct outcome {
     uint64_t seed = 0, calls = 0, overlapped = 0;
-    std::string said = "", file = "", text = "";  // of a run that failed; `text` is the whole message
+    std::string said = "", file = "", text = "";  // of a failed run; `text` is the complete message
 };
 
 struct number {

@@ -40,21 +40,21 @@ var NotKnown any = notKnown{}
 
 // Options are the options of a test. All of them are checked before the first set is created.
 type Options struct {
-	Threads       int    // goroutines that call a set at once: 1 to 64; 0 uses the presets in turn
-	Calls         int    // calls of each goroutine: at least 1, and at most 1,000,000,000 for all together; 0 uses the presets in turn; after each 20,000 calls, these are written to the file while the goroutines wait
-	Keys          int    // keys: 1 to 1,048,576; 0 uses the presets in turn; with more than eight keys, half of the calls use the first four
-	Pauses        int    // percentage of calls before which a goroutine pauses, for at most a few microseconds: 0 to 100; unless it is 0, goroutines in a process of the set's own are also stopped during calls
-	Runs          int    // runs: 1 to 1,000,000; a run calls one set, or several new sets one after another
-	Seed          int64  // seed of the calls, keys and pauses of the first run; the next run has the next seed
-	Seconds       int    // a run is cut short as hung if no call begins or ends for this many seconds: 1 to 3,600
-	Within        int    // no run begins after this many seconds of the test: 1 to 604,800
+	Threads       int    // the number of goroutines that call a set at the same time: 1 to 64; 0 cycles through the presets
+	Calls         int    // the number of calls of each goroutine: at least 1, and at most 1,000,000,000 for all together; 0 cycles through the presets; after every 20,000 calls, these are written to the file while the goroutines wait
+	Keys          int    // the number of keys: 1 to 1,048,576; 0 cycles through the presets; with more than eight keys, half of the calls use the first four
+	Pauses        int    // the percentage of calls before which a goroutine pauses, for at most a few microseconds: 0 to 100; unless it is 0, goroutines in the set's own process are also stopped during calls
+	Runs          int    // the number of runs: 1 to 1,000,000; a run calls one set, or several new sets one after another
+	Seed          int64  // the random seed for the calls, keys and pauses of the first run; each later run uses the next seed
+	Seconds       int    // if no call begins or ends for this many seconds, a run is considered hung and is cut short: 1 to 3,600
+	Within        int    // no new run begins once the test has taken this many seconds: 1 to 604,800
 	AtLeast       int    // the test fails if less than this percentage of the calls overlap a change of their key
-	Adds          int    // share of Add among the calls
-	Removes       int    // share of Remove
-	Finds         int    // share of Contains
-	InProcess     bool   // calls sets in this process, which crashes or hangs with them: for debuggers and for coverage
-	OpensWithKeys bool   // calls Contains for each key before all other calls, to record the opening keys
-	Record        string // folder that keeps the recording of each run; if empty, only the recording of a failed run is kept: in the folder that the variable LISTSET_RECORD names, or else in the folder for temporary files
+	Adds          int    // the relative frequency of Add among the calls
+	Removes       int    // that of Remove
+	Finds         int    // that of Contains
+	InProcess     bool   // calls sets in this process, which crashes or hangs with them; useful for debuggers and coverage
+	OpensWithKeys bool   // calls Contains for each key before all other calls to record the opening keys
+	Record        string // the folder in which the recording of each run is kept; if empty, only the recording of a failed run is kept, in the folder named by the variable LISTSET_RECORD, or else in the folder for temporary files
 }
 
 // DefaultOptions returns the options for 20 runs with the presets.
@@ -315,7 +315,7 @@ func nameOf(t Test) string {
 type source struct {
 	newSet func() Set
 	shown  func(number uint32) string
-	isOwn  bool // whether the test has a function for keys
+	isOwn  bool // whether the test has a function that converts numbers to keys
 }
 
 func numbers[S Set](newSet func() S) source {

@@ -121,9 +121,9 @@ func (s *slot) line(end uint32) string {
 
 // caller makes runs.
 type caller interface {
-	begin()          // is called when the memory of a run is ready
+	begin()          // must be called once the memory of a run is ready
 	hasEnded() bool  // whether the run has ended
-	trouble() string // then the error, if any
+	trouble() string // the error, if the run has ended with one
 	stop()           // stops the run; a child process ends
 	close()          // frees the memory of the runs
 }

@@ -469,7 +469,7 @@ public final class Judge {
         // five numbers. WHY and FILE: texts.
         private static final int TICKETS = 0, THERE = 4, DONE = 8, BEGUN = 12, AT = 16, STOPPING = 20, IS_HERE = 24, IS_BUSY = 28, SEED = 32, WRITTEN = 40,
             SHAPE = 48, WHY = 68, FILE = WHY + 4 + 240, SLOTS = FILE + 4 + 1024;
-        private static final int BEGIN = 0, END = 4, CALL = 8, KEY = 12, REPLY = 16, THREAD = 20, SLOT = 24; // offsets in a call; the calls of each thread in turn
+        private static final int BEGIN = 0, END = 4, CALL = 8, KEY = 12, REPLY = 16, THREAD = 20, SLOT = 24; // offsets in a call; the memory has the calls of one thread after those of another
         private static final int GOING = 1, OVER = 2, FAILED = 3, UNMADE = 4; // the values of AT
         private static final int SIZE = SLOTS + PART * SLOT;
 
@@ -560,7 +560,7 @@ public final class Judge {
 
     /** The threads of a run, and the set on which they call. */
     private record Play<S, K>(Area area, Calls<S, K> calls, Shape of, AtomicReference<S> set) {
-        private static final int MOST_ASKED = 100; // how often contains of a key is called at the beginning and at the end, while its outcome is unknown
+        private static final int MOST_ASKED = 100; // how often contains of a key is retried at the beginning and at the end while its outcome is unknown
 
         void all(boolean interrupts) {
             List<Thread> threads = new ArrayList<>();

@@ -39,7 +39,7 @@ from typing import Any, Callable
 __all__ = ["CutShort", "Failed", "NoVerdict", "NotLinearizable", "TooFew", "Verdict", "judge"]
 
 GOING, ENDED, UNMADE = range(3)
-MOST_ASKED = 100  # how often `contains` of a key is called at the beginning and at the end, while its outcome is unknown
+MOST_ASKED = 100  # how often `contains` of a key is retried at the beginning and at the end while its outcome is unknown
 WORDS = ADD, REMOVE, CONTAINS = "add", "remove", "contains"
 NO, YES, UNKNOWN = range(3)
 FIRST_LINE = "listset-calls 1\n"
@@ -213,29 +213,30 @@ def judge(make: Callable[[], Any], *, threads: int | None = None, calls: int | N
           key: Callable[[int], Any] | None = None, pauses: int = 20, runs: int = 20, seed: int = 1, seconds: int = 10, within: int = WITHIN,
           at_least: int = 0, adds: int = 1, removes: int = 1, finds: int = 1, own_process: bool = True,
           opens_with_keys: bool = False, record: str | os.PathLike | None = None) -> Verdict:
-    """Judges the sets that `make` creates and returns a Verdict. Raises NotLinearizable for a run that no
-    order explains, and CutShort for a run that crashes or hangs.
+    """Judges the sets that `make` creates and returns a Verdict. Raises NotLinearizable if no order explains a run, and
+    CutShort if the set crashes or hangs.
 
-    threads -- the number of threads that call a set at once: 1 to 64; None for the presets in turn
-    calls -- the number of calls of each thread: at least 1, and at most 1,000,000,000 for all threads together; None for
-             the presets in turn; after each 20,000 calls, these are written to the file while the threads wait
-    keys -- the number of keys: 1 to 1,048,576; None for the presets in turn; with more than eight keys, half of the
-            calls use the first four
-    key -- returns the key of a number; must return a different key for each number
-    pauses -- the percentage of the set's lines, and in one of ten calls also of its steps, before which a thread lets
+    threads -- the number of threads that call a set at the same time: 1 to 64; None cycles through the presets
+    calls -- the number of calls of each thread: at least 1, and at most 1,000,000,000 for all threads together; None
+             cycles through the presets; after every 20,000 calls, these are written to the file while the threads wait
+    keys -- the number of keys: 1 to 1,048,576; None cycles through the presets; with more than eight keys, half of
+            the calls use the first four
+    key -- converts a number to a key; must return a different key for each number
+    pauses -- the percentage of the set's lines, and in one call of ten also of its steps, before which a thread lets
               others run: 0 to 100
     runs -- the number of runs: 1 to 1,000,000; a run calls one set, or several new sets one after another
-    seed -- the seed of the calls, keys and pauses of the first run; the next run has the next seed
-    seconds -- a run is cut short as hung if no call begins or ends for this many seconds: 1 to 3,600
-    within -- no run begins after this many seconds of the test: 1 to 604,800
-    at_least -- TooFew is raised if less than this percentage of the calls overlap a change of their key
-    adds, removes, finds -- the shares of add, remove and contains
-    own_process -- if False, sets are called in this process, which crashes or hangs with them: for debuggers and coverage
-    opens_with_keys -- if True, `contains` is called for each key before all other calls, to record the opening keys
-    record -- the folder that keeps the recording of each run; if None, only the recording of a failed run is kept: in
-              the folder that the variable LISTSET_RECORD names, or else in the folder for temporary files
+    seed -- the random seed for the calls, keys and pauses of the first run; each later run uses the next seed
+    seconds -- if no call begins or ends for this many seconds, a run is considered hung and is cut short: 1 to 3,600
+    within -- no new run begins once the test has taken this many seconds: 1 to 604,800
+    at_least -- raises TooFew if less than this percentage of the calls overlap a change of their key
+    adds, removes, finds -- the relative frequencies of add, remove and contains
+    own_process -- if False, sets are called in this process, which crashes or hangs with them; useful for debuggers
+                   and coverage
+    opens_with_keys -- if True, `contains` is called for each key before all other calls to record the opening keys
+    record -- the folder in which the recording of each run is kept; if None, only the recording of a failed run is kept,
+              in the folder named by the variable LISTSET_RECORD, or else in the folder for temporary files
 
-    A call that returns None has an unknown outcome, such as after a timeout.
+    If a call returns None, its outcome is unknown, for example after a timeout.
     """
     __tracebackhide__ = True  # (pytest then shows only the line of the test)
     how = Options(threads, calls, keys, key, pauses, runs, seed, seconds, within, at_least, (adds, removes, finds), own_process, opens_with_keys, record)
@@ -357,7 +358,7 @@ class Run:
     by part.
     """
 
-    SLOT, COUNT = struct.Struct("=IIIIBB"), struct.Struct("=Q")  # a call: begin, end or 0, thread, key, word, reply; and the progress of a thread
+    SLOT, COUNT = struct.Struct("=IIIIBB"), struct.Struct("=Q")  # a call: begin, end or 0, thread, key, operation, reply; and the progress of a thread
     AT = 240  # the offset of the run's progress, after the error
 
     def __init__(self, make, how, shape, seed, file):

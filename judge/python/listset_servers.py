@@ -17,7 +17,7 @@ import socket
 import threading
 import time
 
-OPENING = 30  # seconds to open a connection again, while the server restarts
+OPENING = 30  # seconds for opening a connection again while the server restarts
 
 
 class Connection:

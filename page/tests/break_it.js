@@ -21,7 +21,7 @@ function check(name, isGood) {
 
 const scheduleOf = (name) => fs.readFileSync(path.join(TOP, "examples", "schedules", "lacks", `${name}.schedule`), "utf8");
 const startOf = inPage("startOfLacking");
-const LOST = /^(\d+) was added once and never removed, and at the end the set does not have it$/; // as docs/CLASSIC.md tells it in short
+const LOST = /^(\d+) was added once and never removed, and at the end the set does not have it$/; // as docs/CLASSIC.md summarizes it
 const isTask = (name) => name !== inPage("NO_TASK");
 
 // Checks that the schedule breaks the list as docs/CLASSIC.md says, or that only the order of its points is refused. It
@@ -79,7 +79,7 @@ function checkFile(ask, name) {
   check(`${name}: its trace is one: ${inPage("faultOfTrace")(text)}`, inPage("faultOfTrace")(text) === null);
   const compared = (given) => inPage("comparedTrace")(ask, new Trace(given, 2));
   check(`${name}: ${compared(text)}`, compared(text) === "trace from a file; the engine gives the same trace for its schedule");
-  const whole = compared(text.replace(/^lacks .*\n/m, "")); // as if the whole list had made it
+  const whole = compared(text.replace(/^lacks .*\n/m, "")); // as if the correct list had made it
   const event = departureOf(ask, new Trace(text, 2));
   check(`${name}: as one of the whole list: ${whole}`, whole.endsWith(`the proved replayer gives another, from its event ${event} on`));
   check(`${name}: a check that is none`, inPage("faultOfTrace")(text.replace(`lacks ${name}`, "lacks luck"))?.startsWith("line 3: "));
@@ -95,7 +95,7 @@ function checkTroubles(ask) {
   check("no trace of the whole list", departureOf(stopped("listset_trace"), trace) === null);
   const tries = ["begin 0 add 5", "go 0 1", "begin 1 add 7", "go 1 10000", "go 1 10000"];
   const { text } = ask("listset_trace", `listset-schedule 1\nlist coarse\nthreads 2\nquota 4\n${tries.join("\n")}\n`);
-  const long = text.replaceAll(" line 9 ", " line 8 "); // more steps than a line of a schedule may have
+  const long = text.replaceAll(" line 9 ", " line 8 "); // more steps than a line of a schedule can have
   const compared = inPage("comparedTrace")(ask, new Trace(long));
   const refused = "a trace from a file; the proved replayer does not run its schedule: listset: line 8: Number";
   check(`a trace of no schedule: ${compared}`, inPage("faultOfTrace")(long) === null && compared === refused);

@@ -31,7 +31,7 @@ function checkLevels(ask, name, report) {
     check(`${name}, ${level}: its report is the engine's`, reportOfAnswer(own) === report);
     check(`${name}, ${level}: and back to its word`, wordOfAnswer(own) === places.join());
     const turned = answerOfWord(exercise, [...places].reverse().join());
-    const isOk = ask("listset_check", reportOfAnswer(turned)).text.trim() === "ok"; // two adds of two keys may be turned round
+    const isOk = ask("listset_check", reportOfAnswer(turned)).text.trim() === "ok"; // two adds of different keys can be swapped
     const said = verdictOn(ask, turned);
     check(`${name}, ${level}: turned round: ${said.says}`, said.isRight === isOk && !said.says.startsWith("refused"));
     const isAsked = exercise.calls.some((call) => call.ended !== null);
@@ -221,7 +221,7 @@ function checkRefusals(ask) {
   check(`two adds of one key: ${both.reasons.join(" ")}`, both.kind === "none" && both.reasons.join() === reasons.join());
   const drawn = inPage("drawRecorded")(both.calls, 600);
   check("its calls as bars", barsIn(drawn) === 2 && />add\(5\)<tspan [^>]*> true</.test(drawn) && !drawn.includes("cursor"));
-  const late = 1760000000000000000n; // a clock of nanoseconds
+  const late = 1760000000000000000n; // a clock in nanoseconds
   const at = (moment) => String(late + BigInt(moment));
   const lines = [`0 contains 5 ${at(1)} ${at(2)} false`, `1 add 7 ${at(3)} ${at(4)} true`, `2 contains 7 ${at(5)} ${at(6)} false`];
   const stale = saidOf(ask, `${TITLE}${lines.map((line) => `call ${line}\n`).join("")}key 7\nend`);

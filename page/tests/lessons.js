@@ -20,7 +20,7 @@ function check(name, isGood) {
 
 const scheduleOf = (lesson, events) => scheduleText(lesson, events.split(",").map(inPage("longLine")));
 
-const SPLIT = ["one-lock"]; // whose conditions have been split since: a schedule meets all of them where it met all before
+const SPLIT = ["one-lock"]; // lessons whose conditions have been split since: a schedule meets all of them if it met all of the old ones
 
 // Checks that the goals are met by exactly the runs that are known to meet them.
 function checkRecorded(ask, { lessons }) {

@@ -15,7 +15,7 @@ FLAGS = "--chain --svg --broken -- - -x --svg=yes --no-such".split()
 OPTIONS = ["--from 3", "--from", "--from=9", "--from --", "--to 9", "--to=x", "--to=", "--from -5", "--from==3", "--width 40", "--width 0", "--from 4294967295",
            "--lacks lock", "--lacks luck", "--lacks=", "--lacks"]
 VALUES = "no-such-file . ./- Snip snip full lazy 2 4 9 00 -1 18446744073709551616".split()
-LONG_CALLS = 1_800_000  # of a recording of more than 64 MiB, which other texts may not have
+LONG_CALLS = 1_800_000  # of a recording of more than 64 MiB, a size that other texts must not have
 REFUSED = "listset-schedule 1\nlist lazy\nthreads 2\nquota 4\nbegin 0 add 5\ngo 0 3\nbegin 0 add 7\n"
 
 

@@ -7,8 +7,8 @@ const fs = require("fs");
 const path = require("path");
 
 const LAST = 2 ** 32 - 2 ** 24;
-const HEAD = 16; // bytes before a block, of its 2^k
-const MANY = 5000; // blocks, more than there is memory for
+const HEAD = 16; // the bytes before a block, out of its 2^k
+const MANY = 5000; // more blocks than fit in the memory
 
 const built = new WebAssembly.Module(fs.readFileSync(process.argv[2] ?? path.join(__dirname, "..", "listset.wasm")));
 const failed = [];

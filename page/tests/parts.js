@@ -50,7 +50,7 @@ function checkSentences(engine) {
   for (const [end, ...run] of wanted) check(`${end} is not how this ends: ${last(...run)}`, last(...run).endsWith(end));
 }
 
-const RUN_17 = "9e6e9361cbb54bb9"; // the sum of the schedule of #seed=lazy.2.5.2.17
+const RUN_17 = "9e6e9361cbb54bb9"; // the checksum of the schedule at #seed=lazy.2.5.2.17
 const refusalOf = (hash) => refusalBy(() => inPage("readAddress")(hash));
 
 const refusalBy = (deed) => {
@@ -248,7 +248,7 @@ function checkStage(engine, texts) {
       hands += list.hands.length;
       const isIn = ({ x, y, wide, high }) => x >= -1 && y >= -1 && x + wide <= width + 1 && y + high <= height + 1;
       const overlaps = (many) => many.some((one, at) => many.slice(at + 1).some((other) => !areApart(one, other)));
-      const isLow = nodes.some(({ aside }) => aside) && list.units.isLow; // in the gaps of the chain, a little lower
+      const isLow = nodes.some(({ aside }) => aside) && list.units.isLow; // nodes in the gaps of the chain are drawn a little lower
       const found = [all.every(isIn) ? "" : "outside", !isLow && overlaps(nodes) ? "nodes" : "", overlaps(all.slice(nodes.length)) ? "hands" : "", scale >= form.least ? "" : "small"];
       return found.filter((what) => what !== "").map((what) => `${what} at event ${index + 1}`);
     });

@@ -8,8 +8,8 @@ const fs = require("fs");
 const path = require("path");
 const { inPage, startedEngine } = require("../in_node.js");
 
-const RUNS = 60; // of each list
-const LEAST = 100000; // sentences in all
+const RUNS = 60; // for each list
+const LEAST = 100000; // the minimum number of sentences
 const result = { passed: 0, failed: [] };
 
 const numberOf = (key) => ({ "−∞": -Infinity, "+∞": Infinity })[key] ?? Number(key);
@@ -78,7 +78,7 @@ function falseIn(sentence, facts) {
   };
   return CLAIMS.filter(isFalse).map(([words]) => words.source);
 }
-const seen = new Set(); // the claims that some sentence made
+const seen = new Set(); // the claims that some sentence has made
 
 // Returns the sentences of a run, each with the parts of it that are false.
 function readRun(trace) {

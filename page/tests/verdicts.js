@@ -8,9 +8,9 @@ const fs = require("fs");
 const path = require("path");
 const { inPage, startedEngine } = require("../in_node.js");
 
-const CASES = Number(process.argv[2] ?? 150); // of each kind
+const CASES = Number(process.argv[2] ?? 150); // for each kind
 const result = { passed: 0, failed: [] };
-const met = new Set(); // patterns
+const met = new Set(); // the patterns that some sentence has matched
 const [verdictOnCalls, verdictOnLacking, verdictOn] = ["verdictOnCalls", "verdictOnLacking", "verdictOn"].map(inPage);
 const [OwnAnswer, exerciseOf, readReport, LACKING] = ["OwnAnswer", "exerciseOf", "readReport", "LACKING"].map(inPage);
 const LAST = Infinity;

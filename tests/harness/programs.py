@@ -15,7 +15,7 @@ from toolchain import NEEDS, TOP
 
 PROVED, UNPROVED = TOP / "crates/listset/out/listset", TOP / "crates/listset/out/unproved/listset"
 KINDS = [it.word for it in lists.lists()]
-SECONDS = 300  # for each wait, even on a busy machine
+SECONDS = 300  # the limit for each wait, even on a busy machine
 LONG = 1800  # seconds, for a compiler and for a whole test
 # cargo with settings for a single build, which takes half the time
 QUICK_CARGO = ["env", "CARGO_INCREMENTAL=0", "CARGO_PROFILE_DEV_DEBUG=0", "cargo"]

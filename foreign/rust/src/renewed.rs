@@ -39,8 +39,8 @@ pub struct RenewedSet {
     list: List,
     quota: u32,
     patience: Duration,
-    renewing: Mutex<()>,   // Is locked before all places are.
-    is_wanted: AtomicBool, // A thread has waited long for the places: the others' next calls wait for it.
+    renewing: Mutex<()>,   // Locked before all places are.
+    is_wanted: AtomicBool, // A thread has waited long for the places, so the next calls of the others wait for it.
     places: Vec<Place>,
 }
 
@@ -261,7 +261,7 @@ impl RenewedSet {
     fn add_renewed(&self, place: usize, key: u32) -> Result<Added, Fault> {
         let mut all = self.all(place)?;
         if all.stage() == Stage::Open {
-            let added = all.mine().add(key); // Another thread can have renewed the set in the meantime.
+            let added = all.mine().add(key); // Another thread may have renewed the set in the meantime.
             if added != Added::Full || all.keys_now() > MOST_OPENING || self.quota == 0 {
                 return Ok(added);
             }
@@ -284,7 +284,7 @@ impl OwnSeat<'_> {
     pub fn add(&mut self, key: u32) -> Result<Added, Fault> {
         let mut added = self.set.by(self.place, |it| it.add(key))?;
         if added == Added::Full {
-            drop(self.set.taken(&self.set.renewing, None)?); // Another thread can be renewing the set.
+            drop(self.set.taken(&self.set.renewing, None)?); // Another thread may be renewing the set.
             added = self.set.by(self.place, |it| it.add(key))?;
         }
         match added {

@@ -20,7 +20,7 @@ import listset_servers
 
 FEW = {"threads": 4, "calls": 250, "keys": 4, "runs": 4, "pauses": 0}
 SESSIONS = 3 * FEW["runs"] * (FEW["threads"] + 1)  # (a run whose calls did not overlap is made again, up to twice)
-SECONDS = 30  # to wait until a server listens, or ends
+SECONDS = 30  # the maximum wait until a server listens or ends
 
 
 class CheckThenAct(listset_servers.Redis):

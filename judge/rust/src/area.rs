@@ -13,7 +13,7 @@ use crate::stops::Stops;
 use crate::words::*;
 use crate::{no_verdict, Failure, Options, Replies, Shape, Source};
 
-const UNKNOWN: u32 = 2; // a reply: 0 for false, 1 for true, or this
+const UNKNOWN: u32 = 2; // a reply is 0 for false, 1 for true, or this
 
 const WRITABLE: &str = "the recording can be written";
 
@@ -47,7 +47,7 @@ enum At {
     Why,
 }
 
-const WHY: usize = At::Why as usize; // a text from here on, one byte in each number: why the run failed;
+const WHY: usize = At::Why as usize; // from here on a text, one byte per number: why the run failed;
 const FILE: usize = WHY + 240; // then the path of the file;
 const SLOTS: usize = FILE + 1024; // then the calls,
 const SLOT: usize = 6; // each with end, begin, thread, word, key and reply. Begin and end are 0 until they happen

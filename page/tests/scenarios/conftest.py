@@ -15,9 +15,9 @@ import pytest
 import webdriver  # (with build/ in the path, by pytest.ini)
 
 PAGE = pathlib.Path(__file__).resolve().parents[2]
-SECONDS = 60  # in which something has to be seen
-SLOW = 2  # seconds that the engine takes to come over a slow network
-SCENARIOS = {"webkit": 8}  # for which one browser is used, as WebKit's driver gives up after some dozen pages; others for all
+SECONDS = 60  # the time within which something must be visible
+SLOW = 2  # the seconds that the engine takes to load over a slow network
+SCENARIOS = {"webkit": 8}  # how many scenarios one browser is used for, since WebKit's driver fails after some dozen pages; other browsers are used for all
 
 
 class Quiet(http.server.SimpleHTTPRequestHandler):

@@ -82,7 +82,7 @@ def test_each_stop_of_tab_is_seen_and_none_is_a_trap(visitor, size):
             if (stop := visitor.script(FOCUSED)) is None or stop[0] == 1 and stops:
                 break
             if stop[2].startswith("IFRAME") or stop[2] == "INPUT hw-due":
-                continue  # a frame has stops of its own, and so has a date
+                continue  # a frame has its own tab stops, and so does a date field
             assert stops[-1:] != [stop[0]], f"{address}: Tab does not leave {stop[2]}"
             stops.append(stop[0])
             if not stop[1]:

@@ -69,10 +69,10 @@ def test_a_frame_in_another_page(visitor):
     assert visitor.script("return document.querySelector('iframe').contentDocument.querySelector('.you').innerText").startswith("You said: ")
     leaves = "it.getClientRects().length > 0 && it.target !== '_blank'"
     links = f"return [...document.querySelector('iframe').contentDocument.links].filter((it) => {leaves}).length"
-    assert visitor.script(links) == 0  # nothing leads out of the frame
+    assert visitor.script(links) == 0  # no link leads out of the frame
     visitor.settle()
     visitor.open()
-    visitor.wait("return location.hash.includes('story=2')")  # what was looked at in a frame is not where one was
+    visitor.wait("return location.hash.includes('story=2')")  # what was viewed in a frame does not count as the reader's last place
 
 
 def test_old_addresses_open_the_questions(visitor):

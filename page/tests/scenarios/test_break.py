@@ -105,7 +105,7 @@ def test_a_self_loop_does_not_cross_its_key(visitor):
         const node = document.querySelector(`#order [data-part="node ${name}"]`);
         const path = document.querySelector(`#order [data-part="link ${name}"] path`).getAttribute("d").match(/[\\d.]+/g).map(Number);
         return path.filter((_, at) => at % 2 === 1).slice(1).map((y) => y - Number(node.dataset.y))""")
-    assert all(y < 0 for y in points)  # it goes around above the node
+    assert all(y < 0 for y in points)  # the loop goes around above the node
 
 
 def test_a_run_that_ends_rightly_is_told(visitor):

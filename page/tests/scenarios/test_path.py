@@ -111,7 +111,7 @@ def test_show_a_step_leads_on_from_where_the_reader_is(visitor):
             visitor.idle()
         assert "lost" in visitor.text(".why b") or "no longer in the list" in visitor.text(".why b"), address
     visitor.open("#story=5")
-    visitor.step("aabb")  # A holds its locks before B has removed anything: nothing can be lost any more
+    visitor.step("aabb")  # A holds its locks before B has removed anything, so no key can be lost any more
     visitor.click("#show-me")
     assert "Start over" in visitor.text("#talk") and visitor.text("#show-me") == "Start over"
     visitor.click("#show-me")

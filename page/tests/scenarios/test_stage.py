@@ -7,7 +7,7 @@ import pathlib
 import pytest
 
 SCHEDULES = pathlib.Path(__file__).resolve().parents[3] / "examples/schedules/lacks"
-SIZES = {(1366, 640): 16, (1280, 720): 16, (1536, 730): 16, (1920, 1080): 18, (390, 844): 13}  # windows, and the least size of a label
+SIZES = {(1366, 640): 16, (1280, 720): 16, (1536, 730): 16, (1920, 1080): 18, (390, 844): 13}  # the windows, and the minimum size of a label in each
 FAULTS = r"""
 const least = arguments[0], found = [];
 const isSeen = (it) => it.getClientRects().length > 0 && getComputedStyle(it).visibility !== "hidden";

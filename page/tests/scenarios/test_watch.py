@@ -32,7 +32,7 @@ def test_a_step_is_no_entry_of_the_history(another):
     visitor = another
     visitor.open("#judge")
     before = visitor.script("return history.length")
-    visitor.click("#scene [href='#example=snip&judge']")  # WebKit's Back passes over what a script alone has opened
+    visitor.click("#scene [href='#example=snip&judge']")  # WebKit's Back skips pages that only a script has opened
     visitor.wait("return document.getElementById('where').innerText.startsWith('event 0 ')")
     for _ in range(4):
         visitor.press("Right")
