@@ -513,7 +513,7 @@ fn options_of(alloc: Global, found: &ArgMatches<'_>) -> Result<Options, AllocErr
     })
 }
 
-// Returns options of which none is set.
+// Returns options with nothing set.
 fn no_options() -> Options
     ensures { options_of result ≡ options_in [] }
 {

@@ -57,9 +57,9 @@ fn take_blocks(alloc: Global, count: u32) -> Result<(), AllocError> {
     Ok(())
 }
 
-/// Returns the two parts of the line to print after all calls had the expected results: it names the call that returned
-/// `Memory`, if any. If none did, `blocks` blocks are allocated first; if that fails, the allocation that is to fail
-/// has not been reached yet.
+/// Returns the two parts of the line to print after all calls had the expected results. It names the call that returned
+/// `Memory`, if any. If none did, allocates `blocks` blocks first. If that fails, all calls came before the failing
+/// allocation, and the line says that a refusal is still to come.
 fn told(alloc: Global, calls: &Calls, blocks: u32) -> (&'static str, &'static str) {
     match calls.refused {
         Some(name) => (name, " wanted memory"),

@@ -30,7 +30,7 @@ pub struct RandomRequest {
     pub quota: u32,
     /// The number of calls, 0 to `MOST_CALLS_ASKED`.
     pub calls: u32,
-    /// How many different keys are drawn, at least 1. Keys start at 0.
+    /// The number of keys to draw from, at least 1. Keys start at 0.
     pub keys: u32,
     /// The random seed; any number is allowed.
     pub seed: u64,

@@ -22,7 +22,7 @@ pub struct Input<'a> {
 }
 
 impl<'a> Input<'a> {
-    /// Wraps at most `LONGEST` bytes. Returns `TooLong` if there are more.
+    /// Wraps at most `LONGEST` bytes. Returns the error `TooLong` if there are more.
     pub fn new(bytes: &'a [u8]) -> Result<Input<'a>, Trouble>
         ensures { MatchResult result (λ input. input.bytes.now ≡ bytes.entry.now) (IsTooLong bytes.entry.now) }
     {

@@ -99,7 +99,7 @@ fn is_odd(
     is_judged_without(alloc, runs.recorded, operation, is_cut)
 }
 
-/// Returns the wrong answers of the odd operation.
+/// Returns the wrong answers of the faulty operation.
 fn wrong_answers(
     alloc: Global,
     runs: &Runs<'_>,
@@ -120,7 +120,7 @@ fn wrong_answers(
     })
 }
 
-/// Returns the odd operation; `None` if there is no operation whose answers alone are wrong.
+/// Returns the faulty operation; `None` if there is no operation whose answers alone are wrong.
 fn find_odd(
     alloc: Global,
     runs: &Runs<'_>,
@@ -143,7 +143,7 @@ fn find_odd(
     Ok(None)
 }
 
-/// Returns a key's calls without the odd operation's answers, indexed for searches.
+/// Returns a key's calls without the faulty operation's answers, indexed for searches.
 fn sound_calls(
     alloc: Global,
     runs: &Runs<'_>,
@@ -156,7 +156,7 @@ fn sound_calls(
     KeyCalls::new(alloc, key, others, opening, left)
 }
 
-/// Returns the place of a wrong answer among the other calls.
+/// Returns the contradiction between a wrong answer and the other calls.
 fn place_of_answer(sound: &KeyCalls, call: Made, clash: Clash) -> Place {
     Place {
         key: sound.key,
@@ -169,7 +169,7 @@ fn place_of_answer(sound: &KeyCalls, call: Made, clash: Clash) -> Place {
     }
 }
 
-/// Creates the odd operation with the number of its wrong answers; all other counts are 0.
+/// Creates the faulty operation with the number of its wrong answers; all other counts are 0.
 fn odd_of(found: &OddFound, usual: u64) -> Odd {
     Odd {
         operation: found.operation,
@@ -194,7 +194,7 @@ fn odd_of(found: &OddFound, usual: u64) -> Odd {
     }
 }
 
-/// Adds the places of all wrong answers, and returns the facts about the odd operation.
+/// Adds the contradictions of all wrong answers, and returns the facts about the faulty operation.
 fn places_of_odd(
     alloc: Global,
     runs: &Runs<'_>,
@@ -338,7 +338,7 @@ fn count_answer(sound: &KeyCalls, call: Made, odd: &mut Odd, neighbours: &Neighb
     }
 }
 
-/// Adds the place of a wrong answer that contradicts another call.
+/// Adds the contradiction between a wrong answer and another call.
 fn add_place(
     alloc: Global,
     sound: &KeyCalls,
@@ -377,10 +377,11 @@ fn count_answers(calls: &[Made], operation: Operation) -> (u64, bool) {
     (count, finds)
 }
 
-/// The maximum number of places for all keys together.
+/// The maximum number of contradictions for all keys together.
 const MOST_PLACES: usize = 20_000;
 
-/// The places of a recording, the odd operation or a tally of the places, and the longest split.
+/// What was found in a recording: the contradictions, the faulty operation or else a tally of the contradictions, and
+/// the longest split.
 #[derive(Drop)]
 struct Found {
     places: Vec<Place>,
@@ -398,7 +399,7 @@ const MOST_MOMENTS: u64 = 200;
 /// The minimum number of losses for a comparison with the number of keys.
 const LEAST_LOST: u64 = 10;
 
-/// Returns the places at which a call shows within `MOST_MOMENTS` that a key was lost, ordered by time.
+/// Returns the contradictions in which a call shows within `MOST_MOMENTS` that a key was lost, ordered by time.
 fn losses_of(alloc: Global, places: &[Place]) -> Result<Vec<Place>, AllocError> {
     let mut losses = Vec::new(alloc);
     for place in places {
@@ -411,7 +412,7 @@ fn losses_of(alloc: Global, places: &[Place]) -> Result<Vec<Place>, AllocError> 
     Ok(losses)
 }
 
-/// Returns the places of all refused keys, and a tally of them.
+/// Returns the contradictions of all refused keys, and a tally of them.
 fn places_of_all(
     alloc: Global,
     runs: &Runs<'_>,
@@ -452,7 +453,7 @@ fn places_of_all(
     Ok(found)
 }
 
-/// Returns the split that has more answers.
+/// Returns the split with more answers. (In a split, calls disagree about a key although no change runs.)
 fn larger_split(one: Option<Split>, two: Option<Split>) -> Option<Split> {
     let (Some(first), Some(second)) = (one, two) else {
         return one.or(two);
@@ -463,7 +464,7 @@ fn larger_split(one: Option<Split>, two: Option<Split>) -> Option<Split> {
     if is_larger { one } else { two }
 }
 
-/// Returns the places of the odd operation or, if there is none, of all refused keys.
+/// Returns the contradictions of the faulty operation or, if there is none, of all refused keys.
 fn find_all(
     alloc: Global,
     runs: &Runs<'_>,
@@ -504,7 +505,8 @@ fn main_symptom(tally: &Tally) -> Option<Symptom> {
     best
 }
 
-/// Returns the place to show: the first one in a long split, or the clearest one with the most frequent symptom.
+/// Returns the contradiction to show: the first one in a long split, or the clearest one with the most frequent
+/// symptom.
 fn place_shown(found: &Found) -> Option<Place> {
     if found.odd.is_some() {
         return clearest(&found.places);
@@ -523,7 +525,7 @@ fn place_shown(found: &Found) -> Option<Place> {
     clearest(&found.places)
 }
 
-/// Returns the shortest place.
+/// Returns the shortest contradiction.
 fn clearest(places: &[Place]) -> Option<Place> {
     let mut best: Option<Place> = None;
     for place in places {
@@ -610,7 +612,7 @@ fn is_first_spared(runs: &Runs<'_>, keys: &[u32], refused: &[Refused]) -> bool {
     refused.len() >= 2 && hit.key != *first && calls >= runs.made_of(hit.key).len()
 }
 
-/// Returns a key's calls with only one of the odd operation's answers.
+/// Returns a key's calls with only one of the faulty operation's answers.
 fn with_one_answer(
     alloc: Global,
     key: KeyCalls,
@@ -675,7 +677,8 @@ impl Diagnosis {
         }
     }
 
-    /// Fills the picture with the calls of a place, their marks, and what happened beside and after them.
+    /// Fills the picture with the calls of a contradiction, their marks, and what happened at the same time and
+    /// afterwards.
     fn show(
         &mut self,
         alloc: Global,
@@ -704,8 +707,8 @@ impl Diagnosis {
         Ok(())
     }
 
-    /// Adds the calls of a place: the contradiction, the changes of its stretch, and calls that returned false but can
-    /// have changed the key.
+    /// Adds the calls of a contradiction: the contradicting calls, the changes of its stretch, and calls that returned
+    /// false but can have changed the key.
     fn show_calls(
         &mut self,
         alloc: Global,
@@ -746,7 +749,7 @@ impl Diagnosis {
         Ok(())
     }
 
-    /// Marks the calls of a place.
+    /// Marks the calls of a contradiction.
     fn show_marks(
         &mut self,
         alloc: Global,
@@ -780,8 +783,9 @@ impl Diagnosis {
         Ok(())
     }
 
-    /// Returns the first later call that finds the key in the state that the place leaves. If only one reply is wrong,
-    /// that is the state according to the other calls. Returns `None` if a change of the key can have begun earlier.
+    /// Returns the first later call that finds the key in the state that the contradiction leaves. If only one reply is
+    /// wrong, that is the state according to the other calls. Returns `None` if a change of the key can have begun
+    /// earlier.
     fn call_after(&self, key: &KeyCalls, place: &Place) -> Option<Made> {
         let (state, since) = match place.symptom {
             Symptom::Missed(_) | Symptom::Found(_) => {

@@ -5,7 +5,7 @@ use crate::splits::Split;
 use crate::tally::Tally;
 use lset_words::Presence;
 
-/// The odd operation: without its answers, all calls are linearizable.
+/// The operation that alone is faulty: without its answers, all calls are linearizable.
 #[derive(Clone, Copy)]
 pub struct Odd {
     pub operation: Operation,

@@ -1,4 +1,5 @@
-//! Finds the odd operation: without its answers (those of its calls that change nothing), all calls are linearizable.
+//! Finds the faulty operation: without its answers (those of its calls that change nothing), all calls are
+//! linearizable.
 
 use crate::key_order::{KeyState, Pending, has_order};
 use crate::made_calls::{Made, NEVER, Operation};

@@ -116,7 +116,7 @@ fn answers_word(operation: Operation) -> &'static str {
     }
 }
 
-/// Writes what no answer of the odd operation did, if all wrong answers are known.
+/// Writes what no answer of the faulty operation did, if all wrong answers are known.
 fn put_never(out: &mut String, odd: &Odd, what: &str) -> Result<(), AllocError> {
     if odd.is_exact {
         write!(out, ", and never {what}")?;
@@ -141,7 +141,7 @@ fn put_ways(out: &mut String, odd: &Odd) -> Result<(), AllocError> {
     }
 }
 
-/// Writes the scope for an odd operation.
+/// Writes the scope for an faulty operation.
 fn put_odd(out: &mut String, odd: &Odd) -> Result<(), AllocError> {
     let word = answers_word(odd.operation);
     let (wrong, of) = (odd.wrong, odd.of);
@@ -371,7 +371,7 @@ fn put_because_of_missed(out: &mut String, odd: &Odd, cause: Cause) -> Result<()
     }
 }
 
-/// Writes the fact for a cause in the odd operation.
+/// Writes the fact for a cause in the faulty operation.
 fn put_because_of_odd(out: &mut String, odd: &Odd, cause: Cause) -> Result<(), AllocError> {
     let (missed, wrong, adding) = (odd.missed, odd.wrong, odd.adding);
     let keys = if odd.keys == 1 { "key" } else { "keys" };

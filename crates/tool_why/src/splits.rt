@@ -6,7 +6,7 @@ use std::alloc::{AllocError, Global};
 /// The minimum number of answers of each kind in a split.
 const LEAST: u64 = 3;
 
-/// The minimum number of answers in a long split.
+/// The minimum number of answers for a split to count as long.
 const LONG: u64 = 200;
 
 /// How many answers of an operation found a key present, and how many found it absent.
@@ -21,7 +21,7 @@ const NO_VOTES: Votes = Votes {
     absent: 0,
 };
 
-/// A period in which no change of a key ran, but calls found the key present and absent by turns.
+/// A split: a period in which no change of a key ran, but calls alternately found the key present and absent.
 #[derive(Clone, Copy)]
 pub struct Split {
     pub key: u32,
@@ -71,7 +71,7 @@ impl Split {
         self.last = Some(found);
     }
 
-    /// Returns `true` if the split has so many answers that it indicates a rule.
+    /// Returns `true` if the split has enough answers to indicate a rule.
     pub fn is_long(&self) -> bool {
         self.size() >= LONG
     }

@@ -56,7 +56,7 @@ impl Sum {
         }
     }
 
-    /// Completes the stretch. `before` is the key's state before it, if known, and `read` is the call that shows this
+    /// Completes the stretch. `before` is the key's state before it, if known, and `read` is the call that shows that
     /// state.
     fn stretch(self, before: Option<Presence>, read: Option<Made>) -> Stretch {
         let (leaves, read) = if self.adds == self.removes {
@@ -92,7 +92,7 @@ fn read_between(key: &KeyCalls, since: u64, until: u64) -> Option<Made> {
     None
 }
 
-/// Completes the stretch of a sum, with the key's state before it if known.
+/// Completes a stretch from its counts, with the key's state before it if known.
 fn stretch_of(key: &KeyCalls, sum: Sum, last: Option<Stretch>) -> Stretch {
     let since = last.map_or(0, |last| last.ended);
     match read_between(key, since, sum.begun) {

@@ -1,4 +1,4 @@
-//! Finds the places at which a key's calls contradict each other, and the symptom of each.
+//! Finds the contradictions between a key's calls, and the symptom of each.
 
 use crate::contradictions::{Clash, clashes_of};
 use crate::key_calls::KeyCalls;
@@ -93,7 +93,7 @@ fn both_true(clash: &Clash) -> Option<Operation> {
     }
 }
 
-/// Returns the place of a contradiction with its symptom. Allocates.
+/// Determines the symptom of a contradiction. Allocates.
 pub(crate) fn place_of(
     alloc: Global,
     key: &KeyCalls,
@@ -132,7 +132,8 @@ pub(crate) fn place_of(
     Ok(place)
 }
 
-/// Returns the places of a key, without those that overlap others, ordered by time. Allocates.
+/// Returns the contradictions of a key with their symptoms, without those that overlap others, ordered by time.
+/// Allocates.
 pub(crate) fn places_of(alloc: Global, key: &KeyCalls) -> Result<Vec<Place>, AllocError> {
     let stretches = stretches_of(alloc, key)?;
     let clashes = clashes_of(alloc, key, &stretches)?;
@@ -149,7 +150,7 @@ impl Place {
         matches!(self.symptom, Symptom::Lost | Symptom::CameBack)
     }
 
-    /// Returns the duration of the place. A less clear place counts as longer.
+    /// Returns the duration of the contradiction. A less clear one counts as longer.
     pub(crate) fn length(&self) -> u64 {
         let length = self.clash.until.saturating_sub(self.clash.begun());
         let is_long = self.clash.stretch.is_some() || self.clash.second.is_none();
@@ -157,7 +158,7 @@ impl Place {
     }
 }
 
-/// Returns the shortest place with this symptom.
+/// Returns the shortest contradiction with this symptom.
 pub(crate) fn shortest(places: &[Place], symptom: Symptom) -> Option<Place> {
     let mut best: Option<Place> = None;
     for place in places {
