@@ -83,7 +83,7 @@ slot_at k [] = plain (λ _. unit)
 slot_at zero (s ∷ ss) = s
 slot_at (suc k) (s ∷ ss) = slot_at k ss
 
--- a struct described by its fields only: what it owns does not depend on its name
+-- A struct described by its fields only: what it owns does not depend on its name.
 abbrev pub plainly : List RattleType → RattleType
 plainly Rs = Struct (record { name = []; args = []; types = []; fields = Rs })
 
@@ -110,7 +110,7 @@ pub seat_typed : (t : Bool) (p : Ptr) → Good seat_ty (seat_val t p)
 seat_typed t (block_ptr b o) = (tt, (tt, (tt, tt)))
 seat_typed t null_ptr = (tt, (tt, (record { fits = lit< tt }, tt)))
 
--- a seat's box, represented by its pointer
+-- A seat's box, represented by its pointer.
 abbrev pub Freed : RattleType
 Freed = Loose held.the_row HP.the_row HL.the_row_laws GI.ghosts
 

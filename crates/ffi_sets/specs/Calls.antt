@@ -18,7 +18,7 @@ HasCalledOf T set (Some old) c None None = Unit {0}
 HasCalledOf T set None c None None = Unit {0}
 HasCalledOf T set old c r new = ⊥
 
--- the number that represents a reply; 255 if there is none
+-- The number that represents a reply; 255 if there is none.
 abbrev pub code_of : Option Reply → ℕ
 code_of (Some reply.False) = 0
 code_of (Some reply.True) = 1
@@ -56,7 +56,7 @@ HasCeiling true h c n a a' true h' = (r : Option Reply) × (n ≡ code_of r) × 
 HasCeiling false h c n a a' false h' = (n ≡ 255) × (a' ≡ a)
 HasCeiling full h c n a a' full' h' = ⊥
 
--- a receipt of everything that a seat has seen
+-- A receipt of everything that a seat has seen.
 abbrev pub noted_by : Option SeatValue → Option ReceiptValue
 noted_by (Some s) = Some (record { set = s.set; events = s.events })
 noted_by None = None

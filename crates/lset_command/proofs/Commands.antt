@@ -8,13 +8,13 @@ use Rattle.clap.specs.declared.Command.TheViews.{out-Command}
 use Rattle.clap.specs.declared.builder.command.Command.TheOpen.{Command-F}
 use Rattle.lset_command.specs.CommandLine.{IsApp, Makes}
 
--- its value, from its fields
+-- The fields of a command determine its value.
 pub by_fields : (c : Command) (fields : Command-F Command) (a : App) → out-Command c ≡ fields
     → (app_of_fields fields ≡ a) × (fields.has_globals ≡ false) → IsApp c a
 by_fields c fields a is app =
     subst (λ (f : Command-F Command). (app_of_fields f ≡ a) × (f.has_globals ≡ false)) (sym is) app
 
--- the program's name in the usage text
+-- The name that the usage text uses for the program is such a setting.
 pub Makes-named : (made : Result Command AllocError) (old : Command) (a : App) (Rest : Command → Type 0)
     → IfOk made (λ c. (out-Command c ≡ record (out-Command old) { bin_name = (out-Command c).bin_name }) × Rest c)
     → IsApp old a → Makes made a

@@ -11,7 +11,7 @@ use Rattle.lset_dispatch.specs.Asked.{Asked, asked, asked_by}
 use Rattle.lset_dispatch.specs.Dispatch.{EndsAsked, EndsOnInput, IsHelp, JobEnds}
 use Rattle.lset_dispatch.specs.declared.job.Job.{Job}
 
--- what a known command asks for
+-- What a known command asks for.
 pub at_command : (command known : Command) (values : List Text) (options : OptionValues) (r : Asked) → command ≡ known
     → IfSome (asked_by known values options) (λ x. r ≡ x) → IfSome (asked_by command values options) (λ x. r ≡ x)
 at_command command known values options r is said =
@@ -50,13 +50,13 @@ module _ (input output_old output_new stderr_old stderr_new : Option (List ℕ))
   at_job job known is ends =
       subst (λ r. JobEnds r input output_old output_new stderr_old stderr_new status) (sym is) ends
 
--- text on the output means that help was asked for
+-- Text on the output means that help was asked for.
 pub is_help : (k : ErrorKind) → ¬ ((k ≢ kind.DisplayHelp) × (k ≢ kind.DisplayVersion)) → IsHelp k
 is_help kind.DisplayHelp other = inl refl
 is_help kind.DisplayVersion other = inr refl
 is_help k other = absurd (other (λ e. cc, λ e. cc))
 
--- a conclusion about the bytes of an input carries over if the bytes are known
+-- A conclusion about the bytes of an input carries over if the bytes are known.
 pub if_known : (P Q : List ℕ → Type 0) (input : Option (List ℕ)) → ((bytes : List ℕ) → P bytes → Q bytes) → IfSome input P → IfSome input Q
 if_known P Q None follows holds = tt
 if_known P Q (Some bytes) follows holds = follows bytes holds

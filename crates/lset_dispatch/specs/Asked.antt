@@ -12,7 +12,7 @@ use Rattle.tool_base.specs.Arguments.{random_request_of}
 use Rattle.lset_dispatch.specs.declared.job.Job.{Job}
 use Rattle.lset_dispatch.specs.declared.job.Job.TheVariants.{Replay, Judge, Verdict, Check, Gen}
 
--- a job, or the first value or option that is missing or wrong
+-- A job, or the first value or option that is missing or wrong.
 abbrev pub Asked : Type 0
 Asked = Result Job ValueName
 
@@ -38,11 +38,11 @@ asked_by command.Check values options = Some (Ok Check)
 asked_by command.Gen values options = Some (asked_gen (random_request_of values))
 asked_by other values options = None
 
--- the job that a command line asks for, if its command has a clause
+-- The job that a command line asks for, if its command has a clause.
 abbrev pub asked : Choice → Option Asked
 asked choice = asked_by choice.command choice.values choice.options
 
--- a job for which a command line can ask
+-- A job for which a command line can ask.
 abbrev pub IsKnown : Job → Type 0
 IsKnown (Gen random) = IsAccepted random.threads random.quota random.keys
 IsKnown job = Unit {0}

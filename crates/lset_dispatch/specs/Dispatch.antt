@@ -23,12 +23,12 @@ Ending = Option (List ℕ) → Option (List ℕ) → Option (List ℕ) → Optio
 
 -- ---- accepted command lines
 
--- a command ends with its result for the input, if the bytes of the input are known
+-- A command ends with its result for the input, if the bytes of the input are known.
 abbrev pub EndsOnBytes : (List ℕ → Made → Type 0) → Option (List ℕ) → Ending
 EndsOnBytes Makes input output_old output_new stderr_old stderr_new status =
     Ends (λ made. IfSome input (λ bytes. Makes bytes made)) output_old output_new stderr_old stderr_new status
 
--- how a job ends for the bytes of its input
+-- How a job ends for the bytes of its input.
 abbrev pub JobEnds : Job → Option (List ℕ) → Ending
 JobEnds (Replay None) input output_old output_new stderr_old stderr_new status =
     EndsOnBytes Replays input output_old output_new stderr_old stderr_new status
@@ -42,8 +42,8 @@ JobEnds (Gen random) input output_old output_new stderr_old stderr_new status =
     Ends (Answers (Ok random)) output_old output_new stderr_old stderr_new status
 JobEnds job input output_old output_new stderr_old stderr_new status = Unit {0}
 
--- without a path, the job ends with its result for standard input; with a path, with its result for the content of some
--- file (no clause says that this is the file at the path, or that it is read from its start), or with `CannotRead`
+-- Without a path, the job ends with its result for standard input; with a path, with its result for the content of some
+-- file (no clause says that this is the file at the path, or that it is read from its start), or with `CannotRead`.
 abbrev pub EndsOn : Option Text → Job → (Option (List ℕ) → Type 0) → Option (List ℕ) → Ending
 EndsOn None job IsFile input output_old output_new stderr_old stderr_new status =
     JobEnds job input output_old output_new stderr_old stderr_new status
@@ -51,7 +51,7 @@ EndsOn (Some path) job IsFile input output_old output_new stderr_old stderr_new 
     Ends (λ made. made ≡ Err CannotRead) output_old output_new stderr_old stderr_new status
     ⊎ ((bytes : Option (List ℕ)) × IsFile bytes × JobEnds job bytes output_old output_new stderr_old stderr_new status)
 
--- the same, or the value that is wrong
+-- The job ends in this way, or the wrong value is reported.
 abbrev pub EndsAsked : Option Asked → Option Text → (Option (List ℕ) → Type 0) → Option (List ℕ) → Ending
 EndsAsked None path IsFile input output_old output_new stderr_old stderr_new status = Unit {0}
 EndsAsked (Some (Ok job)) path IsFile input output_old output_new stderr_old stderr_new status =
@@ -65,16 +65,16 @@ EndsOnInput choice IsFile input output_old output_new stderr_old stderr_new stat
 
 -- ---- refused command lines
 
--- the user asked for the help or the version
+-- The user asked for the help or the version.
 abbrev pub IsHelp : ErrorKind → Type 0
 IsHelp kind = (kind ≡ DisplayHelp) ⊎ (kind ≡ DisplayVersion)
 
--- the command line is wrong
+-- The command line is wrong.
 abbrev pub IsMistake : ErrorKind → Type 0
 IsMistake kind = (kind ≢ OutOfMemory) × (kind ≢ DisplayHelp) × (kind ≢ DisplayVersion)
 
--- the result if the user asked for help: a text with status 0; for any command line, a failed allocation is also
--- possible
+-- The result if the user asked for help: a text with status 0; for any command line, a failed allocation is also
+-- possible.
 abbrev pub Helps : ErrorKind → Made → Type 0
 Helps kind made = (made ≡ Err Memory) ⊎ (IsHelp kind × (text : List ℕ) × (made ≡ Ok (record { text = text; status = 0 })))
 

@@ -10,11 +10,11 @@ use Rattle.tool_base.specs.declared.trouble.ValueName.TheVariants as name
 use Rattle.tool_base.specs.declared.arguments.RandomRequest.{RandomRequest}
 use Rattle.tool_base.specs.declared.arguments.TheConstants.{MOST_CALLS_ASKED}
 
--- the kind of list that argument `index` (from 0) names
+-- The kind of list that argument `index` (from 0) names.
 abbrev pub kind_at : List (List ℕ) → ℕ → Option Kind
 kind_at values index = option_and_then kind_of (slice_get values index)
 
--- the number that argument `index` spells, if it is within the range
+-- The number that argument `index` spells, if it is within the range.
 abbrev pub number_at : List (List ℕ) → ℕ → ℕ → ℕ → Option ℕ
 number_at values index low high = option_and_then (number_in low high) (slice_get values index)
 

@@ -8,12 +8,12 @@ use Rattle.tool_base.specs.declared.trouble.Trouble.TheVariants.{CannotRead, Too
 use Rattle.tool_base.specs.Trouble.{trouble_text}
 use Rattle.tool_base.specs.Trouble as trouble
 
--- the value of an answer: its text as bytes, and its exit status
+-- The value of an answer: its text as bytes, and its exit status.
 pub record AnswerValue : Type 0 where
   pub text : List ℕ
   pub status : ℕ
 
--- what a tool returns: an answer, or an error
+-- What a tool returns: an answer, or an error.
 abbrev pub Made : Type 0
 Made = Result AnswerValue Trouble
 
@@ -32,7 +32,7 @@ Delivers (Ok answer) old new (Ok status) = (status ≡ answer.status) × Appends
 -- or a prefix of it if a write failed;
 Delivers (Ok answer) old new (Err t) =
     (t ≡ CannotWrite) × (front : List ℕ) × (rest : List ℕ) × (answer.text ≡ front ++ rest) × Appends old new front
--- nothing is written for an error.
+-- Nothing is written for an error.
 Delivers (Err made) old new (Ok status) = ⊥
 Delivers (Err made) old new (Err t) = (t ≡ made) × Keeps old new
 
@@ -40,7 +40,7 @@ abbrev pub status_of : Outcome → ℕ
 status_of (Ok status) = status
 status_of (Err t) = trouble.status_of t
 
--- the line that goes to stderr; only a prefix of it is written if a write fails
+-- The line that goes to stderr; only a prefix of it is written if a write fails.
 abbrev pub line_of : Outcome → List ℕ
 line_of (Ok status) = []
 line_of (Err t) = trouble_text t
@@ -60,22 +60,22 @@ abbrev pub Ends : (Made → Type 0) → Option (List ℕ) → Option (List ℕ) 
 Ends IsMade output_old output_new faults_old faults_new status =
     (made : Made) × IsMade made × IsDelivered made output_old output_new faults_old faults_new status
 
--- the input is not too long
+-- The input is not too long.
 abbrev pub IsTaken : List ℕ → Type 0
 IsTaken bytes = length bytes ≤ LONGEST
 
--- the error of an input that is too long
+-- The error of an input that is too long.
 abbrev pub IsTooLong : List ℕ → Trouble → Type 0
 IsTooLong bytes t = (t ≡ TooLong) × (LONGEST < length bytes)
 
--- what a tool returns for a text: `TooLong`, or its result for the bytes if the text is not too long
+-- What a tool returns for a text: `TooLong`, or its result for the bytes if the text is not too long.
 abbrev pub OnText : (List ℕ → Made → Type 0) → List ℕ → Made → Type 0
 OnText Makes bytes made = ((t : Trouble) × (made ≡ Err t) × IsTooLong bytes t) ⊎ (IsTaken bytes × Makes bytes made)
 
--- what a tool returns for an input: an error if a read or an allocation failed, otherwise the result for the bytes
+-- What a tool returns for an input: an error if a read or an allocation failed, otherwise the result for the bytes.
 abbrev pub OnInput : (List ℕ → Made → Type 0) → List ℕ → Made → Type 0
 OnInput Makes bytes made = (made ≡ Err CannotRead) ⊎ ((made ≡ Err Memory) ⊎ OnText Makes bytes made)
 
--- the bytes read from an input: all of them, or more than `LONGEST`
+-- The bytes read from an input: all of them, or more than `LONGEST`.
 abbrev pub IsReadOf : List ℕ → List ℕ → Type 0
 IsReadOf read all = (read ≡ all) ⊎ ((LONGEST < length read) × (LONGEST < length all))

@@ -27,7 +27,7 @@ with_more bytes text more status (c, says, reads, is) = (
   },
 )
 
--- the lines were appended, or an allocation failed
+-- The lines were appended, or an allocation failed.
 pub if_added : (b : Bool) (bytes text more : List ℕ) (status : ℕ) → Judges bytes (Ok (record { text = text; status = status }))
     → Judges bytes (Ok (record { text = if b then text ++ more else text; status = status }))
 if_added true bytes text more status is = with_more bytes text more status is

@@ -20,13 +20,13 @@ abbrev pub state_word : Presence → List ℕ
 state_word Present = codes "present"
 state_word Absent = codes "absent"
 
--- an add or remove that returned true
+-- True for an add or remove that returned true.
 abbrev pub is_change : Call → Option (ℕ × Reply) → Bool
 is_change (Add k) (Some (end, True)) = true
 is_change (Remove k) (Some (end, True)) = true
 is_change c ended = false
 
--- the state in which a call needs the key, computed from the state in which the call leaves it
+-- The state in which a call needs the key, computed from the state in which the call leaves it.
 abbrev pub need_of : Bool → Presence → Presence
 need_of changes leaves = if changes then other leaves else leaves
 
@@ -34,12 +34,12 @@ abbrev pub end_of : ℕ → Option (ℕ × Reply) → ℕ
 end_of begun None = begun
 end_of begun (Some e) = e.0
 
--- whether the second call begins before the first has ended
+-- True if the second call begins before the first has ended.
 abbrev pub overlap : Option (ℕ × Reply) → ℕ → Bool
 overlap None begun = true
 overlap (Some e) begun = nat_le begun e.0
 
--- a call, with its reply and its moments, as text
+-- A call, with its reply and its moments, as text.
 abbrev pub thread_text : ℕ → List ℕ
 thread_text thread = codes "thread " ++ decimal thread ++ codes " "
 
@@ -123,7 +123,7 @@ abbrev pub nor_text : Presence → List ℕ
 nor_text Present = codes ", and no such add overlaps "
 nor_text Absent = codes ", and no such remove overlaps "
 
--- no call changes the key in either order
+-- No call changes the key in either order.
 unfoldable pub turned_there : ℕ → Presence → ℕ → ℕ → List ℕ
 turned_there key need from to = no_change key need ++ codes "that returned true or is pending overlaps " ++ between from to
 

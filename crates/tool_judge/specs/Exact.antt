@@ -23,12 +23,12 @@ HasOrderIf false c = IsExplained (history_of c) c.keys
 abbrev pub HasOrder : Recording → Type 0
 HasOrder c = HasOrderIf c.cut_off c
 
--- the answer is `ok` and some order explains the recording, or it is `not linearizable` and no order does
+-- The answer is `ok` and some order explains the recording, or it is `not linearizable` and no order does.
 abbrev pub IsRight : Recording → AnswerValue → Type 0
 IsRight c answer = (HasOrder c × (answer.status ≡ 0) × Begins (ok_line (length c.calls)) answer.text)
     ⊎ ((HasOrder c → ⊥) × (answer.status ≡ 1) × Begins (codes "not linearizable\n") answer.text)
 
--- the bytes read as `read`, and in no other way
+-- The bytes read as `read`, and in no other way.
 abbrev pub SaysOnly : List ℕ → Result Recording LineFault → Type 0
 SaysOnly bytes read = Says bytes read × ((other : Result Recording LineFault) → Says bytes other → other ≡ read)
 

@@ -32,11 +32,11 @@ abbrev pub clash_text : ℕ → Option Clash → List ℕ
 clash_text key None = []
 clash_text key (Some c) = clash_lines key c
 
--- the two lines of a refusal, and the three lines of a contradiction if one was found
+-- The two lines of a refusal, and the three lines of a contradiction if one was found.
 abbrev pub refused_text : Refusal → Option Clash → List ℕ
 refused_text r clash = refused_lines r ++ clash_text r.key.0 clash
 
--- the text begins with `head`
+-- The text begins with `head`.
 abbrev pub Begins : List ℕ → List ℕ → Type 0
 Begins head text = (more : List ℕ) × (text ≡ head ++ more)
 

@@ -24,7 +24,7 @@ pub record IsRequested (T : Table) (request : RandomRequest) (p : Plan) : Type 0
   -- its lines are the ones drawn with the seed
   pub drawn : AreOfSeed T request.threads request.quota request.calls request.keys request.seed p.lines
 
--- the contract for a request: the text of a matching schedule, the argument that is wrong, or a failed allocation
+-- The contract for a request: the text of a matching schedule, the argument that is wrong, or a failed allocation.
 abbrev pub Answers : Result RandomRequest ValueName → Made → Type 0
 Answers (Ok request) (Ok answer) =
     (p : Plan) × IsRequested (table_of request.kind) request p × (answer ≡ record { text = schedule_text p; status = 0 })

@@ -24,19 +24,19 @@ pub record IsReported (bytes : List ℕ) (p : Plan) (r : ReportValue) : Type 0 w
   pub replay : IsReplay (table_of p.kind) p r
   pub explained : IsExplained r
 
--- the error of a schedule that cannot be replayed
+-- The error of a schedule that cannot be replayed.
 abbrev pub of_replay : ReplayFault → Trouble
 of_replay (replay.NoThread number) = Line number cause.NoThread
 of_replay (replay.Busy number) = Line number cause.Busy
 of_replay (replay.Idle number) = Line number cause.Idle
 of_replay replay.Memory = Memory
 
--- the error is the first error of the text or, if the text is a schedule, of its replay
+-- The error is the first error of the text or, if the text is a schedule, of its replay.
 abbrev pub IsFirstFault : Result Plan LineFault → Trouble → Type 0
 IsFirstFault (Err fault) t = t ≡ of_line_fault fault
 IsFirstFault (Ok p) t = (refusal : ReplayFault) × (t ≡ of_replay refusal) × IsRefusal (table_of p.kind) (opening_in p) (events_of p) refusal
 
--- the contract for the bytes of a text: the text of its report, the first error, or a failed allocation
+-- The contract for the bytes of a text: the text of its report, the first error, or a failed allocation.
 abbrev pub ReplaysText : List ℕ → Made → Type 0
 ReplaysText bytes (Ok answer) =
     (p : Plan) × (r : ReportValue) × IsReported bytes p r × (answer ≡ record { text = report_text r; status = 0 })
