@@ -8,7 +8,7 @@ use Rattle.clap.specs.declared.Command.TheViews.{out-Command}
 use Rattle.clap.specs.declared.builder.command.Command.TheOpen.{Command-F}
 use Rattle.lset_command.specs.CommandLine.{IsApp, Makes}
 
--- The fields of a command determine its value.
+-- A command corresponds to an app if its fields do.
 pub by_fields : (c : Command) (fields : Command-F Command) (a : App) → out-Command c ≡ fields
     → (app_of_fields fields ≡ a) × (fields.has_globals ≡ false) → IsApp c a
 by_fields c fields a is app =
