@@ -101,7 +101,7 @@ def test_a_mistake_is_explained(program, name):
         assert f"line {line[5:].split(':')[0]} has an error, {line.split(': ')[1]}:\n    " in said, said
 
 
-def test_no_edit_is_advised_of_a_file_of_another_program(program):
+def test_explain_suggests_no_edit_of_another_programs_file(program):
     for text in ("# A project\n", "\n\nText\n", "// code\nint main;\n", "a file\r\n", "  indented\n", "a\tb\n", "call me\n", "list of things\n"):
         said = ran(program, "explain", text=text.encode()).stdout.decode()
         assert "is no text of listset" in said and "sed " not in said and said.splitlines()[-1].startswith("Line 1 must be one of"), said
@@ -150,7 +150,7 @@ def test_no_text_stops_explain(program, few):
             assert b"%s has an error, %s:" % (found[1], found[2]) in explained.stdout, (text, due, explained)
 
 
-def test_faults_of_a_cause(program):
+def test_faults_prints_the_lines_about_a_cause(program):
     whole = well(program, "faults")
     busy = well(program, "faults", "Busy")
     assert busy == well(program, "faults", "busy") == well(program, "faults", "listset: line 6: Busy")

@@ -94,7 +94,7 @@ WRONG_USES = ["if (listset_add(&seat, 7)) return 1;", "listset_fault fault = lis
 
 @needs("gcc")
 @pytest.mark.parametrize("wrong", WRONG_USES)
-def test_a_reply_is_no_condition_and_no_fault(wrong):
+def test_a_reply_does_not_compile_as_a_condition_or_a_fault(wrong):
     program = "#include <listset.h>\nint main(void) { listset_seat seat = LISTSET_NONE; %s return listset_add(&seat, 7).is == LISTSET_TRUE; }\n"
     words = ["gcc", "-std=c99", "-fsyntax-only", f"-I{FOREIGN}", "-x", "c", "-"]
     well(*words, text=program % "")

@@ -160,7 +160,7 @@ def test_a_long_line_of_a_long_recording_is_shown(script):
 
 
 @pytest.mark.needs("node")
-def test_node_alone_has_the_hints_too(program, script):
+def test_node_without_a_program_shows_the_same_hints(program, script):
     shutil.copytree(TOP / "page", script / "page", ignore=shutil.ignore_patterns("src", "tests", "shots"))
     (script / "none").write_text(CALLS + ADD + "end\n")
     for words in ("replay no-such", "judge .", "check a.schedule", "replay -- -x.calls", "judge it's_unsorted", "gen lazy 65 4 9 5 1", "show --from 700 long.schedule", "example --broken full", "judge none"):
@@ -178,12 +178,12 @@ READ = {"judge": "recorded calls", "replay": "a schedule", "replay --lacks mark"
 
 
 @pytest.mark.parametrize("words", READ)
-def test_what_is_read_from_a_terminal_is_said(script, words):
+def test_a_terminal_shows_what_a_command_reads(script, words):
     _, said = at_terminal(["./listset", *words.split()], script, typed=b"\x04")
     assert f"listset: reading {READ[words]} from the terminal, up to Ctrl-D (see listset help {words.split()[0]})\n" in said, said
 
 
-def test_the_size_of_a_long_recording_is_said(script):
+def test_the_size_of_a_long_recording_is_shown(script):
     long = script / "long.calls"
     long.write_text(SCHEDULE)
     os.truncate(long, 60_000_000)

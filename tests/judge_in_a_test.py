@@ -127,7 +127,7 @@ def form(language, room, once):
 
 
 @each(LANGUAGES)
-def test_right_sets_are_linearizable(form, program):
+def test_correct_sets_are_linearizable(form, program):
     for of, how in (("right", ""), ("right", "own_process=0"), ("opens", "opens_with_keys=1"), ("texts", "keys=64"), ("not known", ""), ("adds only", "removes=0")):
         kind, said = form.told(program, of, f"{FEW} {how}")
         assert kind == "ok" and re.search("^(ok|few calls overlapped.*): [0-9]+ calls, and [0-9]+ of them overlapped a change of their key", said, re.M), said
@@ -216,7 +216,7 @@ def test_calls_before_a_crash_or_a_hang_are_judged(form, program, of):
 
 
 @each(LANGUAGES)
-def test_a_right_set_that_throws_again_and_again_is_not_refused(form, program):
+def test_a_correct_set_that_throws_repeatedly_is_not_refused(form, program):
     """In Java and Go, other threads of the process can still make calls while the run is recorded."""
     tests = 5 if form.language == "Python" else 25
     for how in ("pauses=0", "pauses=20"):
@@ -225,7 +225,7 @@ def test_a_right_set_that_throws_again_and_again_is_not_refused(form, program):
 
 
 @each(LANGUAGES)
-def test_a_set_that_goes_on_after_it_hung_does_not_change_the_recording(form, program):
+def test_a_set_that_continues_after_a_hang_does_not_change_the_recording(form, program):
     """A `remove` takes 1.2 s, and the judge another second."""
     judge = form.script("judge", f"#!/bin/sh\n[ $1 = --version ] || sleep 1\n'{program}' \"$@\"\n")
     kind, said = form.told(judge, "naps", "threads=4 calls=1000 keys=4 seconds=1")
@@ -353,7 +353,7 @@ def test_the_calls_that_show_a_refusal_are_written(form):
 
 
 @pytest.mark.needs("node")
-def test_a_missing_part_of_the_engine_is_one_line(room):
+def test_a_missing_part_of_the_engine_is_reported_in_one_line(room):
     shutil.copy(TOP / "page" / "listset.js", room)
     done = ran("node", room / "listset.js", "judge")
     assert (done.returncode, done.stdout) == (1, "") and re.fullmatch("listset: in_node.js or only.js is not beside listset.js: take judge/listset.js, .*\n", done.stderr)
@@ -388,7 +388,7 @@ def test_all_languages_have_the_messages_of_one_file():
 
 
 @pytest.mark.needs("cargo", "rustc")
-def test_a_lock_that_another_test_holds_stops_no_test(room, once, program):
+def test_a_lock_held_by_another_test_does_not_stop_a_test(room, once, program):
     tests, *_ = once(built_rust)
     assert "ok: " in well(tests, "another_test_holds_a_lock", "--exact", "--nocapture", env={**os.environ, "LISTSET": program, "TMPDIR": str(room)})
 
@@ -530,7 +530,7 @@ OF_CPP = {"libcds": (["-lcds"], "cds/init.h"), "others": (["-ltbb", "-lurcu-cds"
 
 @pytest.mark.needs("g++")
 @pytest.mark.parametrize("name", OF_CPP)
-def test_right_published_sets_of_cpp_are_not_refused(room, program, lacking, name):
+def test_correct_published_sets_of_cpp_are_not_refused(room, program, lacking, name):
     libraries, header = OF_CPP[name]
     if not pathlib.Path("/usr/include", header).exists():
         lacking("a library is not installed: Debian's packages libcds-dev, libtbb-dev, liburcu-dev and libck-dev")
@@ -545,7 +545,7 @@ def test_packages_that_are_not_installed_are_skipped(program):
 
 
 @pytest.mark.needs("javac", "java")
-def test_of_the_published_sets_of_java_the_wrong_ones_are_refused(room, program, lacking):
+def test_only_the_wrong_published_sets_of_java_are_refused(room, program, lacking):
     jar = pathlib.Path("/usr/share/java/jctools-core.jar")
     if not jar.exists():
         lacking("JCTools is not installed: Debian's package libjctools-java")

@@ -215,7 +215,7 @@ MORE = "listset judge FILE, with a file, also says what is wrong\n"
 
 
 @pytest.mark.parametrize("seed", SEEDS)
-def test_a_verdict_and_what_is_said_of_it(program, few, seed):
+def test_the_verdict_and_its_lines_are_right(program, few, seed):
     rng, found = random.Random(seed), collections.Counter()
     for _ in range(TEXTS // 10 if few else TEXTS):
         calls, opening, keys = spread(rng, *drawn(rng, rng.randrange(1, 14)))
@@ -259,7 +259,7 @@ def test_the_verdict_does_not_depend_on_the_pieces(program, size):
             assert in_pieces(program, it, size) == (done.returncode, done.stdout, done.stderr), it
 
 
-def test_an_error_is_told_before_the_input_ends(program):
+def test_an_error_is_reported_before_the_input_ends(program):
     """A recorder can run for hours, so an error in a line must end the program while the pipe is still open."""
     with subprocess.Popen([program, "judge"], stdin=subprocess.PIPE, stdout=subprocess.PIPE, stderr=subprocess.PIPE, bufsize=0) as judge:
         judge.stdin.write(f"{TITLE}\ncall 0 add 5 1 2 true\ncall 0 add 5 2 3 true\n".encode())

@@ -37,7 +37,7 @@ def test_a_copy_has_names_of_its_own_and_the_kind_of_its_list(copy, old):
     assert "impl Machine for OneMoreList" in code and "pub one_more_lawful : Lawful one_more" in code
 
 
-def test_a_joined_list_lacks_only_what_is_written_by_hand(copy):
+def test_a_joined_list_lacks_only_the_parts_written_by_hand(copy):
     for word in ["one-more", "not-yet"]:
         well(copy / "build/new_list", "fine", word)
     well(copy / "build/new_list", "--join", "one-more")

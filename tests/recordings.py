@@ -24,7 +24,7 @@ RECORDINGS = [recording(1), recording(2), recording(3), recording(1, is_cut=True
 
 @pytest.mark.parametrize("text", RECORDINGS, ids=range(len(RECORDINGS)))
 @pytest.mark.parametrize("parts", [4, 30])
-def test_parts_have_the_verdict_of_the_recording(program, room, text, parts):
+def test_the_parts_of_a_recording_have_its_verdict(program, room, text, parts):
     """Which refusal is named, or which part has an error, can differ."""
     recorded = room / "run.calls"
     recorded.write_text(text)

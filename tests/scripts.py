@@ -244,7 +244,7 @@ def test_an_interrupted_proof_leaves_no_process_and_no_file(room, words):
     assert [*(room / "temporary").iterdir()] == []
 
 
-def test_each_crate_is_after_those_that_it_uses_and_both_scripts_find_those_below():
+def test_crates_txt_is_ordered_and_both_scripts_find_the_crates_below():
     lines, before = crates_txt.lines_of(), set()
     for name, line in lines.items():
         used = {it for it in line.partition(":")[2].split() if it in lines}

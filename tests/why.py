@@ -77,7 +77,7 @@ def mark_not_read(rounds):
     return text_of(calls, [], [])
 
 
-def test_the_operation_that_alone_is_wrong_is_named_with_its_cause(program, path):
+def test_an_operation_that_alone_is_wrong_is_named_with_a_cause(program, path):
     path.write_text(mark_not_read(20))
     said = ran(program, "judge", path).stdout
     assert "\ncontains(3) returned true, expected false\n" in said
@@ -91,13 +91,13 @@ def test_few_calls_have_no_likely_cause(program, path):
     assert "only contains is wrong: 5 of its 5 answers" in said and "likely:" not in said
 
 
-def test_a_pipe_is_told_that_a_file_tells_more(program):
+def test_a_refusal_from_a_pipe_has_a_hint_to_use_a_file(program):
     done = ran(program, "judge", text=mark_not_read(20))
     assert done.returncode == 1 and "likely:" not in done.stdout
     assert done.stdout.endswith("\nlistset judge FILE, with a file, also says what is wrong\n")
 
 
-def test_a_right_recording_has_no_diagnosis(program, path):
+def test_a_linearizable_recording_has_no_diagnosis(program, path):
     path.write_text(text_of([Call(0, "add", 1, 1, 2, "true")], [], [1]))
     said, brief = ran(program, "judge", path).stdout, ran(program, "judge", "--brief", path).stdout
     assert brief == "ok 1 calls\n0 of them overlap a change of their key\n" and said.startswith(brief) and "contradiction" not in said
@@ -111,7 +111,7 @@ def test_a_refusal_without_a_clash_has_a_count(program, path):
     assert len(lines) == 3 and is_count(calls, [], [7], lines), lines
 
 
-def test_brief_prints_the_verdict_alone(program, path):
+def test_brief_prints_only_the_verdict(program, path):
     path.write_text(mark_not_read(5))
     done = ran(program, "judge", "--brief", path)
     assert (done.stdout, done.returncode) == ("not linearizable\nno order explains the calls of key 3 up to moment 7\n", 1)

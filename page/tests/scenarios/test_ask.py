@@ -7,7 +7,7 @@ def hurried(visitor):
     visitor.revealed()
 
 
-def test_each_question_is_shown_changed_and_left(visitor):
+def test_each_question_can_be_answered_shown_changed_and_left(visitor):
     visitor.open("#ask")
     names = visitor.script("return [...document.querySelectorAll('#scene .card')].map((it) => it.hash.slice(5))")
     assert len(names) == 18
@@ -26,7 +26,7 @@ def test_each_question_is_shown_changed_and_left(visitor):
             assert visitor.is_seen("[data-do=if]"), name
 
 
-def test_a_branch_stands_beside_the_example(visitor):
+def test_the_readers_own_run_is_beside_the_example(visitor):
     visitor.open("#ask=stale-pred")
     visitor.press("2")
     visitor.revealed()
@@ -40,7 +40,7 @@ def test_a_branch_stands_beside_the_example(visitor):
     assert "Your own branch" in visitor.text(".reveal")
 
 
-def test_the_map_ticks_what_was_guessed(visitor):
+def test_the_map_ticks_answered_questions(visitor):
     for name, option in (("two-removers", 1), ("stale-pred", 0)):
         visitor.open(f"#ask={name}")
         visitor.press(str(option + 1))
@@ -53,7 +53,7 @@ def test_the_map_ticks_what_was_guessed(visitor):
     assert "2 seen" in visitor.text(".score")
 
 
-def test_a_frame_in_another_page(visitor):
+def test_a_question_works_in_a_frame_of_another_page(visitor):
     visitor.open("#story=2")
     visitor.settle()
     visitor.go(f"{visitor.place}/tests/nothing.html")
@@ -82,7 +82,7 @@ def test_old_addresses_open_the_questions(visitor):
     assert visitor.is_seen(".list svg") and visitor.event() == 17
 
 
-def test_sentences_are_whole(visitor):
+def test_each_event_of_the_examples_has_complete_sentences(visitor):
     """Checks the sentence at each event of each example."""
     visitor.open("#ask")
     told = visitor.inside("""const { LiveRun, QUESTIONS, APPENDIX, taleOf, momentAt } = listsets;
