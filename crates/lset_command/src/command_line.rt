@@ -33,7 +33,7 @@ const PORT: &str = "Port to listen on: 0 to 65535; with 0 the system chooses";
 const SESSIONS: &str = "Number of client connections to serve before the end: 0 to 10000";
 
 const KEYS_FILE: &str =
-    "File of the keys with which the set opens, as a server prints them; standard input if -, no keys if missing";
+    "File with the opening keys, in the format that a server prints; - for standard input; no keys if missing";
 
 const FROM_OPTION: &str =
     "First moment to draw: 1 to the last one at which a call begins, takes effect or ends [default: 1]";
@@ -52,7 +52,7 @@ const NAME: &str = "Name of the schedule; without it the list of names is printe
 
 const CAUSE: &str = "Cause in an error line, such as Idle; without it every message is explained";
 
-const BROKEN_FLAG: &str = "Print the report that a broken list would give, if the example has one";
+const BROKEN_FLAG: &str = "Print the report that a broken list would produce, if the example has one";
 
 const BRIEF_FLAG: &str = "Print the verdict alone, and not what is wrong";
 

@@ -19,14 +19,14 @@ listset: line L: CAUSE, in a schedule; exit status 1
   Opening   Opening keys must increase; this one is not above the one before.
   NotEnded  The line does not end with a newline.
   NoThread  There is no such thread. Threads are numbered from 0 to the number of threads less 1.
-  Busy      The thread begins a call while it has one pending.
-  Idle      The thread makes a step while it has no call pending.
+  Busy      The thread already has a pending call.
+  Idle      The thread has no pending call.
   Lost      The broken list's step would access a word outside its table.
 
 listset: line L: CAUSE, in a draft; exit status 1
   Header    Line 1 must be 'listset-draft 2'.
-  Waits     The thread does not get there within 10000 steps or the events left. It may be waiting for a lock.
-  (others)  As in a schedule, but for Lost.
+  Waits     The thread does not reach its row, or the end of its call, within 10000 steps or 1000000 events in all. It may be waiting for a lock.
+  (others)  As in a schedule, except for Lost.
 
 listset: line L: CAUSE, in a report; exit status 1
   Header    Line 1 must be 'listset-report 1' or 'listset-report 2'. To make a report of a schedule, use the command replay.
@@ -45,8 +45,8 @@ listset: line L: CAUSE, in recorded calls; exit status 1
   Header    Line 1 must be 'listset-calls 1'. Only the command judge reads recorded calls.
   Line      Expected 'opening K', 'call T CALL K BEGIN END REPLY' and 'key K', in this order, then 'end'; or 'cut' for 'key' lines and 'end'.
             For example 'call 1 add 5 3 9 true', or while the call is pending 'call 1 add 5 3 - -'. CALL is add, remove or contains, a
-            reply is true or false, and a line has at most 128 bytes. A ceiling, and an add that answered full, are not judged: take
-            their lines out, and the others are:
+            reply is true or false, and a line has at most 128 bytes. A ceiling, and an add that returned full, are not judged. To
+            judge the other calls, remove these lines:
               grep -v -e ceiling -e full FILE | listset judge -
   Number    Moments are numbers from 1 to 9223372036854775807; all else as in a schedule.
   Opening   Opening keys must increase, and so must keys; this one is not above the one before.
@@ -79,18 +79,18 @@ not linearizable, from judge; exit status 1
   no order explains the calls of key K and leaves it as it was left
             Every order leaves the key in the set and there is no line 'key K', or the reverse.
   contradiction: A, leaves key K absent, B, needs key K present, and no add K that returned true or is pending overlaps I to J
-            After A the key is absent, B needs key K present, and no call in between can make it so. (Or present and absent exchanged.)
+            After A the key is absent, B needs key K present, and no call in between can add it. (Or with present and absent exchanged.)
   contradiction: key K is absent at first, .. or .. key K is present at the end, ..
-            The opening state stands for A, or the final state for B.
+            The opening state takes the place of A, or the final state that of B.
   contradiction in both orders: A, needs .. and leaves .., B, needs .. and leaves .., and no add K ..
             A and B overlap. They contradict each other whichever comes first.
   contradiction: A, B, .. need key K to become absent N times between I and J, and only M remove K .. overlap I to J
-            The calls need key K to become absent N times, and fewer calls can make it so. (Or present and absent exchanged.)
+            The calls need key K to become absent N times, but fewer calls can remove it. (Or with present and absent exchanged.)
 
 refused FAULT ID, of the order in a report, from check; exit status 1
   Unknown     No call has this number.
   Twice       The call is in the order twice.
-  Missing     The call is completed, and is not in the order.
+  Missing     The call is completed but is not in the order.
   WrongReply  The history has another reply, or a sequential set gives another reply at this place.
   TooEarly    The call comes before one that had ended when it began.
   WrongSet    The keys are not those that the order leaves, in increasing order.
