@@ -260,9 +260,9 @@ LISTSET_USED listset_fault listset_close(listset_seat *seat);
 /// number of keys, or SIZE_MAX if `closed` is not a closed set.
 size_t listset_keys(listset_seat *closed, uint32_t *room, size_t places);
 
-/// Gathers all seats in an array into the first one, and closes the set. The array may contain empty places. If a seat
-/// of the set is missing, returns LISTSET_SEATS_OUT and changes nothing. After LISTSET_OUT_OF_MEMORY nothing is lost,
-/// and the call can be repeated.
+/// Gathers all seats in an array into its first place, and closes the set. The array may contain empty places. If a
+/// seat of the set is missing, returns LISTSET_SEATS_OUT and changes nothing. After LISTSET_OUT_OF_MEMORY nothing is
+/// lost, and the call can be repeated.
 LISTSET_USED listset_fault listset_close_all(listset_seat *seats, size_t places);
 
 /// Closes the set whose seats are all in the array `seats`, and opens a set of the list `kind` with its keys.

@@ -459,7 +459,7 @@ template <class Make, class K> struct maker {
         if (how.ends) how.ends();
     }
 
-    // How often `contains` of a key is retried at the beginning and at the end while its outcome is unknown.
+    // The maximum number of `contains` calls for a key, at the beginning or at the end, while the outcome is unknown.
     static constexpr unsigned MOST_ASKED = 100;
 
     // Calls `contains` for each key, and retries if the outcome is unknown. Returns a line for each key found.

@@ -294,7 +294,8 @@ func (a *area) number(key int) uint32 {
 	return uint32(key * a.times)
 }
 
-// mostAsked is how often Contains of a key is retried at the beginning and at the end while its outcome is unknown.
+// mostAsked is the maximum number of Contains calls for a key, at the beginning or at the end, while the outcome is
+// unknown.
 const mostAsked = 100
 
 // linesOfKeys calls Contains for each key, and retries if the outcome is unknown. It returns a line for each key found.

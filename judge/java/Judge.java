@@ -560,7 +560,7 @@ public final class Judge {
 
     /** The threads of a run, and the set on which they call. */
     private record Play<S, K>(Area area, Calls<S, K> calls, Shape of, AtomicReference<S> set) {
-        private static final int MOST_ASKED = 100; // how often contains of a key is retried at the beginning and at the end while its outcome is unknown
+        private static final int MOST_ASKED = 100; // the maximum number of contains calls for a key, at the beginning or at the end, while the outcome is unknown
 
         void all(boolean interrupts) {
             List<Thread> threads = new ArrayList<>();

@@ -39,7 +39,7 @@ from typing import Any, Callable
 __all__ = ["CutShort", "Failed", "NoVerdict", "NotLinearizable", "TooFew", "Verdict", "judge"]
 
 GOING, ENDED, UNMADE = range(3)
-MOST_ASKED = 100  # how often `contains` of a key is retried at the beginning and at the end while its outcome is unknown
+MOST_ASKED = 100  # the maximum number of `contains` calls for a key, at the beginning or at the end, while the outcome is unknown
 WORDS = ADD, REMOVE, CONTAINS = "add", "remove", "contains"
 NO, YES, UNKNOWN = range(3)
 FIRST_LINE = "listset-calls 1\n"

@@ -61,7 +61,7 @@ fn stuck<M: Bounded, R: Abort>(rt: &R, alloc: Global) -> (LiveSet<M>, Seat<M>) {
     (set, zero)
 }
 
-/// Asserts that a call that needs a lock held by a stuck call makes 101 attempts with a bound of 100 rounds, and then
+/// Asserts that a call at a lock that a stuck call holds makes 101 failed attempts with a bound of 100 rounds, and then
 /// gives up.
 fn gives_up_at_a_lock<M: Bounded, R: Abort>(rt: &R, alloc: Global, call: Call) {
     let (set, zero) = stuck::<M, R>(rt, alloc);

@@ -7,8 +7,8 @@ use std::alloc::{AllocError, Global};
 use tool_base::{Tool, answer_text};
 use tool_replay::{Expand, Trace};
 
-/// Builds a text from a title, the lines from line 2 up to the error, and `last`, a `go` line for the error's thread,
-/// if given.
+/// Builds a text from a title, the lines from line 2 up to the error and, if `last` is not empty, a line `go` with
+/// `last` for the error's thread.
 fn text_up_to(
     alloc: Global,
     title: &[u8],

@@ -273,7 +273,7 @@ impl Area {
     }
 }
 
-/// How often `contains` of a key is retried at the beginning and at the end while its outcome is unknown.
+/// The maximum number of `contains` calls for a key, at the beginning or at the end, while the outcome is unknown.
 const MOST_ASKED: u32 = 100;
 
 /// The calls on one set.
