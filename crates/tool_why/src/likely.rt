@@ -72,9 +72,9 @@ pub struct Evidence {
 pub enum Cause {
     /// Two keys are treated as one.
     TwoKeys,
-    /// `contains` does not see what `add` changes first.
+    /// `contains` does not check what `add` changes first.
     NotSeenYet,
-    /// `contains` skips keys that changes of other keys move.
+    /// `contains` traverses while changes of other keys move its key.
     MovedKeys,
     /// A key is in the set twice.
     KeptTwice,
