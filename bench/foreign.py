@@ -114,7 +114,7 @@ def by_java(room):
     """Returns the rows for Java, or none if no JDK has the Foreign Function API."""
     home = java_home()
     if home is None:
-        print(f"bench: no row of Java: its Foreign Function API wants a JDK {OLDEST_JAVA} or later", file=sys.stderr)
+        print(f"bench: no row of Java: its Foreign Function API requires a JDK {OLDEST_JAVA} or later", file=sys.stderr)
         return {}
     subprocess.run([home / "javac", "-d", room, BENCH / "ForeignCalls.java"], check=True)
     program = [home / "java", "--enable-native-access=ALL-UNNAMED", f"-Dliblistset={OUT / 'lib' / 'liblistset.so'}", "-cp", room, "ForeignCalls"]

@@ -41,8 +41,8 @@ class Help:
 
 
 STATUSES = {
-    "0": "The result was printed, or the help or the version that was asked for.",
-    "1": "The answer is not yes, as 'not linearizable' or 'refused'; or the input or the system has an error, which one line on standard error names.",
+    "0": "The result was printed, or the help or version that the user requested.",
+    "1": "The answer is negative, such as 'not linearizable' or 'refused'; or there is an error in the input or in the system, which one line on standard error names.",
     "2": "An argument, an option or the command line is wrong. Standard error says which.",
     "3": "An allocation failed.",
 }

@@ -89,7 +89,7 @@ def prove_below(room, names, tell):
             how = "proved earlier" if "is kept" in line else "proved"
             tell(f"{minutes_since(began)}: {found[1]} {how}, {len(done)} of {len(names)}")
 
-    tell(f"proving {len(names)} crates by rt ci, about {max(1, round(MINUTES_OF_A_CRATE * len(names) / processors))} minutes if no other work needs the "
+    tell(f"proving {len(names)} crates with rt ci, about {max(1, round(MINUTES_OF_A_CRATE * len(names) / processors))} minutes if no other work needs the "
          f"{processors} processors; Ctrl-C ends it and keeps what is proved")
     with telling_each_minute(room, tell, began):
         status = prove(room, names, tell_done)

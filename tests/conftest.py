@@ -26,9 +26,9 @@ from toolchain import NEEDS
 def pytest_addoption(parser):
     group = parser.getgroup("listset")
     group.addoption("--program", type=os.path.realpath, help="the program that is tested")
-    group.addoption("--few", action="store_true", help="a tenth of what is drawn at random")
+    group.addoption("--few", action="store_true", help="draws only a tenth of the random inputs")
     group.addoption("--missing", action="store_true", help="with --collect-only: prints the commands that are not installed, and how many tests need each")
-    group.addoption("--show", action="store_true", help="prints what the commands of a page print now")
+    group.addoption("--show", action="store_true", help="prints the current output of the commands on a page")
 
 
 @pytest.hookimpl(tryfirst=True)

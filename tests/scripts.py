@@ -239,7 +239,7 @@ def test_an_interrupted_proof_leaves_no_process_and_no_file(room, words):
     running.send_signal(signal.SIGINT)
     said, _ = running.communicate(timeout=SECONDS)
     assert (running.returncode, "Traceback" in said) == (130, False), said
-    assert "listset" not in words or re.search(r"proving \d+ crates by rt ci, about \d+ minutes .* \d+ processors; Ctrl-C ends it and keeps what is proved\n", said), said
+    assert "listset" not in words or re.search(r"proving \d+ crates with rt ci, about \d+ minutes .* \d+ processors; Ctrl-C ends it and keeps what is proved\n", said), said
     comes(lambda: not is_running(int((room / "started").read_text())), "the end of what was started")
     assert [*(room / "temporary").iterdir()] == []
 
@@ -320,4 +320,4 @@ def test_take_copies_crates_and_replaces_them(room):
     wants(ran(here / "build/take", there, "no-such"), status=2, output="", tells=["there is no crate no-such"])
     wants(ran(here / "build/take", ".", "lset_words", cwd=here), status=2, output="", tells=["take: . is this repository"])
     (there / "HANDLES").write_text("Another.\n")
-    wants(ran(here / "build/take", there, "lset_words"), output="left: HANDLES is another one there\n1 crates are there as here\n")
+    wants(ran(here / "build/take", there, "lset_words"), output="kept: HANDLES is different there\n1 crates are there as here\n")
