@@ -69,7 +69,8 @@ fn part_from<'a>(
     }))
 }
 
-/// Returns a smaller part that is not linearizable either. Tries the last calls as its first call, then earlier ones.
+/// Returns a smaller part that is not linearizable either, or the whole if none is found. Tries the last calls as its
+/// first call, then earlier ones.
 fn small_part<'a>(alloc: Global, whole: Part<'a>) -> Result<Part<'a>, AllocError> {
     let starts = quiet_starts(alloc, whole.calls)?;
     let few = whole.calls.len().saturating_sub(ENOUGH);

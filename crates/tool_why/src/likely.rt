@@ -41,9 +41,9 @@ pub struct Odd {
     pub own: u64,
     /// How many wrong answers were compared with the other keys.
     pub compared: u64,
-    /// How many of the compared answers ran while every other key was known to be absent.
+    /// How many of the compared answers began while no other key was known to be present.
     pub lonely: u64,
-    /// The percentage of the operation's calls during which at most one key was known to be present.
+    /// The percentage of all calls that began while at most one key was known to be present.
     pub usually_lonely: u64,
 }
 
