@@ -228,9 +228,9 @@ LISTSET_USED listset_reply listset_contains(listset_seat *seat, uint32_t key);
 /// LISTSET_NOTHING.
 LISTSET_USED listset_reply listset_ceiling(listset_seat *seat, uint32_t key, uint32_t *at);
 
-/// Does the same as `listset_contains`, on a lazy or lock-free list only. The call does not wait for a lock, and makes
-/// at most `listset_most_reads` steps in every run of the list, whatever other threads do. On the other lists, makes no
-/// call and replies LISTSET_MAY_BLOCK.
+/// Replies LISTSET_TRUE if a key is in the set, otherwise LISTSET_FALSE, without waiting for a lock. Works on lazy and
+/// lock-free lists, where the call makes at most `listset_most_reads` steps in every run, whatever other threads do. On
+/// the other lists, makes no call and replies LISTSET_MAY_BLOCK.
 LISTSET_USED listset_reply listset_contains_now(listset_seat *seat, uint32_t key);
 
 /// Returns the maximum number of steps that a `listset_contains_now` makes in any run of a list opened with `seats`

@@ -185,8 +185,8 @@ public:
   /// Returns whether a key is in the set.
   bool contains(uint32_t key) { return by(listset_contains, key) == LISTSET_TRUE; }
 
-  /// Does the same as `contains`, on a lazy or lock-free list only. The call does not wait for a lock, and makes at
-  /// most `most_reads` steps in every run of the list, whatever other threads do. On the other lists, throws with
+  /// Returns whether a key is in the set, without waiting for a lock. Works on lazy and lock-free lists, where the call
+  /// makes at most `most_reads` steps in every run, whatever other threads do. On the other lists, throws with
   /// LISTSET_READS_BLOCK.
   bool contains_now(uint32_t key) {
     listset_answer answer = by(listset_contains_now, key);

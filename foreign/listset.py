@@ -375,8 +375,9 @@ class Seat:
     __contains__ = contains
 
     def contains_now(self, key):
-        """Does the same as `contains`, on a lazy or lock-free list only. The call does not wait for a lock, and makes at
-        most `most_reads` steps in every run of the list, whatever other threads do. Raises `Fault` on the other lists.
+        """Returns whether a key is in the set, without waiting for a lock. Works on lazy and lock-free lists, where the
+        call makes at most `most_reads` steps in every run, whatever other threads do. Raises `Fault` on the other
+        lists.
         """
         reply = self._reply(_NOW, key)
         if reply == MAY_BLOCK:

@@ -59,7 +59,7 @@ def long_walks():
 
 
 def events_of(schedule):
-    """Returns the number of events in such a schedule."""
+    """Returns the number of events in a schedule with many steps per line."""
     many = WALKS + sum(map(int, re.findall(rb"^go 0 (\d+)$", schedule, re.M)))
     assert many > 2 * OPENING * WALKS  # (the calls walk past all keys)
     return many

@@ -14,7 +14,7 @@ pub by_fields : (c : Command) (fields : Command-F Command) (a : App) → out-Com
 by_fields c fields a is app =
     subst (λ (f : Command-F Command). (app_of_fields f ≡ a) × (f.has_globals ≡ false)) (sym is) app
 
--- The name that the usage text uses for the program is such a setting.
+-- Setting the name that the usage text uses for the program does not change the command.
 pub Makes-named : (made : Result Command AllocError) (old : Command) (a : App) (Rest : Command → Type 0)
     → IfOk made (λ c. (out-Command c ≡ record (out-Command old) { bin_name = (out-Command c).bin_name }) × Rest c)
     → IsApp old a → Makes made a

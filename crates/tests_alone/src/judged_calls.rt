@@ -22,7 +22,7 @@ const NOT_PLAIN: [(Call, Reply); 5] = [
     (Call::Ceiling(Key(6)), Reply::True),
 ];
 
-/// Returns such a call, made by thread 3.
+/// Returns a call of thread 3 with this operation and reply.
 fn not_plain(made: (Call, Reply), begun: u64, end: u64) -> StreamCall {
     let (call, reply) = made;
     StreamCall {

@@ -45,7 +45,7 @@ pub struct Tally {
     pub below: u64,
     /// Of `lost`, those that a call shows within a short time.
     pub short: u64,
-    /// The smallest number of keys that were known to be present at such a loss.
+    /// The smallest number of keys that were known to be present at one of these short losses.
     pub least_full: u64,
     /// The percentage of moments at which at least `least_full` keys were known to be present.
     pub usually_full: u64,

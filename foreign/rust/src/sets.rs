@@ -311,9 +311,9 @@ impl Seat {
         replied(unsafe { listset_contains(&mut self.raw, key) }) == TRUE
     }
 
-    /// Does the same as `contains`, on a lazy or lock-free list only. The call does not wait for a lock, and makes at
-    /// most [`most_reads`] steps in every run of the list, whatever other threads do. Returns [`Fault::ReadsBlock`] on
-    /// the other lists.
+    /// Returns whether a key is in the set, without waiting for a lock. Works on lazy and lock-free lists, where the
+    /// call makes at most [`most_reads`] steps in every run, whatever other threads do. Returns [`Fault::ReadsBlock`]
+    /// on the other lists.
     pub fn contains_now(&mut self, key: u32) -> Result<bool, Fault> {
         match replied(unsafe { listset_contains_now(&mut self.raw, key) }) {
             MAY_BLOCK => Err(Fault::ReadsBlock),
